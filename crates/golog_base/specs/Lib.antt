@@ -1,0 +1,9 @@
+pub mod Failures
+pub mod Faults
+pub mod Files
+pub mod GivenBack
+pub mod Known
+pub mod MemFiles
+pub mod MemSink
+pub mod Names
+pub mod formers

@@ -1,0 +1,28 @@
+-- Files in memory.
+use Rattle.std.specs.Prelude.{ℕ, List, [], Option, None, Some, drop, slice_get}
+use Rattle.golog_base.specs.declared.failures.Failures.{Failures}
+use Rattle.golog_base.specs.declared.mem_files.HeldFile.{HeldFile}
+use Rattle.golog_base.specs.declared.mem_files.Reading.{Reading}
+use Rattle.golog_base.specs.declared.mem_files.MemFiles.{MemFiles}
+
+-- the bytes of the file of this number
+abbrev pub bytes_at : List HeldFile → ℕ → List ℕ
+bytes_at files n = elim (slice_get files n) [ Some file ↦ file.bytes | None ↦ [] ]
+
+-- the bytes from a place on
+abbrev pub bytes_left : List HeldFile → Option Reading → Option (List ℕ)
+bytes_left files None = None
+bytes_left files (Some reading) = Some (drop reading.at (bytes_at files reading.file))
+
+-- The files held, the unread bytes of the selected one, the faults so far, and the calls that are to fail.
+abbrev pub held_of : MemFiles → List HeldFile
+held_of files = files.held
+
+abbrev pub rest_of : MemFiles → Option (List ℕ)
+rest_of files = bytes_left files.held files.reading
+
+abbrev pub faults_of : MemFiles → ℕ
+faults_of files = files.faults
+
+abbrev pub failures_of : MemFiles → Failures
+failures_of files = files.failures

@@ -1,0 +1,6 @@
+use thiserror::Error;
+
+/// A call to the outside that failed.
+#[derive(Debug, Drop, Error)]
+#[error("the outside failed")]
+pub struct Failed;

@@ -1,0 +1,32 @@
+//! Files, sinks, names and the small containers that the other crates stand on.
+#![tactic(auto)]
+
+mod boxed;
+mod failed;
+mod failures;
+mod file_files;
+mod files;
+mod list;
+mod mem_files;
+mod mem_sink;
+mod memory;
+mod out_sink;
+mod sink;
+mod text;
+mod word;
+
+pub use boxed::Boxed;
+pub use failed::Failed;
+pub use file_files::FileFiles;
+pub use files::{Files, ReadFault, read_all};
+pub use list::{Bytes, List};
+pub use mem_files::{HeldFile, MemFiles};
+pub use mem_sink::MemSink;
+pub use memory::NoMemory;
+pub use out_sink::OutSink;
+pub use sink::{Sink, write_all};
+pub use text::Text;
+pub use word::{Word, is_name};
+
+#[cfg(test)]
+mod tests;
