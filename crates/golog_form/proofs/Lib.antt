@@ -1,0 +1,10 @@
+pub mod Lexing
+pub mod Found
+pub mod Only
+pub mod Refused
+pub mod Least
+pub mod Laws
+pub mod Printed
+pub mod ReadBack
+pub mod Printable
+pub mod Ordered
