@@ -1,0 +1,34 @@
+//! Agents, conditions and programs, as they are read and as they are checked, and small calls on them.
+#![tactic(auto)]
+
+mod agent;
+mod cond;
+mod copy;
+mod draft;
+mod draft_cond;
+mod draft_prog;
+mod ground;
+mod nesting;
+mod prog;
+mod substitute;
+mod tidy;
+
+pub use agent::{
+    ActionItem, Agent, CauseItem, FluentItem, PossItem, ProcItem, SenseItem, SortItem,
+};
+pub use cond::{Arg, Cond, Term, Truth};
+pub use copy::copy_prog;
+pub use draft::{
+    DraftAction, DraftCause, DraftDevice, DraftFluent, DraftMain, DraftParam, DraftPoss, DraftProc,
+    DraftProgram, DraftSense, DraftSort, DraftStart, DraftTheory,
+};
+pub use draft_cond::{DraftArg, DraftCond, DraftTerm, Place};
+pub use draft_prog::DraftProg;
+pub use ground::{Ground, action_no, action_of, fluent_no, fluent_of, sort_size};
+pub use nesting::nest;
+pub use prog::{Label, Prog, Way};
+pub use substitute::put_arg;
+pub use tidy::{tidy_conc, tidy_prio, tidy_seq};
+
+#[cfg(test)]
+mod tests;

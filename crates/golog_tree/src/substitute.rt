@@ -1,0 +1,237 @@
+ghost use Rattle.std.specs.Prelude.{◌≡◌, ◌++◌, map, take, IfOk, Some, None};
+ghost use Rattle.golog_tree.specs.Substitute.{arg_put, within as spec_within, term_put, cond_put, prog_put, way_put};
+
+use crate::cond::{Arg, Cond, Term};
+use crate::prog::{Prog, Way};
+use golog_base::{Boxed, List, NoMemory};
+use std::alloc::Global;
+
+type Put = Option<(u8, u8)>;
+
+fn arg_with(arg: Arg, put: Put) -> Arg
+    ensures { result ≡ arg_put put arg }
+{
+    match (arg, put) {
+        (Arg::Var(x), Some((var, value))) if x == var => Arg::Const(value),
+        _ => arg,
+    }
+}
+
+fn within(var: u8, put: Put) -> Put
+    ensures { result ≡ spec_within var put }
+{
+    match put {
+        Some((x, _)) if x == var => None,
+        _ => put,
+    }
+}
+
+fn args_with(alloc: Global, args: &[Arg], put: Put) -> Result<List<Arg>, NoMemory>
+    ensures { IfOk result (λ list. list ≡ map (arg_put put) args.now) }
+{
+    let mut list = List::new(alloc);
+    for arg in args {
+        list.push(arg_with(*arg, put))?;
+    }
+    Ok(list)
+}
+
+#[cycle(cond_with)]
+fn term_with(alloc: Global, term: &Term, put: Put) -> Result<Term, NoMemory>
+    ensures { IfOk result (λ t. t ≡ term_put term.now put) }
+{
+    match term {
+        Term::Arg(arg) => Ok(Term::Arg(arg_with(*arg, put))),
+        Term::Fluent { fluent, args } => Ok(Term::Fluent {
+            fluent: *fluent,
+            args: args_with(alloc, args.as_slice(), put)?,
+        }),
+        Term::Shift { sort, term, by } => Ok(Term::Shift {
+            sort: *sort,
+            term: Boxed::new(alloc, term_with(alloc, term.get(), put)?)?,
+            by: *by,
+        }),
+        Term::Ite { cond, yes, no } => Ok(Term::Ite {
+            cond: Boxed::new(alloc, cond_with(alloc, cond.get(), put)?)?,
+            yes: Boxed::new(alloc, term_with(alloc, yes.get(), put)?)?,
+            no: Boxed::new(alloc, term_with(alloc, no.get(), put)?)?,
+        }),
+    }
+}
+
+#[cycle(cond_with)]
+fn conds_with(alloc: Global, conds: &[Cond], put: Put) -> Result<List<Cond>, NoMemory>
+    ensures { IfOk result (λ list. list ≡ map (λ c. cond_put c put) conds.now) }
+{
+    let mut list = List::new(alloc);
+    for cond in conds {
+        list.push(cond_with(alloc, cond, put)?)?;
+    }
+    Ok(list)
+}
+
+#[cycle(cond_with)]
+fn cond_with(alloc: Global, cond: &Cond, put: Put) -> Result<Cond, NoMemory>
+    ensures { IfOk result (λ c. c ≡ cond_put cond.now put) }
+{
+    match cond {
+        Cond::Truth(truth) => Ok(Cond::Truth(*truth)),
+        Cond::Is { fluent, args } => Ok(Cond::Is {
+            fluent: *fluent,
+            args: args_with(alloc, args.as_slice(), put)?,
+        }),
+        Cond::Equal { sort, one, other } => Ok(Cond::Equal {
+            sort: *sort,
+            one: term_with(alloc, one, put)?,
+            other: term_with(alloc, other, put)?,
+        }),
+        Cond::Less { sort, one, other } => Ok(Cond::Less {
+            sort: *sort,
+            one: term_with(alloc, one, put)?,
+            other: term_with(alloc, other, put)?,
+        }),
+        Cond::AtMost { sort, one, other } => Ok(Cond::AtMost {
+            sort: *sort,
+            one: term_with(alloc, one, put)?,
+            other: term_with(alloc, other, put)?,
+        }),
+        Cond::Not(cond) => Ok(Cond::Not(Boxed::new(alloc, cond_with(alloc, cond.get(), put)?)?)),
+        Cond::And(conds) => Ok(Cond::And(conds_with(alloc, conds.as_slice(), put)?)),
+        Cond::Or(conds) => Ok(Cond::Or(conds_with(alloc, conds.as_slice(), put)?)),
+        Cond::ForSome { var, sort, body } => Ok(Cond::ForSome {
+            var: *var,
+            sort: *sort,
+            body: Boxed::new(alloc, cond_with(alloc, body.get(), within(*var, put))?)?,
+        }),
+        Cond::ForAll { var, sort, body } => Ok(Cond::ForAll {
+            var: *var,
+            sort: *sort,
+            body: Boxed::new(alloc, cond_with(alloc, body.get(), within(*var, put))?)?,
+        }),
+    }
+}
+
+/// Both values, where neither call wanted memory.
+fn both(
+    one: Result<Boxed<Prog>, NoMemory>,
+    other: Result<Boxed<Prog>, NoMemory>,
+) -> Result<(Boxed<Prog>, Boxed<Prog>), NoMemory>
+    ensures { IfOk result (λ pair. (one ≡ Ok pair.0) × (other ≡ Ok pair.1)) }
+{
+    let one = one?;
+    let other = other?;
+    Ok((one, other))
+}
+
+#[cycle(prog_with)]
+fn part_with(alloc: Global, part: &Prog, put: Put) -> Result<Boxed<Prog>, NoMemory>
+    ensures { IfOk result (λ p. p ≡ prog_put part.now put) }
+{
+    Boxed::new(alloc, prog_with(alloc, part, put)?)
+}
+
+#[cycle(prog_with)]
+fn ways_with(alloc: Global, ways: &[Way], put: Put) -> Result<List<Way>, NoMemory>
+    ensures { IfOk result (λ list. list ≡ map (λ w. way_put w put) ways.now) }
+{
+    let mut list = List::new(alloc);
+    for way in ways {
+        let left = prog_with(alloc, &way.left, put)?;
+        list.push(Way {
+            label: way.label,
+            left,
+        })?;
+    }
+    Ok(list)
+}
+
+#[cycle(prog_with)]
+pub(crate) fn prog_with(alloc: Global, prog: &Prog, put: Put) -> Result<Prog, NoMemory>
+    ensures { IfOk result (λ p. p ≡ prog_put prog.now put) }
+{
+    match prog {
+        Prog::Nil => Ok(Prog::Nil),
+        Prog::Act { action, args } => Ok(Prog::Act {
+            action: *action,
+            args: args_with(alloc, args.as_slice(), put)?,
+        }),
+        Prog::Test(cond) => Ok(Prog::Test(cond_with(alloc, cond, put)?)),
+        Prog::Seq(first, second) => {
+            let (first, second) = both(
+                part_with(alloc, first.get(), put),
+                part_with(alloc, second.get(), put),
+            )?;
+            Ok(Prog::Seq(first, second))
+        }
+        Prog::Choice(one, other) => {
+            let (one, other) = both(
+                part_with(alloc, one.get(), put),
+                part_with(alloc, other.get(), put),
+            )?;
+            Ok(Prog::Choice(one, other))
+        }
+        Prog::Pick { var, sort, body } => Ok(Prog::Pick {
+            var: *var,
+            sort: *sort,
+            body: part_with(alloc, body.get(), within(*var, put))?,
+        }),
+        Prog::Star(body) => Ok(Prog::Star(part_with(alloc, body.get(), put)?)),
+        Prog::If { cond, yes, no } => {
+            let (yes, no) = both(
+                part_with(alloc, yes.get(), put),
+                part_with(alloc, no.get(), put),
+            )?;
+            Ok(Prog::If {
+                cond: cond_with(alloc, cond, put)?,
+                yes,
+                no,
+            })
+        }
+        Prog::While { cond, body } => Ok(Prog::While {
+            cond: cond_with(alloc, cond, put)?,
+            body: part_with(alloc, body.get(), put)?,
+        }),
+        Prog::Conc(one, other) => {
+            let (one, other) = both(
+                part_with(alloc, one.get(), put),
+                part_with(alloc, other.get(), put),
+            )?;
+            Ok(Prog::Conc(one, other))
+        }
+        Prog::Prio(high, low) => {
+            let (high, low) = both(
+                part_with(alloc, high.get(), put),
+                part_with(alloc, low.get(), put),
+            )?;
+            Ok(Prog::Prio(high, low))
+        }
+        Prog::Cstar(body) => Ok(Prog::Cstar(part_with(alloc, body.get(), put)?)),
+        Prog::Call { item, args } => Ok(Prog::Call {
+            item: *item,
+            args: args_with(alloc, args.as_slice(), put)?,
+        }),
+        Prog::Search { depth, fuel, body } => Ok(Prog::Search {
+            depth: *depth,
+            fuel: *fuel,
+            body: part_with(alloc, body.get(), put)?,
+        }),
+        Prog::Follow {
+            depth,
+            fuel,
+            body,
+            rest,
+        } => Ok(Prog::Follow {
+            depth: *depth,
+            fuel: *fuel,
+            body: part_with(alloc, body.get(), put)?,
+            rest: ways_with(alloc, rest.as_slice(), put)?,
+        }),
+    }
+}
+
+/// The program with the constant put in for the variable; a binder of the same variable keeps its own.
+pub fn put_arg(alloc: Global, prog: &Prog, var: u8, value: u8) -> Result<Prog, NoMemory>
+    ensures { IfOk result (λ p. p ≡ prog_put prog.now (Some (var, value))) }
+{
+    prog_with(alloc, prog, Some((var, value)))
+}
