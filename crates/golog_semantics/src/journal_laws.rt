@@ -1,0 +1,150 @@
+//! Laws of journals and their texts, of runs, of knowledge, and of values in their sorts.
+ghost use Rattle.golog_semantics.specs.OneMore.{OneMoreEntry, OneMorePosted, OneMoreStep, OneMoreCommand, OneMoreLine, NothingWithoutDevices, LaterRunsChangeNothing, NewRunsAreFound, OnlineIsWhole};
+ghost use Rattle.golog_semantics.specs.ReportLaws.{TextTellsReports, OneReportIsSpelled, NamesTellApart};
+ghost use Rattle.golog_semantics.specs.SortLaws.{SortsStay, StartsAreInSorts, ValuesStayInSorts, StepsStayInSorts, ResultsOfReportsFit, OnlineStaysInSorts};
+ghost use Rattle.golog_semantics.specs.NumberLaws.{GroundThingsHaveOneNumber};
+ghost use Rattle.golog_semantics.specs.RunLaws.{BestIsLeast, RunsAreSound, LevelsAreReached};
+ghost use Rattle.golog_semantics.specs.Laws.{RunsStay};
+ghost use Rattle.golog_semantics.specs.KnowledgeLaws.{WaysSettle, StepsKeepKnowledge};
+
+/// With one more entry, a journal has ended if it had or the entry is its end, counts the entry
+/// where that is counted, stays full, and ends with the entry.
+pub fn one_more_entry()
+    ensures { OneMoreEntry }
+{}
+
+/// With one more entry, a device has posted what it had, and the entry if it is its own; it stays
+/// open unless the entry closes it.
+pub fn one_more_posted()
+    ensures { OneMorePosted }
+{}
+
+/// With one more entry, the values are those after the entry, and the program left is that after
+/// the step that the entry is.
+pub fn one_more_step()
+    ensures { OneMoreStep }
+{}
+
+/// With one more entry, a device has its commands and the entry if it is one, those without a
+/// result are fewer by the one whose result the entry is, and the device is at rest where its
+/// last entry says that it has taken all its commands.
+pub fn one_more_command()
+    ensures { OneMoreCommand }
+{}
+
+/// A report with one more entry is online so far exactly where it was and the entry keeps the
+/// rules, and its text is one line longer.
+pub fn one_more_line()
+    ensures { OneMoreLine }
+{}
+
+/// A program without devices waits for no result, and no device keeps it from its answer.
+pub fn nothing_without_devices()
+    ensures { NothingWithoutDevices }
+{}
+
+/// Runs that begin past the entries of a report change neither its text nor its first fault.
+pub fn later_runs_change_nothing()
+    ensures { LaterRunsChangeNothing }
+{}
+
+/// At a place that all runs of a report come before there is none, and one that is put in there is
+/// found.
+pub fn new_runs_are_found()
+    ensures { NewRunsAreFound }
+{}
+
+/// A report is an online execution exactly where it is one so far, the program has ended and each
+/// device is closed.
+pub fn online_is_whole()
+    ensures { OnlineIsWhole }
+{}
+
+/// Two reports that have the same text are the same, where the devices, the actions and the
+/// constants of each sort have names of their own.
+pub fn text_tells_reports()
+    ensures { TextTellsReports }
+{}
+
+/// Bytes spell one report at most, where the devices, the actions and the constants of each sort
+/// have names of their own.
+pub fn one_report_is_spelled()
+    ensures { OneReportIsSpelled }
+{}
+
+/// A ground action or fluent has the number at which it stands among all of them, so no two numbers
+/// have the same one; and with arguments of its sorts it stands at its number.
+pub fn ground_things_have_one_number()
+    ensures { GroundThingsHaveOneNumber }
+{}
+
+/// The best run of a block is the first of the least length, in the order of runs; where there is
+/// none, no run is within the depth.
+pub fn best_is_least()
+    ensures { BestIsLeast }
+{}
+
+/// Runs of so many ways have that length, and the certain ones are those that go through, the best
+/// among them.
+pub fn runs_are_sound()
+    ensures { RunsAreSound }
+{}
+
+/// A level of a search holds exactly the states that so many ways reach, each once.
+pub fn levels_are_reached()
+    ensures { LevelsAreReached }
+{}
+
+/// A run that goes through still does where more is known.
+pub fn runs_stay()
+    ensures { RunsStay }
+{}
+
+/// Where more is known, a program without blocks has all its certain ways and ends still, and no
+/// new possible ones.
+pub fn ways_settle()
+    ensures { WaysSettle }
+{}
+
+/// More knowledge before a step is more knowledge after it.
+pub fn steps_keep_knowledge()
+    ensures { StepsKeepKnowledge }
+{}
+
+/// The devices, the actions and the constants of a well-formed agent have names of their own.
+pub fn names_tell_apart()
+    ensures { NamesTellApart }
+{}
+
+/// From start values in their sorts, with causes whose terms are of their fluents' sorts, the
+/// values stay in the sorts of their fluents along a journal.
+pub fn sorts_stay()
+    ensures { SortsStay }
+{}
+
+/// The start values of a well-formed agent are in their sorts, or unknown.
+pub fn starts_are_in_sorts()
+    ensures { StartsAreInSorts }
+{}
+
+/// The values of a well-formed agent stay in the sorts of their fluents, or unknown, along a
+/// journal whose results are values of their fluents.
+pub fn values_stay_in_sorts()
+    ensures { ValuesStayInSorts }
+{}
+
+/// The values of a well-formed agent that are in their sorts are so after a step.
+pub fn steps_stay_in_sorts()
+    ensures { StepsStayInSorts }
+{}
+
+/// The results of a report that has a text are values of their fluents.
+pub fn results_of_reports_fit()
+    ensures { ResultsOfReportsFit }
+{}
+
+/// The values of a well-formed agent are in the sorts of their fluents, or unknown, after each
+/// online execution so far.
+pub fn online_stays_in_sorts()
+    ensures { OnlineStaysInSorts }
+{}
