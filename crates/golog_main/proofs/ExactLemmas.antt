@@ -1,0 +1,212 @@
+-- The causes exclude one another, and each outcome has one status.
+use Rattle.std.proofs.Common.{◌≡◌, ℕ, List, Option, Some, None, ◌⊎◌, inl, inr, arith, sym, ◌∙◌, ap, refl, IsSome}
+use Rattle.golog_base.specs.Faults.{Rose}
+use Rattle.golog_base.specs.Files.{HasNone, FileHas, bytes_of}
+use Rattle.golog_base.specs.declared.mem_files.HeldFile.{HeldFile}
+use Rattle.golog_tree.specs.declared.agent.Agent.{Agent}
+use Rattle.golog_semantics.specs.Text.{Text}
+use Rattle.golog_semantics.specs.declared.journal.Answer.{Answer}
+use Rattle.golog_semantics.specs.declared.journal.Answer.TheVariants.{Done, Stuck}
+use Rattle.golog_semantics.specs.Execution.{status_of as answer_status}
+use Rattle.golog_agent.specs.Spelled.{SpellsAgent, SpellsNone}
+use Rattle.golog_main.specs.declared.outcome.Outcome.{Outcome}
+use Rattle.golog_main.specs.declared.outcome.Outcome.TheVariants.{WordsRefused, ReadFault, AgentRefused, Ran}
+use Rattle.golog_main.specs.Outcome.{Outside, RunsBytes, RunsFile, Comes, Reports, text_of, status_of}
+use Rattle.golog_main.specs.Exact.{Names, Wrote, SaysItsCause, IsStopped, Answers, IsRead, FollowsItsCause, StatusesAreExact}
+
+-- ---- the status of a report
+
+-- a report of one outcome has its status, or is stopped
+stopped_or : (status : ℕ) (outcome : Outcome) (before after : Outside)
+    → Reports status (text_of outcome) (status_of outcome) before.taken after.taken before.sink_faults after.sink_faults
+    → Answers status (status_of outcome) before after
+stopped_or status outcome before after (inl written) = inl written.0
+stopped_or status outcome before after (inr failed) = inr (inl (failed.0, failed.2))
+
+-- no status is two numbers
+neither : {P : Type 0} (status k : ℕ) → status ≡ k → (k ≡ 0 → ⊥) → (k ≡ 10 → ⊥) → (status ≡ 0) ⊎ (status ≡ 10) → P
+neither status k is no_zero no_ten (inl zero) = absurd (no_zero (sym is ∙ zero))
+neither status k is no_zero no_ten (inr ten) = absurd (no_ten (sym is ∙ ten))
+
+plain_status : (answer : Answer) → (answer ≡ Done) ⊎ (answer ≡ Stuck) → (answer_status answer ≡ 0) ⊎ (answer_status answer ≡ 10)
+plain_status answer (inl done) = inl (ap answer_status done)
+plain_status answer (inr stuck) = inr (ap answer_status stuck)
+
+-- ---- what is read
+
+module _ (name bytes : Text) (before after : Outside) (read : IsRead name bytes before after) where
+  read_has : (P : Text → Type 0) → FileHas before.held name P → P bytes
+  read_has P has = rw (read.told, read.has) at has
+
+  read_is_there : HasNone before.held name → ⊥
+  read_is_there none =
+      let missing : bytes_of read.files name ≡ None = rw read.told at none in
+      let there : bytes_of read.files name ≡ Some bytes = read.has in
+      cc
+
+  no_fault : HasNone before.held name ⊎ Rose before.file_faults after.file_faults → ⊥
+  no_fault (inl none) = read_is_there none
+  no_fault (inr rose) = read.unfailed rose
+
+held_or_not : (held : Option (List HeldFile)) (name : Text) (P : Text → Type 0) → HasNone held name → FileHas held name P → ⊥
+held_or_not None name P none has = none
+held_or_not (Some files) name P none has = rw none at has
+
+-- ---- a status only where its cause is
+
+module _ (status : ℕ) (named : Option Text) (before after : Outside) where
+  failed_says : status ≡ 5 → Rose before.sink_faults after.sink_faults → SaysItsCause status named before after
+  failed_says is rose = record {
+    words_refused = λ two. absurd (omega arith);
+    agent_refused = λ three. absurd (omega arith);
+    read_fault = λ four. absurd (omega arith);
+    write_fault = λ five. rose;
+    done_or_stuck = neither status 5 is (λ e. omega arith) (λ e. omega arith);
+  }
+
+  starved_says : status ≡ 6 → SaysItsCause status named before after
+  starved_says is = record {
+    words_refused = λ two. absurd (omega arith);
+    agent_refused = λ three. absurd (omega arith);
+    read_fault = λ four. absurd (omega arith);
+    write_fault = λ five. absurd (omega arith);
+    done_or_stuck = neither status 6 is (λ e. omega arith) (λ e. omega arith);
+  }
+
+  refused_says : status ≡ 3 → Names named (λ name. FileHas before.held name SpellsNone) → SaysItsCause status named before after
+  refused_says is cause = record {
+    words_refused = λ two. absurd (omega arith);
+    agent_refused = λ three. cause;
+    read_fault = λ four. absurd (omega arith);
+    write_fault = λ five. absurd (omega arith);
+    done_or_stuck = neither status 3 is (λ e. omega arith) (λ e. omega arith);
+  }
+
+  fault_says : status ≡ 4 → Names named (λ name. HasNone before.held name ⊎ Rose before.file_faults after.file_faults)
+      → SaysItsCause status named before after
+  fault_says is cause = record {
+    words_refused = λ two. absurd (omega arith);
+    agent_refused = λ three. absurd (omega arith);
+    read_fault = λ four. cause;
+    write_fault = λ five. absurd (omega arith);
+    done_or_stuck = neither status 4 is (λ e. omega arith) (λ e. omega arith);
+  }
+
+  words_say : status ≡ 2 → named ≡ None → SaysItsCause status named before after
+  words_say is cause = record {
+    words_refused = λ two. cause;
+    agent_refused = λ three. absurd (omega arith);
+    read_fault = λ four. absurd (omega arith);
+    write_fault = λ five. absurd (omega arith);
+    done_or_stuck = neither status 2 is (λ e. omega arith) (λ e. omega arith);
+  }
+
+  never : {P : Type 0} (k : ℕ) → (status ≡ 0) ⊎ (status ≡ 10) → status ≡ k → (0 ≡ k → ⊥) → (10 ≡ k → ⊥) → P
+  never k plain is no_zero no_ten = neither status k is (λ e. no_zero (sym e)) (λ e. no_ten (sym e)) plain
+
+  run_says : (status ≡ 0) ⊎ (status ≡ 10) → Names named (λ name. Wrote status before after (RunsFile before.held name))
+      → SaysItsCause status named before after
+  run_says plain cause = record {
+    words_refused = λ e. never 2 plain e (λ f. omega arith) (λ f. omega arith);
+    agent_refused = λ e. never 3 plain e (λ f. omega arith) (λ f. omega arith);
+    read_fault = λ e. never 4 plain e (λ f. omega arith) (λ f. omega arith);
+    write_fault = λ e. never 5 plain e (λ f. omega arith) (λ f. omega arith);
+    done_or_stuck = λ e. cause;
+  }
+
+says : (status : ℕ) (outcome : Outcome) (named : Option Text) (before after : Outside)
+    → Comes outcome named before.held before.file_faults after.file_faults
+    → Reports status (text_of outcome) (status_of outcome) before.taken after.taken before.sink_faults after.sink_faults
+    → SaysItsCause status named before after
+says status WordsRefused None before after cause (inl written) = words_say status None before after written.0 refl
+says status ReadFault (Some name) before after cause (inl written) = fault_says status (Some name) before after written.0 cause
+says status AgentRefused (Some name) before after cause (inl written) = refused_says status (Some name) before after written.0 cause
+says status (Ran text answer) (Some name) before after cause (inl written) =
+    run_says status (Some name) before after (rw written.0 (plain_status answer cause.runs.run.plain))
+    (record { text = text; answer = answer; runs = cause; written = written.1; shown = written.0 })
+says status _ named before after cause (inr failed) = failed_says status named before after failed.0 failed.2
+says status _ _ before after cause (inl written) = absurd cause
+
+-- ---- and wherever its cause is
+
+words_follow : (status : ℕ) (before after : Outside) → Answers status 2 before after → FollowsItsCause status None before after
+words_follow status before after answers = record {
+  no_command = λ e. answers;
+  no_file = λ name e none. let no : ⊥ = cc in absurd no;
+  no_agent = λ name bytes e read spells. let no : ⊥ = cc in absurd no;
+  an_agent = λ name bytes agent e read spells. let no : ⊥ = cc in absurd no;
+}
+
+module _ (status : ℕ) (name : Text) (before after : Outside) where
+  abbrev Ran_or_stopped : Text → Type 0
+  Ran_or_stopped bytes = Wrote status before after (RunsBytes bytes) ⊎ IsStopped status before after
+
+  -- what is so of the file that the words name
+  file_follows : (HasNone before.held name → Answers status 4 before after)
+      → ((bytes : Text) → IsRead name bytes before after → SpellsNone bytes → Answers status 3 before after)
+      → ((bytes : Text) (agent : Agent) → IsRead name bytes before after → SpellsAgent bytes agent → Ran_or_stopped bytes)
+      → FollowsItsCause status (Some name) before after
+  file_follows no_file no_agent an_agent = record {
+    no_command = λ e. let no : ⊥ = cc in absurd no;
+    no_file = λ other e none. let same : other ≡ name = cc in no_file (rw same at none);
+    no_agent = λ other bytes e read spells. let same : other ≡ name = cc in no_agent bytes (rw same at read) spells;
+    an_agent = λ other bytes agent e read spells. let same : other ≡ name = cc in an_agent bytes agent (rw same at read) spells;
+  }
+
+  fault_follows : HasNone before.held name ⊎ Rose before.file_faults after.file_faults → Answers status 4 before after
+      → FollowsItsCause status (Some name) before after
+  fault_follows cause answers =
+      file_follows (λ none. answers)
+      (λ bytes read spells. absurd (no_fault name bytes before after read cause))
+      (λ bytes agent read spells. absurd (no_fault name bytes before after read cause))
+
+  refused_follows : FileHas before.held name SpellsNone → Answers status 3 before after → FollowsItsCause status (Some name) before after
+  refused_follows has answers =
+      file_follows (λ none. absurd (held_or_not before.held name SpellsNone none has))
+      (λ bytes read spells. answers)
+      (λ bytes agent read spells. absurd (read_has name bytes before after read SpellsNone has agent spells))
+
+  module _ (text : Text) (answer : Answer) (runs : RunsFile before.held name text answer) where
+    abbrev IsTheirs : Text → Type 0
+    IsTheirs told = told ≡ runs.bytes
+
+    runs_bytes : (bytes : Text) → IsRead name bytes before after → RunsBytes bytes text answer
+    runs_bytes bytes read = rw (read_has name bytes before after read IsTheirs runs.has) runs.runs
+
+    run_follows : Reports status text (answer_status answer) before.taken after.taken before.sink_faults after.sink_faults
+        → FollowsItsCause status (Some name) before after
+    run_follows reports =
+        file_follows (λ none. absurd (held_or_not before.held name IsTheirs none runs.has))
+        (λ bytes read spells. absurd (spells runs.runs.agent (rw (read_has name bytes before after read IsTheirs runs.has) runs.runs.spelled)))
+        (λ bytes agent read spells. wrote_or_stopped bytes read reports)
+      where
+        wrote_or_stopped : (bytes : Text) → IsRead name bytes before after
+            → Reports status text (answer_status answer) before.taken after.taken before.sink_faults after.sink_faults → Ran_or_stopped bytes
+        wrote_or_stopped bytes read (inl written) =
+            inl (record { text = text; answer = answer; runs = runs_bytes bytes read; written = written.1; shown = written.0 })
+        wrote_or_stopped bytes read (inr failed) = inr (inl (failed.0, failed.2))
+
+follows : (status : ℕ) (outcome : Outcome) (named : Option Text) (before after : Outside)
+    → Comes outcome named before.held before.file_faults after.file_faults
+    → Reports status (text_of outcome) (status_of outcome) before.taken after.taken before.sink_faults after.sink_faults
+    → FollowsItsCause status named before after
+follows status WordsRefused None before after cause reports = words_follow status before after (stopped_or status WordsRefused before after reports)
+follows status ReadFault (Some name) before after cause reports =
+    fault_follows status name before after cause (stopped_or status ReadFault before after reports)
+follows status AgentRefused (Some name) before after cause reports =
+    refused_follows status name before after cause (stopped_or status AgentRefused before after reports)
+follows status (Ran text answer) (Some name) before after cause reports = run_follows status name before after text answer cause reports
+follows status _ _ before after cause reports = absurd cause
+
+starved_follows : (status : ℕ) (named : Option Text) (before after : Outside) → status ≡ 6 → IsSome named → FollowsItsCause status named before after
+starved_follows status None before after is command = let no : ⊥ = cc in absurd no
+starved_follows status (Some name) before after is command =
+    file_follows status name before after (λ none. inr (inr is)) (λ bytes read spells. inr (inr is)) (λ bytes agent read spells. inr (inr is))
+
+pub exact : StatusesAreExact
+exact status named before after (inl reported) = (
+  says status reported.outcome named before after reported.cause reported.report,
+  follows status reported.outcome named before after reported.cause reported.report,
+)
+exact status named before after (inr starved) =
+    (starved_says status named before after starved.answered, starved_follows status named before after starved.answered starved.command)

@@ -1,0 +1,4 @@
+pub mod BareLemmas
+pub mod RunLemmas
+pub mod OutcomeLemmas
+pub mod ExactLemmas

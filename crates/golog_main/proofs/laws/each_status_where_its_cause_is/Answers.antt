@@ -1,0 +1,5 @@
+use Rattle.golog_main.proofs.ExactLemmas.{exact}
+use Rattle.golog_main.proofs.laws.each_status_where_its_cause_is.Goals as goal
+
+pub returns : goal.returns
+returns c = exact

@@ -1,0 +1,4 @@
+pub mod Bare
+pub mod Words
+pub mod Outcome
+pub mod Exact

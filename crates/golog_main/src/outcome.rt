@@ -1,0 +1,64 @@
+// What a call of the program comes to.
+ghost use Rattle.std.specs.Prelude.{◌≡◌, ◌⊎◌, ◌++◌, [], ◌∷◌, Contains};
+ghost use Rattle.golog_semantics.specs.declared.journal.Entry.TheVariants.{End};
+ghost use Rattle.golog_semantics.specs.Execution.{status_of as answer_status};
+ghost use Rattle.golog_main.specs.Outcome.{status_of, text_of};
+
+use golog_base::Bytes;
+use golog_semantics::Answer;
+
+/// What a call of the program comes to, before its text is written.
+#[derive(Drop)]
+pub enum Outcome {
+    /// The words are no command.
+    WordsRefused,
+    /// The agent file cannot be read.
+    ReadFault,
+    /// The agent file spells no agent.
+    AgentRefused,
+    /// The program ran: the text of its journal, and its answer.
+    Ran { text: Bytes, answer: Answer },
+}
+
+impl Outcome {
+    /// What is written.
+    pub fn text(&self) -> &[u8]
+        ensures { result.now ≡ text_of self.now }
+    {
+        match self {
+            Outcome::WordsRefused => b"words refused\n",
+            Outcome::ReadFault => b"read fault agent\n",
+            Outcome::AgentRefused => b"refused agent 29 at 0\n",
+            Outcome::Ran { text, .. } => text.as_slice(),
+        }
+    }
+
+    /// The exit status: 2, 3 or 4 for a refusal, and that of the answer for a run.
+    pub fn status(&self) -> u8
+        ensures { result ≡ status_of self.now }
+    {
+        match self {
+            Outcome::WordsRefused => 2,
+            Outcome::ReadFault => 4,
+            Outcome::AgentRefused => 3,
+            Outcome::Ran { answer, .. } => exit_status(*answer),
+        }
+    }
+}
+
+// The exit status of a run that ends with this answer.
+fn exit_status(answer: Answer) -> u8
+    ensures { result ≡ answer_status answer }
+{
+    match answer {
+        Answer::Done => 0,
+        Answer::Stuck => 10,
+        Answer::Unknown => 11,
+        Answer::Depth => 12,
+        Answer::Fuel => 13,
+        Answer::Unanswered => 14,
+        Answer::Full => 15,
+        Answer::Deep => 16,
+        Answer::Memory => 6,
+    }
+}
