@@ -88,13 +88,13 @@ module _ (agent : Agent) (fits : WellFormed agent) where
     distinct = distinct-get agent.devices (distinct-right of_sorts agent.devices through_devices);
   }
 
-  actions_apart : AreDistinctNames of_actions
+  pub actions_apart : AreDistinctNames of_actions
   actions_apart = record {
     named = λ i name e. word name (among-left _ of_procs name (among-right ((of_sorts ++ agent.devices) ++ of_fluents) of_actions name (among-get of_actions i name e)));
     distinct = distinct-get of_actions (distinct-right ((of_sorts ++ agent.devices) ++ of_fluents) of_actions through_actions);
   }
 
-  constants_apart : (sort : ℕ) (name : Text) (constants : List Text) → slice_get agent.sorts sort ≡ Some (Listed name constants) → AreDistinctNames constants
+  pub constants_apart : (sort : ℕ) (name : Text) (constants : List Text) → slice_get agent.sorts sort ≡ Some (Listed name constants) → AreDistinctNames constants
   constants_apart sort name constants e = record {
     named = λ i constant k. word constant (among-devices constant (among-left of_sorts agent.devices constant
         (flat-among sort_names agent.sorts (Listed name constants) constant (among-get agent.sorts sort (Listed name constants) e) (inr (among-get constants i constant k)))));

@@ -1,4 +1,6 @@
 pub use Rattle.golog_tree.specs.Ground
+pub mod Reading
+pub mod Drafts
 pub mod Truth
 pub mod Modes
 pub mod Program
