@@ -1,0 +1,171 @@
+-- The rows of each part of a form stand in order, within the places of the form.
+use Rattle.std.proofs.Common.{◌≡◌, ℕ, ◌+◌, ◌*◌, ◌<◌, ◌≤◌, Bool, true, false, IsTrue, List, [], ◌∷◌, ◌++◌, map, drop, length, Option, Some, None, Result, Ok, Err, refl, sym, ap, subst, ◌∙◌, arith}
+use Rattle.std.specs.Prelude.{if◌then◌else◌}
+use Rattle.golog_base.specs.Names.{is_name}
+use Rattle.golog_form.specs.declared.form.Form.{Form}
+use Rattle.golog_form.specs.Shape.{place_of}
+use Rattle.golog_form.specs.Places.{IsInOrder}
+use Rattle.golog_tree.specs.declared.draft.DraftTheory.{DraftTheory}
+use Rattle.golog_tree.specs.declared.draft_cond.DraftArg.TheVariants.{Word, Number}
+use Rattle.golog_theory.specs.declared.names.Actions.{Actions}
+use Rattle.golog_theory.specs.Reading.{Row, Reading, gives, refused, row, ◌>>=◌, found, each}
+use Rattle.golog_theory.specs.Names.{sort_no, fluent_no, fluent_arity, action_no, action_arity}
+use Rattle.golog_theory.specs.Numbers.{value}
+use Rattle.golog_theory.specs.Parts.{word, parts, short_name, new_name, sort_of, number_of, arg_of}
+use Rattle.golog_theory.specs.Heads.{first_word, first_place, head_word, head_place, arguments, args_of, has_others, called, allowed, fluent_called, action_called, var_of, schema_of}
+use Rattle.golog_theory.proofs.Chain.{key, Chain, chain-low, Spans, then-spans, gives-spans, found-chain, Parts, ReadsFrom, each-spans}
+use Rattle.golog_theory.proofs.Inside.{end_of, Between, Stands, stands, between-drop, between-from}
+
+pub if-chain : {A : Type 0} (low high : ℕ) (b : Bool) (one other : Reading A) → Chain low high one.rows → Chain low high other.rows
+    → Chain low high (if b then one else other).rows
+if-chain low high true one other c d = c
+if-chain low high false one other c d = d
+
+-- a part of a form, and the places of the form
+abbrev pub Covers : {A : Type 0} → Form → Reading A → Type 0
+Covers f reading = Spans (place_of f) (end_of f) reading
+
+pub parts-of : {A : Type 0} (read : List A → Form → Reading A) → ((before : List A) (f : Form) → IsInOrder f → Covers f (read before f))
+    → (from : ℕ) (fs : List Form) (to : ℕ) → Between from fs to → Parts (ReadsFrom read) from fs to
+parts-of read covers from [] to b = b
+parts-of read covers from (f ∷ fs) to b =
+    let size = (stands f b.1).size in
+    (place_of f, end_of f, b.0, omega (arith, size), (λ before. covers before f b.1), parts-of read covers (end_of f) fs to b.2)
+
+pub each-covers : {A : Type 0} (read : List A → Form → Reading A) → ((before : List A) (f : Form) → IsInOrder f → Covers f (read before f))
+    → (before : List A) (from : ℕ) (fs : List Form) (to : ℕ) → Between from fs to → Spans from to (each read before fs)
+each-covers read covers before from fs to b = each-spans read before fs from to (parts-of read covers from fs to b)
+
+pub between-le : (from : ℕ) (fs : List Form) (to : ℕ) → Between from fs to → from ≤ to
+between-le from [] to b = b
+between-le from (f ∷ fs) to b = omega (arith, b.0, (stands f b.1).size, between-le (end_of f) fs to b.2)
+
+pub short_name-behind : (f : Form) → place_of f < end_of f → Chain (key (place_of f) 25) (32 * end_of f) (short_name f).rows
+unfolding short_name
+short_name-behind f size = (omega arith, omega arith, omega arith, omega arith)
+
+pub new_name-covers : (theory : DraftTheory) (f : Form) → IsInOrder f → Covers f (new_name theory f)
+unfolding new_name
+new_name-covers theory f order =
+    let size = (stands f order).size in (
+      omega arith,
+      omega arith,
+      omega arith,
+      (
+        omega arith,
+        omega arith,
+        omega arith,
+        chain-low (key (place_of f) 21) (key (place_of f) 25) (32 * end_of f) (short_name f).rows (omega arith) (short_name-behind f size),
+      ),
+    )
+
+pub sort_of-covers : (theory : DraftTheory) (f : Form) → IsInOrder f → Covers f (sort_of theory f)
+unfolding sort_of
+sort_of-covers theory f order =
+    let size = (stands f order).size in (
+      omega arith,
+      omega arith,
+      omega arith,
+      found-chain (key (place_of f) 20) (32 * end_of f) 22 (place_of f) (sort_no theory (word f)) (omega arith) (omega arith) (omega arith) (omega arith),
+    )
+
+pub number_of-covers : (f : Form) → IsInOrder f → Covers f (number_of f)
+unfolding number_of
+number_of-covers f order =
+    let size = (stands f order).size in (
+      omega arith,
+      omega arith,
+      omega arith,
+      found-chain (key (place_of f) 20) (32 * end_of f) 26 (place_of f) (value (word f)) (omega arith) (omega arith) (omega arith) (omega arith),
+    )
+
+pub short_name-covers : (f : Form) → IsInOrder f → Covers f (short_name f)
+short_name-covers f order =
+    let size = (stands f order).size in
+    chain-low (32 * place_of f) (key (place_of f) 25) (32 * end_of f) (short_name f).rows (omega arith) (short_name-behind f size)
+
+pub arg_of-covers : (f : Form) → IsInOrder f → Covers f (arg_of f)
+unfolding arg_of
+arg_of-covers f order =
+    if-chain (32 * place_of f) (32 * end_of f) (is_name (word f)) (short_name f >>= (λ word. gives (Word word (place_of f)))) (number_of f >>= (λ number. gives (Number number (place_of f))))
+    (gives-spans (place_of f) (end_of f) (short_name f) (λ word. Word word (place_of f)) (short_name-covers f order))
+    (gives-spans (place_of f) (end_of f) (number_of f) (λ number. Number number (place_of f)) (number_of-covers f order))
+
+pub args_of-spans : (from : ℕ) (fs : List Form) (to : ℕ) → Between from fs to → Spans from to (args_of fs)
+unfolding args_of
+args_of-spans from fs to b = each-covers (λ _. arg_of) (λ _. arg_of-covers) [] from fs to b
+
+-- the place behind the name that a list begins with
+abbrev after_first : ℕ → List Form → ℕ
+after_first at [] = at + 1
+after_first at (first ∷ others) = end_of first
+
+abbrev pub after_head : Form → ℕ
+after_head f = after_first (place_of f) (parts f)
+
+drop_first : (at : ℕ) (fs : List Form) (to : ℕ) → Between (at + 1) fs to → Between (after_first at fs) (drop 1 fs) to
+drop_first at [] to b = b
+drop_first at (f ∷ fs) to b = b.2
+
+pub arguments-behind : (f : Form) → IsInOrder f → Between (after_head f) (arguments f) (end_of f)
+arguments-behind f order = drop_first (place_of f) (parts f) (end_of f) (stands f order).inner
+
+called-first : (at : ℕ) (fs : List Form) (to count : ℕ) (arity : ℕ → ℕ) (item : Option ℕ) → Between (at + 1) fs to
+    → Spans at (after_first at fs) (if is_name (first_word fs) then row (has_others count arity item) 24 at (found 23 (first_place at fs) item) else refused 20 at)
+called-first at [] to count arity item b = (omega arith, omega arith, omega arith, omega arith)
+called-first at (f ∷ fs) to count arity item b =
+    let size = (stands f b.1).size in
+    if-chain (32 * at) (32 * end_of f) (is_name (word f)) (row (has_others count arity item) 24 at (found 23 (place_of f) item)) (refused 20 at) (
+      omega arith,
+      omega arith,
+      omega arith,
+      found-chain (key at 24) (32 * end_of f) 23 (place_of f) item (omega (arith, b.0)) (omega arith) (omega arith) (omega arith),
+    )
+    (omega arith, omega arith, omega arith, omega (arith, b.0))
+
+pub called-spans : (f : Form) (arity : ℕ → ℕ) (item : Option ℕ) → IsInOrder f → Spans (place_of f) (after_head f) (called f arity item)
+called-spans f arity item order =
+    called-first (place_of f) (parts f) (end_of f) (length (arguments f)) arity item (stands f order).inner
+
+-- what is called, and then its arguments
+pub called-covers : {A B : Type 0} (f : Form) (arity : ℕ → ℕ) (item : Option ℕ) (args : List Form → Reading A) (made : ℕ → A → B) → IsInOrder f
+    → ((from : ℕ) (fs : List Form) (to : ℕ) → Between from fs to → Spans from to (args fs))
+    → Covers f (called f arity item >>= λ item. args (arguments f) >>= λ args. gives (made item args))
+called-covers f arity item args made order spans =
+    let behind = arguments-behind f order in
+    then-spans (place_of f) (after_head f) (end_of f) (called f arity item) (λ item. args (arguments f) >>= λ args. gives (made item args))
+    (between-le (after_head f) (arguments f) (end_of f) behind) (called-spans f arity item order)
+    (λ item. gives-spans (after_head f) (end_of f) (args (arguments f)) (made item) (spans (after_head f) (arguments f) (end_of f) behind))
+
+pub fluent_called-covers : (theory : DraftTheory) (f : Form) → IsInOrder f → Covers f (fluent_called theory f)
+unfolding fluent_called
+fluent_called-covers theory f order =
+    called-covers f (fluent_arity theory) (fluent_no theory (head_word f)) args_of (λ item args. record { item = item; args = args }) order args_of-spans
+
+pub action_called-covers : (theory : DraftTheory) (f : Form) → IsInOrder f → Covers f (action_called theory f)
+unfolding action_called
+action_called-covers theory f order =
+    called-covers f (action_arity theory) (action_no theory (head_word f)) args_of (λ item args. record { item = item; args = args }) order args_of-spans
+
+var_of-covers : (theory : DraftTheory) (before : List (List ℕ)) (f : Form) → IsInOrder f → Covers f (var_of theory before f)
+unfolding var_of
+var_of-covers theory before f order =
+    let size = (stands f order).size in (
+      omega arith,
+      omega arith,
+      omega arith,
+      (
+        omega arith,
+        omega arith,
+        omega arith,
+        chain-low (key (place_of f) 21) (key (place_of f) 25) (32 * end_of f) (short_name f).rows (omega arith) (short_name-behind f size),
+      ),
+    )
+
+pub schema_of-covers : (theory : DraftTheory) (actions : Actions) (f : Form) → IsInOrder f → Covers f (schema_of theory actions f)
+unfolding schema_of
+schema_of-covers theory actions f order =
+    called-covers f (action_arity theory) (allowed theory actions (action_no theory (head_word f))) (each (var_of theory) [])
+    (λ action vars. record { action = action; vars = vars }) order (each-covers (var_of theory) (var_of-covers theory) [])
+
+pub ruleset laws = (fluent_called-covers, schema_of-covers)

@@ -1,0 +1,33 @@
+-- Where the names of a theory stand: maps that agree with its lists.
+use Rattle.std.specs.Prelude.{◌≡◌, ℕ, Bool, if◌then◌else◌, List, Option, Some, None, position}
+use Rattle.std.specs.BTreeMap.{get_by}
+use Rattle.std.specs.Ordering.{nat_cmp}
+use Rattle.std.specs.Cmp.Lexicographic.{slice_cmp}
+use Rattle.golog_tree.specs.declared.draft.DraftFluent.{DraftFluent}
+use Rattle.golog_tree.specs.declared.draft.DraftAction.{DraftAction}
+use Rattle.golog_tree.specs.declared.draft.DraftDevice.{DraftDevice}
+use Rattle.golog_tree.specs.declared.draft.DraftTheory.{DraftTheory}
+use Rattle.golog_theory.specs.declared.index.Numbers.{Numbers}
+use Rattle.golog_theory.specs.declared.index.Index.{Index}
+use Rattle.golog_theory.specs.Names.{same, sort_name, lists}
+
+-- the number at a word, where it has one
+abbrev pub number_at : Numbers → List ℕ → Option ℕ
+number_at numbers word = get_by (λ key. slice_cmp nat_cmp word key.items) numbers.by_name
+
+-- the number so far, or else the new one where it is for the word
+abbrev pub or_new : Option ℕ → Bool → ℕ → Option ℕ
+or_new (Some number) is_for new = Some number
+or_new None is_for new = if is_for then Some new else None
+
+-- each word has the number of the first item that stands for it
+abbrev pub Finds : {T : Type 0} → (List ℕ → T → Bool) → Numbers → List T → Type 0
+Finds stands_for numbers items = (word : List ℕ) → number_at numbers word ≡ position (stands_for word) items
+
+-- the numbers of what a theory declares, and of the sort that lists a constant
+pub record IsIndexOf (index : Index) (theory : DraftTheory) : Type 0 where
+  pub sorts : Finds (λ word sort. same word (sort_name sort)) index.sorts theory.sorts
+  pub constants : Finds lists index.constants theory.sorts
+  pub devices : Finds (λ word (device : DraftDevice). same word device.name) index.devices theory.devices
+  pub fluents : Finds (λ word (fluent : DraftFluent). same word fluent.name) index.fluents theory.fluents
+  pub actions : Finds (λ word (action : DraftAction). same word action.name) index.actions theory.actions

@@ -1,0 +1,17 @@
+pub mod Reading
+pub mod Names
+pub mod Numbers
+pub mod Parts
+pub mod Heads
+pub mod Fluents
+pub mod Actions
+pub mod Recursion
+pub mod Terms
+pub mod Conditions
+pub mod Effects
+pub mod Items
+pub mod Sorts
+pub mod Index
+pub mod Draft
+pub mod Started
+pub mod Order

@@ -1,0 +1,324 @@
+ghost use Rattle.std.specs.Prelude.{◌≡◌};
+ghost use Rattle.golog_theory.specs.Reading.{Answers};
+ghost use Rattle.golog_theory.specs.Conditions.{truth_of, fluent_cond, sides_of, equal_of, less_of, at_most_of, not_of, conds_of, and_of, or_of, binder_of, bound_of, some_of, all_of, cond_list, cond_of, cond_parts};
+
+use crate::fault::{COUNT, TheoryFault, UNKNOWN_FORM, refuse_where, unknown_form};
+use crate::heads::{Called, fluent_called};
+use crate::indexed::Indexed;
+use crate::limits::VARIABLES;
+use crate::parts::{parts, short_name, sort_of, split_list, word};
+use crate::terms::term_of;
+use golog_base::{Boxed, List, Word, is_name};
+use golog_form::Form;
+use golog_tree::{DraftCond, DraftTerm, Place};
+use std::alloc::Global;
+
+/// `true` or `false`
+#[tactic(auto, unfolding(crate::specs::Conditions::truth_of))]
+fn truth_of(form: &Form) -> Result<DraftCond, TheoryFault>
+    ensures { Answers result (truth_of form.now) }
+{
+    let at = form.at();
+    if word(form) == b"true".as_slice() {
+        Ok(DraftCond::Truth { truth: true, at })
+    } else if word(form) == b"false".as_slice() {
+        Ok(DraftCond::Truth { truth: false, at })
+    } else {
+        Err(unknown_form(at))
+    }
+}
+
+/// `(FLUENT ARGS)` as a condition.
+#[tactic(auto, unfolding(crate::specs::Conditions::fluent_cond))]
+fn fluent_cond(alloc: Global, theory: &Indexed<'_>, form: &Form) -> Result<DraftCond, TheoryFault>
+    ensures { Answers result (fluent_cond theory.now form.now) }
+{
+    let Called { item, args } = fluent_called(alloc, theory, form)?;
+    Ok(DraftCond::Is {
+        fluent: item,
+        args,
+        at: form.at(),
+    })
+}
+
+/// The two sides of a comparison.
+#[derive(Drop)]
+pub struct Sides {
+    pub one: DraftTerm,
+    pub other: DraftTerm,
+}
+
+#[tactic(auto, unfolding(crate::specs::Conditions::sides_of))]
+fn sides_of(
+    alloc: Global,
+    theory: &Indexed<'_>,
+    at: Place,
+    parts: &[Form],
+) -> Result<Sides, TheoryFault>
+    ensures { Answers result (sides_of theory.now at (cond_parts theory.now parts.now)) }
+{
+    let [one, other] = parts else {
+        return Err(unknown_form(at));
+    };
+    let one = term_of(alloc, theory, one)?;
+    let other = term_of(alloc, theory, other)?;
+    Ok(Sides { one, other })
+}
+
+/// `(= TERM TERM)`
+#[tactic(auto, unfolding(crate::specs::Conditions::equal_of))]
+fn equal_of(
+    alloc: Global,
+    theory: &Indexed<'_>,
+    at: Place,
+    parts: &[Form],
+) -> Result<DraftCond, TheoryFault>
+    ensures { Answers result (equal_of theory.now at (cond_parts theory.now parts.now)) }
+{
+    let Sides { one, other } = sides_of(alloc, theory, at, parts)?;
+    Ok(DraftCond::Equal { one, other, at })
+}
+
+/// `(< TERM TERM)`
+#[tactic(auto, unfolding(crate::specs::Conditions::less_of))]
+fn less_of(
+    alloc: Global,
+    theory: &Indexed<'_>,
+    at: Place,
+    parts: &[Form],
+) -> Result<DraftCond, TheoryFault>
+    ensures { Answers result (less_of theory.now at (cond_parts theory.now parts.now)) }
+{
+    let Sides { one, other } = sides_of(alloc, theory, at, parts)?;
+    Ok(DraftCond::Less { one, other, at })
+}
+
+/// `(<= TERM TERM)`
+#[tactic(auto, unfolding(crate::specs::Conditions::at_most_of))]
+fn at_most_of(
+    alloc: Global,
+    theory: &Indexed<'_>,
+    at: Place,
+    parts: &[Form],
+) -> Result<DraftCond, TheoryFault>
+    ensures { Answers result (at_most_of theory.now at (cond_parts theory.now parts.now)) }
+{
+    let Sides { one, other } = sides_of(alloc, theory, at, parts)?;
+    Ok(DraftCond::AtMost { one, other, at })
+}
+
+/// The variable and the sort of a binder.
+#[derive(Drop)]
+pub struct Binder {
+    pub var: Word,
+    pub sort: u32,
+}
+
+/// `(VAR SORT)`
+#[tactic(auto, unfolding(crate::specs::Conditions::binder_of))]
+pub fn binder_of(theory: &Indexed<'_>, form: &Form) -> Result<Binder, TheoryFault>
+    ensures { Answers result (binder_of theory.now form.now) }
+{
+    let [var, sort] = parts(form) else {
+        return Err(unknown_form(form.at()));
+    };
+    refuse_where(!is_name(word(var)), UNKNOWN_FORM, var.at())?;
+    let var = short_name(var)?;
+    let sort = sort_of(theory, sort)?;
+    Ok(Binder { var, sort })
+}
+
+/// The condition that a form spells within so many variables.
+#[cycle(conditions)]
+#[tactic(auto, using(crate::proofs::Conds::laws))]
+pub fn cond_of(
+    alloc: Global,
+    theory: &Indexed<'_>,
+    form: &Form,
+    scope: usize,
+) -> Result<DraftCond, TheoryFault>
+    ensures { Answers result (cond_of theory.now form.now scope) }
+{
+    match split_list(form) {
+        Some((head, parts)) => cond_list(alloc, theory, form, scope, word(head), parts),
+        None => truth_of(form),
+    }
+}
+
+#[cycle(conditions)]
+#[tactic(auto, using(crate::proofs::Conds::laws), unfolding(crate::specs::Conditions::cond_list))]
+fn cond_list(
+    alloc: Global,
+    theory: &Indexed<'_>,
+    form: &Form,
+    scope: usize,
+    keyword: &[u8],
+    parts: &[Form],
+) -> Result<DraftCond, TheoryFault>
+    ensures { Answers result
+        (cond_list theory.now form.now scope keyword.now (cond_parts theory.now parts.now)) }
+{
+    let at = form.at();
+    if keyword == b"=".as_slice() {
+        equal_of(alloc, theory, at, parts)
+    } else if keyword == b"<".as_slice() {
+        less_of(alloc, theory, at, parts)
+    } else if keyword == b"<=".as_slice() {
+        at_most_of(alloc, theory, at, parts)
+    } else if keyword == b"not".as_slice() {
+        not_of(alloc, theory, scope, at, parts)
+    } else if keyword == b"and".as_slice() {
+        and_of(alloc, theory, scope, at, parts)
+    } else if keyword == b"or".as_slice() {
+        or_of(alloc, theory, scope, at, parts)
+    } else if keyword == b"some".as_slice() {
+        some_of(alloc, theory, scope, at, parts)
+    } else if keyword == b"all".as_slice() {
+        all_of(alloc, theory, scope, at, parts)
+    } else {
+        fluent_cond(alloc, theory, form)
+    }
+}
+
+/// `(not COND)`
+#[cycle(conditions)]
+#[tactic(auto, using(crate::proofs::Conds::laws), unfolding(crate::specs::Conditions::not_of))]
+fn not_of(
+    alloc: Global,
+    theory: &Indexed<'_>,
+    scope: usize,
+    at: Place,
+    parts: &[Form],
+) -> Result<DraftCond, TheoryFault>
+    ensures { Answers result (not_of scope at (cond_parts theory.now parts.now)) }
+{
+    let [part] = parts else {
+        return Err(unknown_form(at));
+    };
+    let cond = cond_of(alloc, theory, part, scope)?;
+    Ok(DraftCond::Not {
+        cond: Boxed::new(alloc, cond)?,
+        at,
+    })
+}
+
+#[cycle(conditions)]
+#[tactic(auto, using(crate::proofs::Conds::laws), unfolding(crate::specs::Conditions::conds_of))]
+fn conds_of(
+    alloc: Global,
+    theory: &Indexed<'_>,
+    scope: usize,
+    forms: &[Form],
+) -> Result<List<DraftCond>, TheoryFault>
+    ensures { Answers result (conds_of scope (cond_parts theory.now forms.now)) }
+{
+    let mut conds = List::new(alloc);
+    for form in forms {
+        conds.push(cond_of(alloc, theory, form, scope)?)?;
+    }
+    Ok(conds)
+}
+
+/// `(and CONDS)`
+#[cycle(conditions)]
+#[tactic(auto, using(crate::proofs::Conds::laws), unfolding(crate::specs::Conditions::and_of))]
+fn and_of(
+    alloc: Global,
+    theory: &Indexed<'_>,
+    scope: usize,
+    at: Place,
+    parts: &[Form],
+) -> Result<DraftCond, TheoryFault>
+    ensures { Answers result (and_of scope at (cond_parts theory.now parts.now)) }
+{
+    let conds = conds_of(alloc, theory, scope, parts)?;
+    Ok(DraftCond::And { conds, at })
+}
+
+/// `(or CONDS)`
+#[cycle(conditions)]
+#[tactic(auto, using(crate::proofs::Conds::laws), unfolding(crate::specs::Conditions::or_of))]
+fn or_of(
+    alloc: Global,
+    theory: &Indexed<'_>,
+    scope: usize,
+    at: Place,
+    parts: &[Form],
+) -> Result<DraftCond, TheoryFault>
+    ensures { Answers result (or_of scope at (cond_parts theory.now parts.now)) }
+{
+    let conds = conds_of(alloc, theory, scope, parts)?;
+    Ok(DraftCond::Or { conds, at })
+}
+
+/// A variable with its sort, and the condition in which it stands.
+#[derive(Drop)]
+pub struct Bound {
+    pub binder: Binder,
+    pub body: DraftCond,
+}
+
+/// `(VAR SORT)` and a COND, where the variable is not one too many.
+#[cycle(conditions)]
+#[tactic(auto, using(crate::proofs::Conds::laws), unfolding(crate::specs::Conditions::bound_of))]
+fn bound_of(
+    alloc: Global,
+    theory: &Indexed<'_>,
+    scope: usize,
+    at: Place,
+    parts: &[Form],
+) -> Result<Bound, TheoryFault>
+    ensures { Answers result (bound_of theory.now scope at (cond_parts theory.now parts.now)) }
+{
+    let [binder, body] = parts else {
+        return Err(unknown_form(at));
+    };
+    refuse_where(scope >= VARIABLES, COUNT, at)?;
+    let binder = binder_of(theory, binder)?;
+    let body = cond_of(alloc, theory, body, scope + 1)?;
+    Ok(Bound { binder, body })
+}
+
+/// `(some (VAR SORT) COND)`
+#[cycle(conditions)]
+#[tactic(auto, using(crate::proofs::Conds::laws), unfolding(crate::specs::Conditions::some_of))]
+fn some_of(
+    alloc: Global,
+    theory: &Indexed<'_>,
+    scope: usize,
+    at: Place,
+    parts: &[Form],
+) -> Result<DraftCond, TheoryFault>
+    ensures { Answers result (some_of theory.now scope at (cond_parts theory.now parts.now)) }
+{
+    let Bound { binder, body } = bound_of(alloc, theory, scope, at, parts)?;
+    let Binder { var, sort } = binder;
+    Ok(DraftCond::ForSome {
+        var,
+        sort,
+        body: Boxed::new(alloc, body)?,
+        at,
+    })
+}
+
+/// `(all (VAR SORT) COND)`
+#[cycle(conditions)]
+#[tactic(auto, using(crate::proofs::Conds::laws), unfolding(crate::specs::Conditions::all_of))]
+fn all_of(
+    alloc: Global,
+    theory: &Indexed<'_>,
+    scope: usize,
+    at: Place,
+    parts: &[Form],
+) -> Result<DraftCond, TheoryFault>
+    ensures { Answers result (all_of theory.now scope at (cond_parts theory.now parts.now)) }
+{
+    let Bound { binder, body } = bound_of(alloc, theory, scope, at, parts)?;
+    let Binder { var, sort } = binder;
+    Ok(DraftCond::ForAll {
+        var,
+        sort,
+        body: Boxed::new(alloc, body)?,
+        at,
+    })
+}

@@ -1,0 +1,185 @@
+ghost use Rattle.std.specs.Prelude.{◌≡◌, []};
+ghost use Rattle.golog_theory.specs.Reading.{Answers, each};
+ghost use Rattle.golog_theory.specs.Draft.{IsDraft};
+ghost use Rattle.golog_theory.specs.Fluents.{sorts_of, constant_arg, start_value, fluent_of, fluent_item, constants_of, ground_of, start_item};
+ghost use Rattle.golog_theory.specs.Parts.{sort_of};
+
+use crate::draft::Draft;
+use crate::fault::{
+    ARITY, COUNT, DUPLICATE, TheoryFault, UNKNOWN_FORM, UNKNOWN_NAME, refuse_where, unknown_form,
+    unknown_name,
+};
+use crate::heads::{Called, arguments, head_place, head_word};
+use crate::indexed::Indexed;
+use crate::limits::ARGUMENTS;
+use crate::parts::{arg_of, item_no, new_name, parts, sort_of, word};
+use golog_base::{List, is_name};
+use golog_form::Form;
+use golog_tree::{DraftArg, DraftFluent, DraftStart, Place};
+use std::alloc::Global;
+
+#[tactic(auto, using(crate::proofs::Each::laws))]
+fn each_sort_of(
+    alloc: Global,
+    theory: &Indexed<'_>,
+    forms: &[Form],
+) -> Result<List<u32>, TheoryFault>
+    ensures { Answers result (each (λ _. sort_of theory.now) [] forms.now) }
+{
+    let mut sorts = List::new(alloc);
+    for form in forms {
+        sorts.push(sort_of(theory, form)?)?;
+    }
+    Ok(sorts)
+}
+
+/// `(SORTS)`: the sorts of arguments.
+#[tactic(auto, unfolding(crate::specs::Fluents::sorts_of))]
+pub fn sorts_of(alloc: Global, theory: &Indexed<'_>, form: &Form) -> Result<List<u32>, TheoryFault>
+    ensures { Answers result (sorts_of theory.now form.now) }
+{
+    refuse_where(form.items().is_none(), UNKNOWN_FORM, form.at())?;
+    refuse_where(parts(form).len() > ARGUMENTS, COUNT, form.at())?;
+    each_sort_of(alloc, theory, parts(form))
+}
+
+/// A constant.
+#[tactic(auto, unfolding(crate::specs::Fluents::constant_arg))]
+fn constant_arg(theory: &Indexed<'_>, form: &Form) -> Result<DraftArg, TheoryFault>
+    ensures { Answers result (constant_arg theory.now form.now) }
+{
+    let text = word(form);
+    refuse_where(
+        is_name(text) && !theory.is_constant(text),
+        UNKNOWN_NAME,
+        form.at(),
+    )?;
+    arg_of(form)
+}
+
+/// A constant, or nothing for `unknown`.
+#[tactic(auto, unfolding(crate::specs::Fluents::start_value))]
+fn start_value(theory: &Indexed<'_>, form: &Form) -> Result<Option<DraftArg>, TheoryFault>
+    ensures { Answers result (start_value theory.now form.now) }
+{
+    if word(form) == b"unknown".as_slice() {
+        return Ok(None);
+    }
+    let arg = constant_arg(theory, form)?;
+    Ok(Some(arg))
+}
+
+/// `(fluent NAME (SORTS) SORT)`
+#[tactic(auto, unfolding(crate::specs::Fluents::fluent_of))]
+fn fluent_of(
+    alloc: Global,
+    theory: &Indexed<'_>,
+    at: Place,
+    name: &Form,
+    sorts: &Form,
+    sort: &Form,
+) -> Result<DraftFluent, TheoryFault>
+    ensures { Answers result (fluent_of theory.now at name.now sorts.now sort.now) }
+{
+    let name = new_name(theory, name)?;
+    let args = sorts_of(alloc, theory, sorts)?;
+    let sort = sort_of(theory, sort)?;
+    Ok(DraftFluent {
+        name,
+        args,
+        sort,
+        at,
+    })
+}
+
+/// A fluent, and the start value of all its ground fluents, where it is known.
+#[derive(Drop)]
+pub struct FluentItem {
+    pub fluent: DraftFluent,
+    pub value: Option<DraftArg>,
+}
+
+/// A `fluent` item, with or without a start value.
+#[tactic(auto, unfolding(crate::specs::Fluents::fluent_item))]
+pub fn fluent_item(
+    alloc: Global,
+    theory: &Indexed<'_>,
+    at: Place,
+    parts: &[Form],
+) -> Result<FluentItem, TheoryFault>
+    ensures { Answers result (fluent_item theory.now at parts.now) }
+{
+    match parts {
+        [name, sorts, sort] => {
+            let fluent = fluent_of(alloc, theory, at, name, sorts, sort)?;
+            Ok(FluentItem {
+                fluent,
+                value: None,
+            })
+        }
+        [name, sorts, sort, value] => {
+            let fluent = fluent_of(alloc, theory, at, name, sorts, sort)?;
+            let value = start_value(theory, value)?;
+            Ok(FluentItem { fluent, value })
+        }
+        _ => Err(unknown_form(at)),
+    }
+}
+
+/// The constants in a list of arguments.
+#[tactic(auto, using(crate::proofs::Each::laws), unfolding(crate::specs::Fluents::constants_of))]
+fn constants_of(
+    alloc: Global,
+    theory: &Indexed<'_>,
+    forms: &[Form],
+) -> Result<List<DraftArg>, TheoryFault>
+    ensures { Answers result (constants_of theory.now forms.now) }
+{
+    let mut args = List::new(alloc);
+    for form in forms {
+        args.push(constant_arg(theory, form)?)?;
+    }
+    Ok(args)
+}
+
+/// `(FLUENT CONSTANTS)`
+#[tactic(auto, unfolding(crate::specs::Fluents::ground_of))]
+fn ground_of(alloc: Global, theory: &Indexed<'_>, form: &Form) -> Result<Called, TheoryFault>
+    ensures { Answers result (ground_of theory.now form.now) }
+{
+    refuse_where(!is_name(head_word(form)), UNKNOWN_FORM, form.at())?;
+    let Some(fluent) = theory.fluent_no(head_word(form)) else {
+        return Err(unknown_name(head_place(form)));
+    };
+    let arity = theory.fluent_arity(fluent);
+    refuse_where(arguments(form).len() != arity, ARITY, form.at())?;
+    let args = constants_of(alloc, theory, arguments(form))?;
+    let item = item_no(fluent)?;
+    Ok(Called { item, args })
+}
+
+/// `(start (FLUENT CONSTANTS) CONSTANT)`
+#[tactic(auto, unfolding(crate::specs::Fluents::start_item))]
+pub fn start_item(
+    alloc: Global,
+    draft: &Draft,
+    at: Place,
+    parts: &[Form],
+) -> Result<DraftStart, TheoryFault>
+    requires { IsDraft draft.now }
+    ensures { Answers result (start_item draft.now.theory at parts.now) }
+{
+    let [fluent, value] = parts else {
+        return Err(unknown_form(at));
+    };
+    let Called { item, args } = ground_of(alloc, &draft.indexed(), fluent)?;
+    let started = draft.is_started(item, args.as_slice())?;
+    refuse_where(started, DUPLICATE, at)?;
+    let value = start_value(&draft.indexed(), value)?;
+    Ok(DraftStart::One {
+        fluent: item,
+        args,
+        value,
+        at,
+    })
+}

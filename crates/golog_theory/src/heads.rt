@@ -1,0 +1,163 @@
+ghost use Rattle.std.specs.Prelude.{◌≡◌, []};
+ghost use Rattle.golog_theory.specs.Reading.{Answers, each};
+ghost use Rattle.golog_theory.specs.Heads.{head_word, head_place, arguments, args_of, fluent_called, action_called, var_of, schema_of};
+
+use crate::fault::{
+    ARITY, DUPLICATE, TheoryFault, UNKNOWN_FORM, UNKNOWN_NAME, refuse_where, unknown_name,
+};
+use crate::indexed::Indexed;
+use crate::names::{Actions, is_among};
+use crate::parts::{arg_of, item_no, parts, short_name, word};
+use golog_base::{List, Word, is_name};
+use golog_form::Form;
+use golog_tree::{DraftArg, Place};
+use std::alloc::Global;
+
+/// The word that a list begins with, and no text where there is none.
+pub fn head_word(form: &Form) -> &[u8]
+    ensures { result.now ≡ head_word form.now }
+{
+    match parts(form).split_first() {
+        Some((head, _arguments)) => word(head),
+        None => &[],
+    }
+}
+
+/// The place where the first part of a list begins.
+pub fn head_place(form: &Form) -> Place
+    ensures { result ≡ head_place form.now }
+{
+    match parts(form).split_first() {
+        Some((head, _arguments)) => head.at(),
+        None => form.at(),
+    }
+}
+
+/// The parts behind the first.
+pub fn arguments(form: &Form) -> &[Form]
+    ensures { result.now ≡ arguments form.now }
+{
+    match parts(form).split_first() {
+        Some((_head, arguments)) => arguments,
+        None => &[],
+    }
+}
+
+/// The words and numbers in a list of arguments.
+#[tactic(auto, using(crate::proofs::Each::laws), unfolding(crate::specs::Heads::args_of))]
+pub fn args_of(alloc: Global, forms: &[Form]) -> Result<List<DraftArg>, TheoryFault>
+    ensures { Answers result (args_of forms.now) }
+{
+    let mut args = List::new(alloc);
+    for form in forms {
+        args.push(arg_of(form)?)?;
+    }
+    Ok(args)
+}
+
+/// A fluent or an action, and its arguments.
+#[derive(Drop)]
+pub struct Called {
+    pub item: u32,
+    pub args: List<DraftArg>,
+}
+
+/// `(FLUENT ARGS)`
+#[tactic(auto, unfolding(crate::specs::Heads::fluent_called))]
+pub fn fluent_called(
+    alloc: Global,
+    theory: &Indexed<'_>,
+    form: &Form,
+) -> Result<Called, TheoryFault>
+    ensures { Answers result (fluent_called theory.now form.now) }
+{
+    refuse_where(!is_name(head_word(form)), UNKNOWN_FORM, form.at())?;
+    let Some(fluent) = theory.fluent_no(head_word(form)) else {
+        return Err(unknown_name(head_place(form)));
+    };
+    let arity = theory.fluent_arity(fluent);
+    refuse_where(arguments(form).len() != arity, ARITY, form.at())?;
+    let args = args_of(alloc, arguments(form))?;
+    let item = item_no(fluent)?;
+    Ok(Called { item, args })
+}
+
+/// `(ACTION ARGS)`
+#[tactic(auto, unfolding(crate::specs::Heads::action_called))]
+pub fn action_called(
+    alloc: Global,
+    theory: &Indexed<'_>,
+    form: &Form,
+) -> Result<Called, TheoryFault>
+    ensures { Answers result (action_called theory.now form.now) }
+{
+    refuse_where(!is_name(head_word(form)), UNKNOWN_FORM, form.at())?;
+    let Some(action) = theory.action_no(head_word(form)) else {
+        return Err(unknown_name(head_place(form)));
+    };
+    let arity = theory.action_arity(action);
+    refuse_where(arguments(form).len() != arity, ARITY, form.at())?;
+    let args = args_of(alloc, arguments(form))?;
+    let item = item_no(action)?;
+    Ok(Called { item, args })
+}
+
+/// A word for an argument of an action, behind those before it.
+#[tactic(auto, unfolding(crate::specs::Heads::var_of))]
+fn var_of(theory: &Indexed<'_>, before: &[Word], form: &Form) -> Result<Word, TheoryFault>
+    ensures { Answers result (var_of theory.now before.now form.now) }
+{
+    let name = word(form);
+    refuse_where(
+        !is_name(name) || theory.is_constant(name),
+        UNKNOWN_FORM,
+        form.at(),
+    )?;
+    refuse_where(is_among(name, before), DUPLICATE, form.at())?;
+    short_name(form)
+}
+
+#[tactic(auto, using(crate::proofs::Each::laws))]
+fn vars_of(alloc: Global, theory: &Indexed<'_>, forms: &[Form]) -> Result<List<Word>, TheoryFault>
+    ensures { Answers result (each (var_of theory.now) [] forms.now) }
+{
+    let mut vars = List::new(alloc);
+    for form in forms {
+        let var = var_of(theory, vars.as_slice(), form)?;
+        vars.push(var)?;
+    }
+    Ok(vars)
+}
+
+/// An action, and a word for each of its arguments.
+#[derive(Drop)]
+pub struct Schema {
+    pub action: u32,
+    pub vars: List<Word>,
+}
+
+/// `(ACTION VARS)`, the action being one of these.
+#[tactic(auto, unfolding(crate::specs::Heads::schema_of))]
+pub fn schema_of(
+    alloc: Global,
+    theory: &Indexed<'_>,
+    actions: Actions,
+    form: &Form,
+) -> Result<Schema, TheoryFault>
+    ensures { Answers result (schema_of theory.now actions form.now) }
+{
+    refuse_where(!is_name(head_word(form)), UNKNOWN_FORM, form.at())?;
+    let Some(action) = theory.action_no(head_word(form)) else {
+        return Err(unknown_name(head_place(form)));
+    };
+    refuse_where(
+        !theory.allows(actions, action),
+        UNKNOWN_NAME,
+        head_place(form),
+    )?;
+    let arity = theory.action_arity(action);
+    refuse_where(arguments(form).len() != arity, ARITY, form.at())?;
+    let vars = vars_of(alloc, theory, arguments(form))?;
+    let action = item_no(action)?;
+    Ok(Schema { action, vars })
+}

@@ -1,0 +1,40 @@
+ghost use Rattle.std.specs.Prelude.{◌≡◌};
+ghost use Rattle.std.specs.List.{list_any};
+ghost use Rattle.golog_theory.specs.Names.{same, is_reserved};
+
+use golog_base::Word;
+
+/// Whether no item declares the name, since it is a word of the grammar or built in.
+#[tactic(auto, unfolding(crate::specs::Names::is_reserved))]
+pub fn is_reserved(name: &[u8]) -> bool
+    ensures { result ≡ is_reserved name.now }
+{
+    name == b"true".as_slice()
+        || name == b"false".as_slice()
+        || name == b"unknown".as_slice()
+        || name == b"nil".as_slice()
+        || name == b"bool".as_slice()
+        || name == b"not".as_slice()
+        || name == b"and".as_slice()
+        || name == b"or".as_slice()
+        || name == b"some".as_slice()
+        || name == b"all".as_slice()
+        || name == b"interrupts_running".as_slice()
+        || name == b"start_interrupts".as_slice()
+        || name == b"stop_interrupts".as_slice()
+}
+
+/// Whether the word is among the words.
+pub fn is_among(word: &[u8], words: &[Word]) -> bool
+    ensures { result ≡ list_any (same word.now) words.now }
+{
+    words.iter().any(|other| word == other.as_bytes())
+}
+
+/// The actions that may stand in a place.
+#[derive(Clone, Copy)]
+pub enum Actions {
+    /// Those of the program: not built in, and posted by no device.
+    OfProgram,
+    All,
+}
