@@ -1,0 +1,213 @@
+-- Arguments that are not refused are of the sorts of their places.
+use Rattle.std.proofs.Common.{◌≡◌, ℕ, ℤ, suc, ◌<◌, ◌≤◌, Bool, true, false, ◌&&◌, ◌==◌, if◌then◌else◌, List, [], ◌∷◌, ◌++◌, length, refl, sym, ap, subst, ◌∙◌, Option, Some, None, Ok, arith}
+use Rattle.std.specs.Prelude.{not, nat_lt, int_lt, ◌-ℤ◌, ◌+ℤ◌, ◌≤ℤ◌, ◌<ℤ◌, T, pos, negsuc, slice_get, option_map, option_and_then}
+use Rattle.std.specs.Option.{option_map_or}
+use Rattle.std.proofs.lemmas.Bool.{eqb-true, lt-ltb}
+use Rattle.std.proofs.lemmas.Int.{ints, by_lt_z}
+use Rattle.std.proofs.lemmas.List.Quantifiers.{position-Some}
+use Rattle.golog_tree.specs.declared.agent.Agent.{Agent}
+use Rattle.golog_tree.specs.declared.agent.SortItem.{SortItem}
+use Rattle.golog_tree.specs.declared.agent.SortItem.TheVariants.{Range, Listed}
+use Rattle.golog_tree.specs.declared.cond.Arg.{Arg}
+use Rattle.golog_tree.specs.declared.cond.Arg.TheVariants.{Const, Var}
+use Rattle.golog_tree.specs.declared.draft_cond.DraftArg.{DraftArg}
+use Rattle.golog_tree.specs.declared.draft_cond.DraftArg.TheVariants.{Word, Number}
+use Rattle.golog_tree.specs.Ground.{to_count, item_size, size_at, sort_size}
+use Rattle.golog_semantics.specs.Reading.{found, each}
+use Rattle.golog_semantics.specs.Fits as fits
+use Rattle.golog_semantics.specs.Fits.{arg_fits, args_fit}
+use Rattle.golog_check.specs.declared.scope.Meant.{Meant}
+use Rattle.golog_check.specs.declared.fault.TheConstants.{SORT_CLASH, UNBOUND}
+use Rattle.golog_check.specs.DeclaredItems.{Declared}
+use Rattle.golog_check.specs.Sorts.{same, place_of_word, place_of_number, listing, constant_of, constant, number_in}
+use Rattle.golog_check.specs.Scope.{Scope, variable_no, innermost, or_else, meaning}
+use Rattle.golog_check.specs.Terms.{is_other, arg_place, arg_sort, arg_as, arg_in, next_arg, args_in}
+use Rattle.golog_check.specs.CheckLaws.{HasItems, Binds, ArgsFit}
+use Rattle.golog_check.proofs.Readings.{both, past, found-it, ok-same}
+
+pub same-number : (n : ℕ) → (n == n) ≡ true
+same-number n = grind arith
+
+pub some-same : {A : Type 0} (x y : A) → Some x ≡ Some y → x ≡ y
+some-same x y h = cc
+
+pub none-not : {A : Type 0} (x : A) → None ≡ Some x → ⊥
+none-not x h = cc
+
+-- a sort that is no other is this one
+pub no-other : (own sort : ℕ) → is_other (Some own) sort ≡ false → own ≡ sort
+no-other own sort h = go (own == sort) refl h
+  where
+    go : (b : Bool) → (own == sort) ≡ b → not b ≡ false → own ≡ sort
+    go true e k = eqb-true own sort e
+    go false e k = absurd (let z : true ≡ false = k in cc)
+
+pub below : (n m : ℕ) → n < m → nat_lt n m ≡ true
+below n m h = lt-ltb n m h
+
+not-less : (a b : ℤ) → int_lt a b ≡ false → b ≤ℤ a
+not-less a b h = by_lt_z a b (λ less. absurd (go (int_lt a b) less.lt h)) (λ no. no)
+  where
+    go : (c : Bool) → T c → c ≡ false → ⊥
+    go true t e = absurd (let z : true ≡ false = e in cc)
+    go false t e = t
+
+count-less : (z w : ℤ) → pos 0 ≤ℤ z → z <ℤ w → to_count z < to_count w
+count-less (pos n) (pos m) h k = omega (arith, ints, k)
+count-less (pos n) (negsuc m) h k = absurd (omega (arith, ints, k))
+count-less (negsuc n) w h k = absurd (omega (arith, ints, h))
+
+-- a number of a range has its place there
+in-range : (number low high : ℤ) (place : ℕ) → place_of_number number (Range [] low high) ≡ Some place → place < to_count (high -ℤ low +ℤ pos 1)
+in-range number low high place h = go (int_lt number low) refl (int_lt high number) refl h
+  where
+    go : (b : Bool) → int_lt number low ≡ b → (c : Bool) → int_lt high number ≡ c → (if not b && not c then Some (to_count (number -ℤ low)) else None) ≡ Some place
+        → place < to_count (high -ℤ low +ℤ pos 1)
+    go true e c k h = absurd (none-not place h)
+    go false e true k h = absurd (none-not place h)
+    go false e false k h =
+        subst (λ p. p < to_count (high -ℤ low +ℤ pos 1)) (some-same (to_count (number -ℤ low)) place h)
+        (count-less (number -ℤ low) (high -ℤ low +ℤ pos 1) (omega (arith, ints, not-less number low e)) (omega (arith, ints, not-less high number k)))
+
+number-place : (number : ℤ) (item : SortItem) (place : ℕ) → place_of_number number item ≡ Some place → place < item_size item
+number-place number (Range name low high) place h = in-range number low high place h
+number-place number (Listed name constants) place h = absurd (none-not place h)
+
+word-place : (word : List ℕ) (item : SortItem) (place : ℕ) → place_of_word word item ≡ Some place → place < item_size item
+word-place word (Range name low high) place h = absurd (none-not place h)
+word-place word (Listed name constants) place h = (position-Some (same word) constants place [] h).0
+
+module _ (agent : Agent) (names : Declared) (has : HasItems agent names) where
+  -- a place in the sort with the number is a constant of it
+  sized : (sort place : ℕ) (item : SortItem) → slice_get names.sorts sort ≡ Some item → place < item_size item → nat_lt place (sort_size agent sort) ≡ true
+  sized sort place item e h =
+      let there : slice_get agent.sorts sort ≡ Some item = ap (λ items. slice_get items sort) has.sorts ∙ e in
+      below place (sort_size agent sort) (subst (λ o. place < size_at o) (sym there) h)
+
+  number-fits-at : (sort : ℕ) (number : ℤ) (place : ℕ) (o : Option SortItem) → slice_get names.sorts sort ≡ o → option_and_then (place_of_number number) o ≡ Some place → nat_lt place (sort_size agent sort) ≡ true
+  number-fits-at sort number place None e h = absurd (none-not place h)
+  number-fits-at sort number place (Some item) e h = sized sort place item e (number-place number item place h)
+
+  number-fits : (sort : ℕ) (number : ℤ) (place : ℕ) → number_in names sort number ≡ Some place → nat_lt place (sort_size agent sort) ≡ true
+  number-fits sort number place h = number-fits-at sort number place (slice_get names.sorts sort) refl h
+
+  module _ (bound : fits.Scope) where
+    -- what a word means is of its sort
+    abbrev pub MeansOne : Option Meant → Type 0
+    MeansOne o = (meant : Meant) → o ≡ Some meant → arg_fits agent bound meant.sort meant.arg ≡ true
+
+    constant-at : (word : List ℕ) (sort : ℕ) (o : Option SortItem) → slice_get names.sorts sort ≡ o → (p : Option ℕ) → option_and_then (place_of_word word) o ≡ p
+        → MeansOne (option_map (λ place. record { arg = Const place; sort = sort }) p)
+    constant-at word sort o e None k meant h = absurd (none-not meant h)
+    constant-at word sort None e (Some place) k meant h = absurd (none-not place k)
+    constant-at word sort (Some item) e (Some place) k meant h =
+        subst (λ (m : Meant). arg_fits agent bound m.sort m.arg ≡ true) (some-same _ meant h) (sized sort place item e (word-place word item place k))
+
+    constant-of : (word : List ℕ) (o : Option ℕ) → MeansOne (option_and_then (constant_of names word) o)
+    constant-of word None meant h = absurd (none-not meant h)
+    constant-of word (Some sort) meant h = constant-at word sort (slice_get names.sorts sort) refl (option_and_then (place_of_word word) (slice_get names.sorts sort)) refl meant h
+
+    pub constant-fits : (word : List ℕ) (at : ℕ) → MeansOne (constant names word at)
+    unfolding constant
+    constant-fits word at meant h = constant-of word (listing names word at) meant h
+
+    var-fits : (outer : Scope) (sort : ℕ) → bound (length outer) ≡ Some sort → length outer ≤ 32 → arg_fits agent bound sort (Var (variable_no outer)) ≡ true
+    var-fits outer sort e few =
+        let n : variable_no outer ≡ length outer = omega arith in
+        ap (λ o. option_map_or (λ s. s == sort) o false) (ap bound n ∙ e) ∙ same-number sort
+
+    pub innermost-fits : (scope : Scope) → Binds agent bound scope → length scope ≤ 32 → (word : List ℕ) → MeansOne (innermost scope word)
+    innermost-fits [] binds few word meant h = absurd (none-not meant h)
+    innermost-fits (v ∷ outer) binds few word meant h = go (innermost-fits outer binds.1 (omega (arith, few)) word meant) (same word v.word) h
+      where
+        go : (innermost outer word ≡ Some meant → arg_fits agent bound meant.sort meant.arg ≡ true)
+            → (b : Bool) → (if b then Some (record { arg = Var (variable_no outer); sort = v.sort }) else innermost outer word) ≡ Some meant → arg_fits agent bound meant.sort meant.arg ≡ true
+        go rest true k = subst (λ (m : Meant). arg_fits agent bound m.sort m.arg ≡ true) (some-same _ meant k) (var-fits outer v.sort binds.0.0 (omega (arith, few)))
+        go rest false k = rest k
+
+    module _ (scope : Scope) (binds : Binds agent bound scope) (few : length scope ≤ 32) where
+      pub meaning-fits : (word : List ℕ) (at : ℕ) → MeansOne (meaning names scope word at)
+      meaning-fits word at meant h = go (innermost scope word) refl h
+        where
+          go : (o : Option Meant) → innermost scope word ≡ o → or_else o (constant names word at) ≡ Some meant → arg_fits agent bound meant.sort meant.arg ≡ true
+          go (Some m) e k = innermost-fits scope binds few word meant (e ∙ k)
+          go None e k = constant-fits word at meant k
+
+      word-as : (sort : ℕ) (o : Option Meant) → MeansOne o → is_other (option_map (λ (m : Meant). m.sort) o) sort ≡ false → (a : Arg) → option_map (λ (m : Meant). m.arg) o ≡ Some a → arg_fits agent bound sort a ≡ true
+      word-as sort None means other a h = absurd (none-not a h)
+      word-as sort (Some m) means other a h =
+          subst (λ x. arg_fits agent bound sort x ≡ true) (some-same m.arg a h) (subst (λ s. arg_fits agent bound s m.arg ≡ true) (no-other m.sort sort other) (means m refl))
+
+      number-as : (sort : ℕ) (o : Option ℕ) → ((place : ℕ) → o ≡ Some place → nat_lt place (sort_size agent sort) ≡ true) → (a : Arg) → option_map Const o ≡ Some a → arg_fits agent bound sort a ≡ true
+      number-as sort None means a h = absurd (none-not a h)
+      number-as sort (Some place) means a h = subst (λ x. arg_fits agent bound sort x ≡ true) (some-same (Const place) a h) (means place refl)
+
+      pub arg-as-fits : (sort : ℕ) (draft : DraftArg) (a : Arg) → (arg_as names scope sort draft).outcome ≡ Ok a → is_other (arg_sort names scope draft) sort ≡ false → arg_fits agent bound sort a ≡ true
+      arg-as-fits sort (Word word at) a h other = word-as sort (meaning names scope word at) (meaning-fits word at) other a (found-it UNBOUND at (option_map (λ (m : Meant). m.arg) (meaning names scope word at)) a h)
+      arg-as-fits sort (Number number at) a h other = number-as sort (number_in names sort number) (number-fits sort number) a (found-it SORT_CLASH at (option_map Const (number_in names sort number)) a h)
+
+      pub arg-fits : (sort : ℕ) (draft : DraftArg) (a : Arg) → (arg_in names scope sort draft).outcome ≡ Ok a → arg_fits agent bound sort a ≡ true
+      unfolding arg_in
+      arg-fits sort draft a h =
+          let p = past (is_other (arg_sort names scope draft) sort) SORT_CLASH (arg_place draft) (arg_as names scope sort draft) a h in
+          arg-as-fits sort draft a p.rest p.none
+
+      get-middle : (front rest : List ℕ) (sort : ℕ) → slice_get (front ++ sort ∷ rest) (length front) ≡ Some sort
+      get-middle [] rest sort = refl
+      get-middle (s ∷ front) rest sort = get-middle front rest sort
+
+      fit-length : (front : List ℕ) (args : List Arg) → args_fit agent bound front args ≡ true → length args ≡ length front
+      fit-length [] [] h = refl
+      fit-length [] (a ∷ args) h = absurd (cc)
+      fit-length (s ∷ front) [] h = absurd (cc)
+      fit-length (s ∷ front) (a ∷ args) h = ap suc (fit-length front args (right (arg_fits agent bound s a) (args_fit agent bound front args) h))
+        where
+          right : (b c : Bool) → (b && c) ≡ true → c ≡ true
+          right true c k = k
+          right false c k = absurd (cc)
+
+      fit-more : (front : List ℕ) (args : List Arg) (sort : ℕ) (arg : Arg) → args_fit agent bound front args ≡ true → arg_fits agent bound sort arg ≡ true → args_fit agent bound (front ++ sort ∷ []) (args ++ arg ∷ []) ≡ true
+      fit-more [] [] sort arg h k = ap (λ b. b && true) k
+      fit-more [] (a ∷ args) sort arg h k = absurd (cc)
+      fit-more (s ∷ front) [] sort arg h k = absurd (cc)
+      fit-more (s ∷ front) (a ∷ args) sort arg h k = step (arg_fits agent bound s a) (args_fit agent bound front args) (args_fit agent bound (front ++ sort ∷ []) (args ++ arg ∷ [])) (λ j. fit-more front args sort arg j k) h
+        where
+          step : (b c d : Bool) → (c ≡ true → d ≡ true) → (b && c) ≡ true → (b && d) ≡ true
+          step true c d f e = f e
+          step false c d f e = absurd (cc)
+
+      append-one : (front rest : List ℕ) (sort : ℕ) → (front ++ sort ∷ []) ++ rest ≡ front ++ sort ∷ rest
+      append-one [] rest sort = refl
+      append-one (s ∷ front) rest sort = ap (λ xs. s ∷ xs) (append-one front rest sort)
+
+      append-none : (front : List ℕ) → front ++ [] ≡ front
+      append-none [] = refl
+      append-none (s ∷ front) = ap (λ xs. s ∷ xs) (append-none front)
+
+      next-fits : (front rest : List ℕ) (sort : ℕ) (done : List Arg) (draft : DraftArg) (a : Arg) → length done ≡ length front
+          → (next_arg names scope (front ++ sort ∷ rest) done draft).outcome ≡ Ok a → arg_fits agent bound sort a ≡ true
+      unfolding next_arg
+      next-fits front rest sort done draft a long h =
+          let b = both (found SORT_CLASH (arg_place draft) (slice_get (front ++ sort ∷ rest) (length done))) (λ s. arg_in names scope s draft) a h in
+          let e = found-it SORT_CLASH (arg_place draft) (slice_get (front ++ sort ∷ rest) (length done)) b.value b.one in
+          let is : sort ≡ b.value = some-same sort b.value (sym (ap (slice_get (front ++ sort ∷ rest)) long ∙ get-middle front rest sort) ∙ e) in
+          subst (λ s. arg_fits agent bound s a ≡ true) (sym is) (arg-fits b.value draft a b.other)
+
+      each-fits : (drafts : List DraftArg) (front rest : List ℕ) (done result : List Arg) → length drafts ≡ length rest → args_fit agent bound front done ≡ true
+          → (each (next_arg names scope (front ++ rest)) done drafts).outcome ≡ Ok result → args_fit agent bound (front ++ rest) result ≡ true
+      each-fits [] front [] done result long h k =
+          subst (λ ss. args_fit agent bound ss result ≡ true) (sym (append-none front)) (subst (λ xs. args_fit agent bound front xs ≡ true) (ok-same done result k) h)
+      each-fits [] front (s ∷ rest) done result long h k = absurd (cc)
+      each-fits (d ∷ drafts) front [] done result long h k = absurd (cc)
+      each-fits (d ∷ drafts) front (s ∷ rest) done result long h k =
+          let b = both (next_arg names scope (front ++ s ∷ rest) done d) (λ x. each (next_arg names scope (front ++ s ∷ rest)) (done ++ x ∷ []) drafts) result k in
+          let fit = next-fits front rest s done d b.value (fit-length front done h) b.one in
+          subst (λ ss. args_fit agent bound ss result ≡ true) (append-one front rest s)
+          (each-fits drafts (front ++ s ∷ []) rest (done ++ b.value ∷ []) result (omega (arith, long)) (fit-more front done s b.value h fit)
+          (subst (λ ss. (each (next_arg names scope ss) (done ++ b.value ∷ []) drafts).outcome ≡ Ok result) (sym (append-one front rest s)) b.other))
+
+      pub args-fit-in : (sorts : List ℕ) (drafts : List DraftArg) → length drafts ≡ length sorts → (args : List Arg) → (args_in names scope sorts drafts).outcome ≡ Ok args → args_fit agent bound sorts args ≡ true
+      args-fit-in sorts drafts long args h = each-fits drafts [] sorts [] args long refl h
+
+pub args-fit : ArgsFit
+args-fit agent names has bound scope binds few sorts drafts long args h = args-fit-in agent names has bound scope binds few sorts drafts long args h

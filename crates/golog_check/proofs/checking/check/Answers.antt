@@ -1,0 +1,7 @@
+use Rattle.golog_check.proofs.MadeWhole.{well-formed}
+use Rattle.golog_check.proofs.checking.check.Goals as goal
+
+pub returns-in-Ok-clause-well_formed : goal.returns-in-Ok-clause-well_formed
+returns-in-Ok-clause-well_formed c =
+    well-formed c.args.theory.now c.args.program.now c.requires.keeps c.requires.plain c.requires.program_keeps
+    c.answer.result c.answer.ensures

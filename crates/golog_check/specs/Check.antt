@@ -1,0 +1,116 @@
+-- The agent that a draft makes, and the refusals of a draft.
+use Rattle.std.specs.Prelude.{◌≡◌, not, nat_le, Bool, true, false, ◌&&◌, IsTrue, Result, Ok, Err, List, [], ◌∷◌, ◌++◌, map}
+use Rattle.std.specs.List.{list_all}
+use Rattle.golog_tree.specs.declared.agent.Agent.{Agent}
+use Rattle.golog_tree.specs.declared.prog.Prog.{Prog}
+use Rattle.golog_tree.specs.declared.prog.Prog.TheVariants as prog
+use Rattle.golog_tree.specs.declared.draft.DraftTheory.{DraftTheory}
+use Rattle.golog_tree.specs.declared.draft.DraftProgram.{DraftProgram}
+use Rattle.golog_tree.specs.declared.draft.DraftDevice.{DraftDevice}
+use Rattle.golog_tree.specs.declared.draft.DraftMain.{DraftMain}
+use Rattle.golog_tree.specs.declared.draft_prog.DraftProg.{DraftProg}
+use Rattle.golog_tree.specs.declared.draft_prog.DraftProg.TheOpen.{DraftProg-F, Nil, Act, Test, Seq, Choice, Pick, Star, If, While, Conc, Prio, Cstar, Call, Search}
+use Rattle.golog_tree.specs.declared.draft_prog.DraftProg.TheFolds.{fold-DraftProg}
+use Rattle.golog_tree.specs.Ground.{ground_fluents}
+use Rattle.golog_semantics.specs.Reading.{Reading, row}
+use Rattle.golog_check.specs.declared.fault.CheckFault.{CheckFault}
+use Rattle.golog_check.specs.declared.fault.CheckFault.TheVariants.{Refused, Memory}
+use Rattle.golog_check.specs.declared.fault.TheConstants.{FRONT_DEEP}
+use Rattle.golog_check.specs.declared.nesting.TheConstants.{MAIN_NEST}
+use Rattle.golog_check.specs.declared.starts.Start.{Start}
+use Rattle.golog_check.specs.DeclaredItems.{Declared, sort_item, fluent_item, action_item, declared_by}
+use Rattle.golog_check.specs.Least.{CodeAt, IsLeast, refusals, given}
+use Rattle.golog_check.specs.Sums.{fluent_sum, action_sum}
+use Rattle.golog_check.specs.Starts.{start_in, start_value}
+use Rattle.golog_check.specs.Effects.{poss_in, cause_in, senses_in}
+use Rattle.golog_check.specs.DraftNest.{draft_nest}
+use Rattle.golog_check.specs.Programs.{prog_in}
+
+-- a program without calls and without search blocks, given its parts
+abbrev pub plain_step : DraftProg-F Bool → Bool
+plain_step (Nil at) = true
+plain_step (Act action args at) = true
+plain_step (Test c at) = true
+plain_step (Seq ps at) = list_all (λ p. p) ps
+plain_step (Choice ps at) = list_all (λ p. p) ps
+plain_step (Pick var sort p at) = p
+plain_step (Star p at) = p
+plain_step (If c p q at) = p && q
+plain_step (While c p at) = p
+plain_step (Conc ps at) = list_all (λ p. p) ps
+plain_step (Prio ps at) = list_all (λ p. p) ps
+plain_step (Cstar p at) = p
+plain_step (Call item args at) = false
+plain_step (Search depth fuel p at) = false
+
+abbrev pub is_plain : DraftProg → Bool
+is_plain = fold-DraftProg Bool plain_step
+
+-- no procedure, no call and no search block
+pub record IsPlain (program : DraftProgram) : Type 0 where
+  pub procs : program.procs ≡ []
+  pub main : IsTrue (is_plain program.main.body)
+
+-- The program of `main`, with no variable in scope. It is refused where it nests too deep.
+unfoldable pub main_in : Declared → DraftMain → Reading Prog
+main_in names main =
+    row (not (nat_le (draft_nest main.body) MAIN_NEST)) FRONT_DEEP main.at (prog_in names main.body [])
+
+module _ (theory : DraftTheory) where
+  -- what a theory declares, with nothing said of it yet
+  abbrev pub bare : Agent
+  bare = record {
+    sorts = map sort_item theory.sorts;
+    fluents = map fluent_item theory.fluents;
+    actions = map action_item theory.actions;
+    devices = map (λ (device : DraftDevice). device.name) theory.devices;
+    poss = [];
+    causes = [];
+    senses = [];
+    starts = [];
+    procs = [];
+    main = prog.Nil;
+  }
+
+  -- the start values that items give
+  abbrev pub starts_of : Declared → List Start
+  starts_of names = given (map (start_in names) theory.starts)
+
+-- The refusals of a theory and a program: of each item the first row that fits, if one does.
+abbrev pub refusals_in : Declared → DraftTheory → DraftMain → List CodeAt
+refusals_in names theory main =
+    refusals (fluent_sum theory ∷ [])
+    ++ refusals (action_sum theory ∷ [])
+    ++ refusals (map (start_in names) theory.starts)
+    ++ refusals (map (poss_in names) theory.poss)
+    ++ refusals (map (cause_in names) theory.causes)
+    ++ refusals (senses_in names [] theory.senses)
+    ++ refusals (main_in names main ∷ [])
+
+abbrev pub main_of : Result Prog CodeAt → Prog
+main_of (Ok p) = p
+main_of (Err refusal) = prog.Nil
+
+module _ (theory : DraftTheory) (program : DraftProgram) where
+  abbrev pub names_of : Declared
+  names_of = declared_by theory program.procs
+
+  abbrev pub all_refusals : List CodeAt
+  all_refusals = refusals_in names_of theory program.main
+
+  -- The agent: the draft without places, its words resolved, with a start value for each ground fluent.
+  abbrev pub agent_of : Agent
+  agent_of = record (bare theory) {
+    poss = given (map (poss_in names_of) theory.poss);
+    causes = given (map (cause_in names_of) theory.causes);
+    senses = given (senses_in names_of [] theory.senses);
+    starts = map (start_value (starts_of theory names_of)) (ground_fluents (bare theory));
+    main = main_of (main_in names_of program.main).outcome;
+  }
+
+-- What a check of a draft answers: its agent where nothing is refused, else the least refusal, unless memory
+-- ran out.
+abbrev pub Checks : Result Agent CheckFault → DraftTheory → DraftProgram → Type 0
+Checks (Ok agent) theory program = (all_refusals theory program ≡ []) × (agent ≡ agent_of theory program)
+Checks (Err (Refused code at)) theory program = IsLeast code at (all_refusals theory program)
+Checks (Err Memory) theory program = Unit {0}

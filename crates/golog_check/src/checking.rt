@@ -1,0 +1,269 @@
+ghost use Rattle.std.specs.Prelude.{◌≡◌, ◌<◌, [], ◌∷◌, List, length, map, All, IfOk};
+ghost use Rattle.golog_tree.specs.declared.draft.DraftSense.{DraftSense};
+ghost use Rattle.golog_tree.specs.declared.draft.DraftTheory.{DraftTheory};
+ghost use Rattle.golog_tree.specs.declared.draft.DraftMain.{DraftMain};
+ghost use Rattle.golog_tree.specs.declared.prog.Prog.{Prog};
+ghost use Rattle.golog_tree.specs.Ground.{IsCountable, ground_fluents};
+ghost use Rattle.golog_semantics.specs.Drafts.{TheoryKeeps, ProgramKeeps};
+ghost use Rattle.golog_semantics.specs.WellFormed.{WellFormed};
+ghost use Rattle.golog_semantics.specs.Reading.{Reading};
+ghost use Rattle.golog_check.specs.Faults.{Answers};
+ghost use Rattle.golog_check.specs.Checked.{IsChecked};
+ghost use Rattle.golog_check.specs.DeclaredItems.{Declared, sort_item};
+ghost use Rattle.golog_check.specs.Sums.{AreSmall, HaveFewArgs, fluent_counted, action_counted};
+ghost use Rattle.golog_check.specs.Least.{IsLeastOf, given};
+ghost use Rattle.golog_check.specs.Starts.{start_value};
+ghost use Rattle.golog_check.specs.Check.{IsPlain, Checks, bare as spec_bare, main_in as spec_main_in, main_of as spec_main_of, names_of, refusals_in};
+ghost use Rattle.golog_check.specs.Parts.{AreParts};
+
+use crate::checked::Checked;
+use crate::copies::{copy_actions, copy_devices, copy_fluents, copy_sorts, sort_places};
+use crate::effects::{cause_items_in, poss_items_in};
+use crate::fault::{CheckFault, FRONT_DEEP, refuse_where};
+use crate::least::{Refusal, least_of};
+use crate::names::Names;
+use crate::nesting::{MAIN_NEST, nests_within};
+use crate::programs::prog_in;
+use crate::sensing::sense_items_in;
+use crate::start_values::initial_values;
+use crate::starts::{Start, starts_in};
+use crate::sums::{GROUND_ACTIONS, GROUND_FLUENTS, sum_passes};
+use golog_base::{List, NoMemory};
+use golog_tree::{
+    Agent, CauseItem, DraftMain, DraftProgram, DraftTheory, PossItem, Prog, SenseItem, SortItem,
+};
+use std::alloc::Global;
+
+/// What a theory declares, with nothing said of it yet.
+fn bare(alloc: Global, theory: &DraftTheory) -> Result<Agent, NoMemory>
+    ensures { IfOk result (λ agent. agent ≡ spec_bare theory.now) }
+{
+    let sorts = copy_sorts(alloc, theory.sorts.as_slice())?;
+    let fluents = copy_fluents(alloc, theory.fluents.as_slice())?;
+    let actions = copy_actions(alloc, theory.actions.as_slice())?;
+    let devices = copy_devices(alloc, theory.devices.as_slice())?;
+    Ok(Agent {
+        sorts,
+        fluents,
+        actions,
+        devices,
+        poss: List::new(alloc),
+        causes: List::new(alloc),
+        senses: List::new(alloc),
+        starts: List::new(alloc),
+        procs: List::new(alloc),
+        main: Prog::Nil,
+    })
+}
+
+/// The program of `main`, with no variable in scope. It is refused where it nests too deep.
+#[tactic(auto, unfolding(crate::specs::Check::main_in))]
+fn main_in(alloc: Global, names: &Names<'_>, main: &DraftMain) -> Result<Prog, CheckFault>
+    ensures { Answers result (spec_main_in names.now main.now) }
+{
+    let is_deep = !nests_within(&main.body, MAIN_NEST);
+    refuse_where(is_deep, FRONT_DEEP, main.at)?;
+    prog_in(alloc, names, &[], &main.body)
+}
+
+/// The parts of a draft as they were checked.
+#[derive(Drop)]
+pub struct Parts {
+    pub fluent_sum: Option<Refusal>,
+    pub action_sum: Option<Refusal>,
+    pub starts: Checked<Start>,
+    pub poss: Checked<PossItem>,
+    pub causes: Checked<CauseItem>,
+    pub senses: Checked<SenseItem>,
+    pub main: Checked<Prog>,
+}
+
+fn main_checked(
+    alloc: Global,
+    names: &Names<'_>,
+    main: &DraftMain,
+) -> Result<Checked<Prog>, NoMemory>
+    ensures { IfOk result (λ checked. IsChecked checked (spec_main_in names.now main.now ∷ [])) }
+{
+    let mut checked = Checked::new(alloc);
+    checked.add(main_in(alloc, names, main))?;
+    Ok(checked)
+}
+
+/// Checks all parts of a draft.
+fn parts_of(
+    alloc: Global,
+    names: &Names<'_>,
+    sorts: &[SortItem],
+    theory: &DraftTheory,
+    main: &DraftMain,
+) -> Result<Parts, NoMemory>
+    requires sorts { sorts.now ≡ map sort_item theory.now.sorts }
+    requires small { AreSmall sorts.now }
+    requires fluents { HaveFewArgs (map fluent_counted theory.now.fluents) }
+    requires actions { HaveFewArgs (map action_counted theory.now.actions) }
+    requires sensed { All (λ (item : DraftSense). item.action < length names.now.actions) theory.now.senses }
+    ensures { IfOk result (λ parts. AreParts parts names.now theory.now main.now) }
+{
+    let fluent_sum = sum_passes(sorts, GROUND_FLUENTS, theory.fluents.as_slice());
+    let action_sum = sum_passes(sorts, GROUND_ACTIONS, theory.actions.as_slice());
+    let starts = starts_in(alloc, names, theory.starts.as_slice())?;
+    let poss = poss_items_in(alloc, names, theory.poss.as_slice())?;
+    let causes = cause_items_in(alloc, names, theory.causes.as_slice())?;
+    let senses = sense_items_in(alloc, names, theory.senses.as_slice())?;
+    let main = main_checked(alloc, names, main)?;
+    Ok(Parts {
+        fluent_sum,
+        action_sum,
+        starts,
+        poss,
+        causes,
+        senses,
+        main,
+    })
+}
+
+/// The least refusal of all parts.
+fn least(parts: &Parts) -> Option<Refusal>
+    ensures { (names : Declared) (theory : DraftTheory) (main : DraftMain) → AreParts parts.now names theory main
+        → IsLeastOf result (refusals_in names theory main) }
+{
+    let sums = least_of(parts.fluent_sum, parts.action_sum);
+    let starts = least_of(sums, parts.starts.least);
+    let poss = least_of(starts, parts.poss.least);
+    let causes = least_of(poss, parts.causes.least);
+    let senses = least_of(causes, parts.senses.least);
+    least_of(senses, parts.main.least)
+}
+
+/// The one program that was given.
+fn main_of(main: List<Prog>) -> Prog
+    ensures { (reading : Reading Prog) → main ≡ given (reading ∷ []) → result ≡ spec_main_of reading.outcome }
+{
+    let mut main = main;
+    main.pop().unwrap_or(Prog::Nil)
+}
+
+/// The agent of what is declared, of its start values and of the parts, none of which is refused.
+fn agent_with(agent: Agent, starts: List<u8>, parts: Parts) -> Agent
+    ensures { (reading : Reading Prog) → parts.main.items ≡ given (reading ∷ [])
+        → result ≡ record agent {
+          poss = parts.poss.items;
+          causes = parts.causes.items;
+          senses = parts.senses.items;
+          starts = starts;
+          main = spec_main_of reading.outcome;
+        } }
+{
+    let Parts {
+        poss,
+        causes,
+        senses,
+        main,
+        ..
+    } = parts;
+    Agent {
+        poss: poss.items,
+        causes: causes.items,
+        senses: senses.items,
+        starts,
+        main: main_of(main.items),
+        ..agent
+    }
+}
+
+/// Checks all parts of a theory and a program, by what the theory declares.
+fn parts_for(
+    alloc: Global,
+    agent: &Agent,
+    theory: &DraftTheory,
+    program: &DraftProgram,
+) -> Result<Parts, NoMemory>
+    requires keeps { TheoryKeeps theory.now }
+    requires plain { IsPlain program.now }
+    requires bare { agent.now ≡ spec_bare theory.now }
+    ensures { IfOk result (λ parts. AreParts parts (names_of theory.now program.now) theory.now program.now.main) }
+{
+    let places = sort_places(alloc, theory.sorts.as_slice())?;
+    let sorts = agent.sorts.as_slice();
+    let names = Names::new(
+        sorts,
+        places.as_slice(),
+        agent.fluents.as_slice(),
+        agent.actions.as_slice(),
+        &[],
+    );
+    parts_of(alloc, &names, sorts, theory, &program.main)
+}
+
+/// The agent of what is declared and of the parts, none of which is refused.
+fn with_starts(alloc: Global, agent: Agent, parts: Parts) -> Result<Agent, NoMemory>
+    requires { IsCountable agent }
+    ensures { IfOk result (λ whole. (reading : Reading Prog) → parts.main.items ≡ given (reading ∷ [])
+        → whole ≡ record agent {
+          poss = parts.poss.items;
+          causes = parts.causes.items;
+          senses = parts.senses.items;
+          starts = map (start_value parts.starts.items) (ground_fluents agent);
+          main = spec_main_of reading.outcome;
+        }) }
+{
+    match initial_values(alloc, &agent, parts.starts.items.as_slice()) {
+        Ok(starts) => Ok(agent_with(agent, starts, parts)),
+        Err(NoMemory) => {
+            drop(parts);
+            drop(agent);
+            Err(NoMemory)
+        }
+    }
+}
+
+/// The agent of the parts, or their least refusal.
+fn answer(
+    alloc: Global,
+    agent: Agent,
+    parts: Parts,
+    theory: &DraftTheory,
+    program: &DraftProgram,
+) -> Result<Agent, CheckFault>
+    requires keeps { TheoryKeeps theory.now }
+    requires bare { agent ≡ spec_bare theory.now }
+    requires parts { AreParts parts (names_of theory.now program.now) theory.now program.now.main }
+    ensures { Checks result theory.now program.now }
+{
+    match least(&parts) {
+        Some(refusal) => {
+            drop(parts);
+            drop(agent);
+            Err(CheckFault::Refused {
+                code: refusal.code,
+                at: refusal.at,
+            })
+        }
+        None => Ok(with_starts(alloc, agent, parts)?),
+    }
+}
+
+/// The agent that a theory and a program make, which were read from one file. It is refused where a rule of
+/// sorts, words, sums of ground things, start values, sensing or nests is broken, with the code and the place of
+/// the least refusal: that of the least place, and there the least code.
+pub fn check(
+    alloc: Global,
+    theory: &DraftTheory,
+    program: &DraftProgram,
+) -> Result<Agent, CheckFault>
+    requires keeps { TheoryKeeps theory.now }
+    requires program_keeps { ProgramKeeps theory.now program.now }
+    requires plain { IsPlain program.now }
+    ensures answer { Checks result theory.now program.now }
+    ensures well_formed { IfOk result WellFormed }
+{
+    let agent = bare(alloc, theory)?;
+    match parts_for(alloc, &agent, theory, program) {
+        Ok(parts) => answer(alloc, agent, parts, theory, program),
+        Err(NoMemory) => {
+            drop(agent);
+            Err(CheckFault::Memory)
+        }
+    }
+}

@@ -1,0 +1,167 @@
+ghost use Rattle.std.specs.Prelude.{◌≡◌, [], map, IfOk};
+ghost use Rattle.golog_semantics.specs.Drafts.{AgentCondKeeps};
+ghost use Rattle.golog_semantics.specs.Fits.{nothing_bound};
+ghost use Rattle.golog_semantics.specs.WellFormed.{WellFormed};
+ghost use Rattle.golog_check.specs.CheckLaws.{IsCondOf};
+ghost use Rattle.golog_check.specs.DeclaredItems.{HasFewSorts, declared_in};
+ghost use Rattle.golog_check.specs.Faults.{Answers};
+ghost use Rattle.golog_check.specs.Scope.{within};
+ghost use Rattle.golog_check.specs.Conditions.{is_in, cond_in, conds_in};
+
+use crate::args::{args_in, is_other};
+use crate::fault::{CheckFault, SORT_CLASH, refuse_where};
+use crate::names::Names;
+use crate::scope::{Variable, variable_no, within};
+use crate::terms::{Sides, sides_in};
+use golog_base::{Boxed, List, Word};
+use golog_tree::{Agent, Arg, Cond, DraftArg, DraftCond, Place};
+use std::alloc::Global;
+
+/// The sort `bool` is the first.
+const BOOL: u32 = 0;
+
+/// The arguments of a fluent that stands as a condition, and so in a place of the sort `bool`.
+#[tactic(auto, unfolding(crate::specs::Conditions::is_in))]
+fn is_in(
+    alloc: Global,
+    names: &Names<'_>,
+    scope: &[Variable],
+    fluent: u32,
+    args: &[DraftArg],
+    at: Place,
+) -> Result<List<Arg>, CheckFault>
+    ensures { Answers result (is_in names.now scope.now fluent args.now at) }
+{
+    let is_no_bool = is_other(names.fluent_sort(fluent), BOOL);
+    refuse_where(is_no_bool, SORT_CLASH, at)?;
+    args_in(alloc, names, scope, names.fluent_sorts(fluent), args)
+}
+
+/// Conditions in a scope, one after another.
+#[cycle(conditions)]
+#[tactic(auto, using(crate::proofs::Conds::laws))]
+fn conds_in(
+    alloc: Global,
+    names: &Names<'_>,
+    scope: &[Variable],
+    drafts: &[DraftCond],
+) -> Result<List<Cond>, CheckFault>
+    ensures { Answers result (conds_in scope.now (map (cond_in names.now) drafts.now)) }
+{
+    let mut conds = List::new(alloc);
+    for draft in drafts {
+        conds.push(cond_in(alloc, names, scope, draft)?)?;
+    }
+    Ok(conds)
+}
+
+/// A condition that stands in a list of its own.
+#[cycle(conditions)]
+fn boxed_in(
+    alloc: Global,
+    names: &Names<'_>,
+    scope: &[Variable],
+    draft: &DraftCond,
+) -> Result<Boxed<Cond>, CheckFault>
+    ensures { Answers result (cond_in names.now draft.now scope.now) }
+{
+    let cond = cond_in(alloc, names, scope, draft)?;
+    Ok(Boxed::new(alloc, cond)?)
+}
+
+/// A condition in which one more variable is in scope.
+#[cycle(conditions)]
+fn body_in(
+    alloc: Global,
+    names: &Names<'_>,
+    scope: &[Variable],
+    var: &Word,
+    sort: u32,
+    draft: &DraftCond,
+) -> Result<Boxed<Cond>, CheckFault>
+    ensures { Answers result (cond_in names.now draft.now (within var.now sort scope.now)) }
+{
+    let inner = within(alloc, *var, sort, scope)?;
+    boxed_in(alloc, names, inner.as_slice(), draft)
+}
+
+/// What a condition of a draft is in a scope, or the first term that is no term of its sort, or word that is unbound.
+#[cycle(conditions)]
+#[tactic(auto, using(crate::proofs::Conds::laws))]
+pub fn cond_in(
+    alloc: Global,
+    names: &Names<'_>,
+    scope: &[Variable],
+    draft: &DraftCond,
+) -> Result<Cond, CheckFault>
+    ensures { Answers result (cond_in names.now draft.now scope.now) }
+{
+    match draft {
+        DraftCond::Truth { truth, .. } => Ok(Cond::Truth(*truth)),
+        DraftCond::Is { fluent, args, at } => {
+            let args = is_in(alloc, names, scope, *fluent, args.as_slice(), *at)?;
+            Ok(Cond::Is {
+                fluent: *fluent,
+                args,
+            })
+        }
+        DraftCond::Equal { one, other, .. } => {
+            let Sides { sort, one, other } = sides_in(alloc, names, scope, false, one, other)?;
+            Ok(Cond::Equal { sort, one, other })
+        }
+        DraftCond::Less { one, other, .. } => {
+            let Sides { sort, one, other } = sides_in(alloc, names, scope, true, one, other)?;
+            Ok(Cond::Less { sort, one, other })
+        }
+        DraftCond::AtMost { one, other, .. } => {
+            let Sides { sort, one, other } = sides_in(alloc, names, scope, true, one, other)?;
+            Ok(Cond::AtMost { sort, one, other })
+        }
+        DraftCond::Not { cond, .. } => Ok(Cond::Not(boxed_in(alloc, names, scope, cond.get())?)),
+        DraftCond::And { conds, .. } => Ok(Cond::And(conds_in(
+            alloc,
+            names,
+            scope,
+            conds.as_slice(),
+        )?)),
+        DraftCond::Or { conds, .. } => Ok(Cond::Or(conds_in(
+            alloc,
+            names,
+            scope,
+            conds.as_slice(),
+        )?)),
+        DraftCond::ForSome {
+            var,
+            sort,
+            body,
+            ..
+        } => Ok(Cond::ForSome {
+            var: variable_no(scope),
+            sort: *sort,
+            body: body_in(alloc, names, scope, var, *sort, body.get())?,
+        }),
+        DraftCond::ForAll {
+            var,
+            sort,
+            body,
+            ..
+        } => Ok(Cond::ForAll {
+            var: variable_no(scope),
+            sort: *sort,
+            body: body_in(alloc, names, scope, var, *sort, body.get())?,
+        }),
+    }
+}
+
+/// What a condition of a draft is over an agent, or the first term that is no term of its sort, or word that is
+/// unbound: code 30 or 31, and its place. The draft was read with the agent's names, so that its numbers are in range.
+/// What it is fits the agent, and can stand in its file.
+#[tactic(auto, using(crate::proofs::Asked::laws))]
+pub fn check_condition(alloc: Global, agent: &Agent, cond: &DraftCond) -> Result<Cond, CheckFault>
+    requires formed { WellFormed agent.now }
+    requires kept { AgentCondKeeps agent.now cond.now }
+    ensures answer { Answers result (cond_in (declared_in agent.now) cond.now []) }
+    ensures fits { IfOk result (λ c. IsCondOf agent.now nothing_bound 0 c) }
+{
+    cond_in(alloc, &Names::of_agent(agent), &[], cond)
+}

@@ -1,0 +1,94 @@
+ghost use Rattle.std.specs.Prelude.{◌≡◌, [], map, IfOk};
+ghost use Rattle.golog_check.specs.Faults.{Answers};
+ghost use Rattle.golog_check.specs.Checked.{IsChecked};
+ghost use Rattle.golog_check.specs.Effects.{poss_in as spec_poss_in, cause_in as spec_cause_in, head_within as spec_head_within};
+
+use crate::checked::Checked;
+use crate::conditions::cond_in;
+use crate::fault::CheckFault;
+use crate::heads::{Head, head_from, scope_of};
+use crate::names::Names;
+use crate::scope::Variable;
+use crate::terms::term_in;
+use golog_base::{List, NoMemory};
+use golog_tree::{CauseItem, DraftCause, DraftPoss, PossItem};
+use std::alloc::Global;
+
+/// The precondition of an action, whose arguments are its variables.
+#[tactic(auto, unfolding(crate::specs::Effects::poss_in))]
+fn poss_in(alloc: Global, names: &Names<'_>, item: &DraftPoss) -> Result<PossItem, CheckFault>
+    ensures { Answers result (spec_poss_in names.now item.now) }
+{
+    let sorts = names.action_sorts(item.action);
+    let scope = scope_of(alloc, item.vars.as_slice(), sorts)?;
+    let cond = cond_in(alloc, names, scope.as_slice(), &item.cond)?;
+    Ok(PossItem {
+        action: item.action,
+        cond,
+    })
+}
+
+/// Preconditions, one after another.
+pub fn poss_items_in(
+    alloc: Global,
+    names: &Names<'_>,
+    items: &[DraftPoss],
+) -> Result<Checked<PossItem>, NoMemory>
+    ensures { IfOk result (λ checked. IsChecked checked (map (spec_poss_in names.now) items.now)) }
+{
+    let mut checked = Checked::new(alloc);
+    for item in items {
+        checked.add(poss_in(alloc, names, item))?;
+    }
+    Ok(checked)
+}
+
+/// A head with no argument yet, within these variables.
+fn head_within(alloc: Global, scope: List<Variable>) -> Head
+    ensures { result ≡ spec_head_within scope }
+{
+    Head {
+        args: List::new(alloc),
+        scope,
+    }
+}
+
+/// An effect: the arguments of its action bind its variables, and those of its fluent bind more.
+#[tactic(auto, unfolding(crate::specs::Effects::cause_in))]
+fn cause_in(alloc: Global, names: &Names<'_>, item: &DraftCause) -> Result<CauseItem, CheckFault>
+    ensures { Answers result (spec_cause_in names.now item.now) }
+{
+    let head = head_within(alloc, List::new(alloc));
+    let sorts = names.action_sorts(item.action);
+    let action = head_from(alloc, names, head, sorts, item.action_args.as_slice())?;
+    let Head { args, scope } = action;
+    let head = head_within(alloc, scope);
+    let sorts = names.fluent_sorts(item.fluent);
+    let fluent = head_from(alloc, names, head, sorts, item.fluent_args.as_slice())?;
+    let sort = names.fluent_sort(item.fluent).unwrap_or(0);
+    let term = term_in(alloc, names, fluent.scope.as_slice(), sort, &item.term)?;
+    let cond = cond_in(alloc, names, fluent.scope.as_slice(), &item.cond)?;
+    Ok(CauseItem {
+        action: item.action,
+        action_args: args,
+        fluent: item.fluent,
+        fluent_args: fluent.args,
+        term,
+        cond,
+    })
+}
+
+/// Effects, one after another.
+pub fn cause_items_in(
+    alloc: Global,
+    names: &Names<'_>,
+    items: &[DraftCause],
+) -> Result<Checked<CauseItem>, NoMemory>
+    ensures { IfOk result (λ checked. IsChecked checked (map (spec_cause_in names.now) items.now)) }
+{
+    let mut checked = Checked::new(alloc);
+    for item in items {
+        checked.add(cause_in(alloc, names, item))?;
+    }
+    Ok(checked)
+}

@@ -1,0 +1,56 @@
+ghost use Rattle.std.specs.Prelude.{◌≡◌, nat_le, map};
+ghost use Rattle.golog_check.specs.DraftNest.{parts_nest, draft_nest};
+
+use golog_tree::DraftProg;
+
+/// The deepest nest of the program of `main`.
+pub const MAIN_NEST: u32 = 3072;
+
+/// Whether the program of a draft nests no deeper than the limit.
+#[cycle(nesting)]
+pub fn nests_within(prog: &DraftProg, limit: u32) -> bool
+    ensures { result ≡ nat_le (draft_nest prog.now) limit }
+{
+    match prog {
+        DraftProg::Nil { .. }
+        | DraftProg::Act { .. }
+        | DraftProg::Test { .. }
+        | DraftProg::Call { .. } => limit > 0,
+        DraftProg::Seq { parts, .. }
+        | DraftProg::Choice { parts, .. }
+        | DraftProg::Conc { parts, .. }
+        | DraftProg::Prio { parts, .. } => parts_within(parts.as_slice(), limit),
+        DraftProg::Pick { body, .. }
+        | DraftProg::Star { body, .. }
+        | DraftProg::While { body, .. }
+        | DraftProg::Cstar { body, .. }
+        | DraftProg::Search { body, .. } => limit > 0 && nests_within(body.get(), limit - 1),
+        DraftProg::If { yes, no, .. } => {
+            limit > 0 && nests_within(yes.get(), limit - 1) && nests_within(no.get(), limit - 1)
+        }
+    }
+}
+
+/// Whether parts nest no deeper than the limit, nested to the right.
+#[cycle(nesting)]
+#[tactic(auto, using(crate::proofs::NestLaws::laws))]
+fn parts_within(parts: &[DraftProg], limit: u32) -> bool
+    ensures { result ≡ nat_le (parts_nest (map draft_nest parts.now)) limit }
+{
+    if parts.is_empty() {
+        return limit > 0;
+    }
+    let mut left = limit;
+    for (index, part) in parts.iter().enumerate() {
+        if index + 1 < parts.len() {
+            if left == 0 {
+                return false;
+            }
+            left -= 1;
+        }
+        if !nests_within(part, left) {
+            return false;
+        }
+    }
+    true
+}
