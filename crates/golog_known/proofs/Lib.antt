@@ -1,0 +1,4 @@
+pub mod Arguments
+pub mod Evaluated
+pub mod Folds
+pub mod Lamps

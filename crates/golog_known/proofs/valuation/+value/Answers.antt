@@ -1,0 +1,68 @@
+use Rattle.std.proofs.Common.{ℕ, ◌<◌, length, subst, sym, rules, arith}
+use Rattle.std.specs.Prelude.{slice_set}
+use Rattle.golog_tree.specs.declared.cond.Cond.{Cond}
+use Rattle.golog_tree.proofs.cond.Cond.TheLaws.{the_size}
+use Rattle.golog_tree.specs.Ground.{sort_size}
+use Rattle.golog_semantics.specs.Truth.{truth_of}
+use Rattle.golog_known.specs.Fits.{CondFitsAt}
+use Rattle.golog_known.proofs.Evaluated.{parts-And, parts-Or, body-ForSome, body-ForAll}
+use Rattle.golog_known.proofs.Folds.{item_smaller, all-And, all-Or, and_of-take, or_of-take, and_of-range, or_of-range}
+use Rattle.golog_known.proofs.valuation.+value.Goals as goal
+
+pub all_of-loop-cond-preserved : goal.all_of-loop-cond-preserved
+all_of-loop-cond-preserved t c =
+    let e = and_of-take (λ (d : Cond). truth_of c.args.agent.now c.args.values.now d c.args.env.now) c.args.conds.now c.loop-cond.cond-index c.cond-item.result (omega arith) in
+    cc
+
+pub any_of-loop-cond-preserved : goal.any_of-loop-cond-preserved
+any_of-loop-cond-preserved t c =
+    let e = or_of-take (λ (d : Cond). truth_of c.args.agent.now c.args.values.now d c.args.env.now) c.args.conds.now c.loop-cond.cond-index c.cond-item.result (omega arith) in
+    cc
+
+pub for_all-loop-constant-preserved : goal.for_all-loop-constant-preserved
+for_all-loop-constant-preserved t c =
+    let e = and_of-range (λ (k : ℕ). truth_of c.args.agent.now c.args.values.now c.args.body.now (slice_set c.args.env.now c.args.var k)) c.loop-constant.constant in
+    cc
+
+pub for_some-loop-witness-preserved : goal.for_some-loop-witness-preserved
+for_some-loop-witness-preserved t c =
+    let e = or_of-range (λ (k : ℕ). truth_of c.args.agent.now c.args.values.now c.args.body.now (slice_set c.args.env.now c.args.var k)) c.loop-witness.witness in
+    cc
+
+pub all_of-returns : goal.all_of-returns
+all_of-returns t c =
+    all-And c.args.agent.now c.args.values.now c.args.conds.now c.args.env.now c.loop-cond.cond-index c.loop-cond.all c.loop-cond.invariant (omega arith)
+
+pub any_of-returns : goal.any_of-returns
+any_of-returns t c =
+    all-Or c.args.agent.now c.args.values.now c.args.conds.now c.args.env.now c.loop-cond.cond-index c.loop-cond.any c.loop-cond.invariant (omega arith)
+
+pub all_of-value-requires : goal.all_of-value-requires
+all_of-value-requires t c =
+    let inside : c.loop-cond.cond-index < length c.args.conds.now = omega arith in
+    let parts = parts-And c.args.agent.now c.args.env.now c.args.conds.now c.requires.fits in
+    let fits : CondFitsAt c.args.agent.now c.cond-item.result c.args.env.now = subst (λ d. CondFitsAt c.args.agent.now d c.args.env.now) (sym c.cond-item.is) (parts c.loop-cond.cond-index c.cond-item.result inside) in
+    let smaller = item_smaller the_size c.args.conds.now c.loop-cond.cond-index c.cond-item.result c.cond-item.is inside in
+    search rules
+
+pub any_of-value-requires : goal.any_of-value-requires
+any_of-value-requires t c =
+    let inside : c.loop-cond.cond-index < length c.args.conds.now = omega arith in
+    let parts = parts-Or c.args.agent.now c.args.env.now c.args.conds.now c.requires.fits in
+    let fits : CondFitsAt c.args.agent.now c.cond-item.result c.args.env.now = subst (λ d. CondFitsAt c.args.agent.now d c.args.env.now) (sym c.cond-item.is) (parts c.loop-cond.cond-index c.cond-item.result inside) in
+    let smaller = item_smaller the_size c.args.conds.now c.loop-cond.cond-index c.cond-item.result c.cond-item.is inside in
+    search rules
+
+pub for_some-value-requires : goal.for_some-value-requires
+for_some-value-requires t c =
+    let body = body-ForSome c.args.agent.now c.args.env.now c.args.var c.args.sort c.args.body.now c.requires.fits in
+    let below : c.loop-witness.witness < sort_size c.args.agent.now c.args.sort = omega arith in
+    let fits : CondFitsAt c.args.agent.now c.args.body.now c.with.result = subst (λ e. CondFitsAt c.args.agent.now c.args.body.now e) (sym c.with.ensures) (body.fits c.loop-witness.witness below) in
+    search rules
+
+pub for_all-value-requires : goal.for_all-value-requires
+for_all-value-requires t c =
+    let body = body-ForAll c.args.agent.now c.args.env.now c.args.var c.args.sort c.args.body.now c.requires.fits in
+    let below : c.loop-constant.constant < sort_size c.args.agent.now c.args.sort = omega arith in
+    let fits : CondFitsAt c.args.agent.now c.args.body.now c.with.result = subst (λ e. CondFitsAt c.args.agent.now c.args.body.now e) (sym c.with.ensures) (body.fits c.loop-constant.constant below) in
+    search rules

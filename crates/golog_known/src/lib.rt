@@ -1,0 +1,17 @@
+//! The truth of conditions, and the values of terms, in a state that is known in part.
+#![tactic(auto)]
+
+mod env;
+mod fluent;
+mod kleene;
+mod laws;
+mod shift;
+mod valuation;
+
+pub use env::Env;
+pub use kleene::{UNKNOWN, chosen};
+pub use laws::{conditions_fit_at_arguments, terms_fit_at_arguments};
+pub use valuation::{term, value};
+
+#[cfg(test)]
+mod tests;
