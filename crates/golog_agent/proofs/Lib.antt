@@ -1,8 +1,11 @@
-pub mod Numbers
-pub mod Given
 pub mod Shapes
 pub mod Rules
 pub mod Going
-pub mod ReadSmall
-pub mod Spelled
-pub mod Programs
+pub mod Parts
+pub mod Devices
+pub mod Sequence
+pub mod Mains
+pub mod Checked
+pub mod Answers
+pub mod Excluded
+pub mod ProgramKept

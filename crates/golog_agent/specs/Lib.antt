@@ -1,8 +1,6 @@
-pub mod Answers
-pub mod BuiltIn
-pub mod Reading
-pub mod Items
-pub mod Spelled
-pub mod Small
-pub mod Run
+pub mod Simple
 pub mod Stepping
+pub mod Run
+pub mod Main
+pub mod Faults
+pub mod Spelled

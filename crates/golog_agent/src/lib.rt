@@ -1,17 +1,12 @@
-//! Agents of a small grammar, without devices: read from the bytes of a file, and run.
+//! Agents, and the online execution of their programs.
 #![tactic(auto)]
 
-mod building;
 mod fault;
-mod items;
-mod names;
+mod program;
 mod reading;
 mod running;
-mod shape;
+mod stepping;
 
-pub use fault::AgentFault;
+pub use fault::{AgentFault, UNBUILT};
 pub use reading::read_agent;
 pub use running::run_agent;
-
-#[cfg(test)]
-mod tests;

@@ -1,96 +1,136 @@
-ghost use Rattle.std.specs.Prelude.{IfOk, OnOk, IsErrOf, option_and_then};
-ghost use Rattle.golog_agent.specs.Answers.{Gives, Steps};
-ghost use Rattle.golog_agent.specs.BuiltIn.{built_in};
-ghost use Rattle.golog_agent.specs.Items.{declared_by};
-ghost use Rattle.golog_agent.specs.Reading.{main_read, items_read, agent_in};
-ghost use Rattle.golog_agent.specs.Spelled.{SpellsAgent, SpellsNone};
-ghost use Rattle.golog_agent.specs.Small.{HasRoom, IsSmall};
+ghost use Rattle.std.specs.Prelude.{◌≡◌, List, Some, None, Err, IfOk};
+ghost use Rattle.golog_form.specs.declared.form.Form.{Form};
+ghost use Rattle.golog_form.specs.Places.{IsInOrder};
+ghost use Rattle.golog_semantics.specs.Drafts.{TheoryKeeps};
+ghost use Rattle.golog_semantics.specs.WellFormed.{WellFormed};
 ghost use Rattle.golog_agent.specs.declared.fault.AgentFault.TheVariants.{Refused};
+ghost use Rattle.golog_tree.specs.declared.draft.DraftTheory.{DraftTheory};
+ghost use Rattle.golog_tree.specs.declared.draft_prog.DraftProg.TheVariants.{Nil};
+ghost use Rattle.golog_check.specs.Check.{Checks};
+ghost use Rattle.golog_agent.specs.Main.{alone, program_in};
+ghost use Rattle.golog_agent.specs.Simple.{IsSimple};
+ghost use Rattle.golog_agent.specs.Spelled.{FormAnswers, ItemsAnswer, Reads};
 
-use crate::building::built_in;
-use crate::fault::AgentFault;
-use crate::items::{add_item, set_main};
-use crate::shape::{parts, word};
-use golog_form::{Form, FormFault, read_form};
-use golog_tree::Agent;
+use crate::fault::{AgentFault, UNBUILT};
+use crate::program::{has_later, nil, program_in};
+use golog_check::{CheckFault, check};
+use golog_form::{Form, read_form};
+use golog_theory::heads::arguments;
+use golog_theory::theory_of;
+use golog_tree::{Agent, DraftProgram, DraftTheory};
 use std::alloc::Global;
 
-/// The items before `main`, one after another.
-fn declare(alloc: Global, agent: &mut Agent, items: &[Form]) -> Result<(), AgentFault>
-    requires { HasRoom agent.old }
-    ensures read { Steps result agent.new (declared_by agent.old items.now) }
-    ensures room { OnOk result (HasRoom agent.new) }
+/// The refusal of a file in which something is not built yet.
+fn unbuilt() -> AgentFault
+    ensures { result ≡ Refused UNBUILT 0 }
 {
-    for item in items {
-        add_item(alloc, agent, item)?;
+    AgentFault::Refused {
+        code: UNBUILT,
+        at: 0,
     }
-    Ok(())
 }
 
-/// The items before `main`, and then `main`.
-fn complete(alloc: Global, agent: &mut Agent, items: &[Form], main: &Form) -> Result<(), AgentFault>
-    requires { HasRoom agent.old }
-    ensures { Steps result agent.new (option_and_then (λ more. main_read more main.now) (declared_by agent.old items.now)) }
-{
-    declare(alloc, agent, items)?;
-    set_main(alloc, agent, main)
-}
-
-/// The agent with what the items declare and with the program of `main`.
-fn completed(
+/// The agent that items spell over their theory with this program of `main`.
+fn agent_with(
     alloc: Global,
-    mut agent: Agent,
+    theory: &DraftTheory,
     items: &[Form],
-    main: &Form,
+    program: &DraftProgram,
 ) -> Result<Agent, AgentFault>
-    requires { HasRoom agent }
-    ensures { Gives result (option_and_then (λ more. main_read more main.now) (declared_by agent items.now)) }
+    requires keeps { TheoryKeeps theory.now }
+    requires main { program_in theory.now items.now ≡ Some program.now }
+    ensures answer { ItemsAnswer theory.now items.now result }
+    ensures formed { IfOk result WellFormed }
 {
-    match complete(alloc, &mut agent, items, main) {
-        Ok(()) => Ok(agent),
-        Err(fault) => Err(fault),
+    match check(alloc, theory, program) {
+        Ok(agent) => {
+            if has_later(items) {
+                drop(agent);
+                Err(unbuilt())
+            } else {
+                Ok(agent)
+            }
+        }
+        Err(fault) => Err(AgentFault::from(fault)),
     }
 }
 
-/// The items, of which `main` is the last.
-#[tactic(auto, using(crate::proofs::Spelled::then_main, crate::proofs::Spelled::no_items))]
-fn read_items(alloc: Global, items: &[Form]) -> Result<Agent, AgentFault>
-    ensures { Gives result (items_read built_in items.now) }
+/// The refusal of items that spell no program, by what the check of their theory answers: its refusal, or that the
+/// program is not built.
+fn refusal_by(answer: Result<Agent, CheckFault>) -> AgentFault
+    ensures { (theory : DraftTheory) (items : List Form) → program_in theory items ≡ None → Checks answer theory (alone (Nil 0) 0)
+        → ItemsAnswer theory items (Err result) }
 {
-    let Some((main, items)) = items.split_last() else {
-        return Err(AgentFault::Refused);
-    };
-    let agent = built_in(alloc)?;
-    completed(alloc, agent, items, main)
-}
-
-/// `(agent ITEMS)`
-#[tactic(auto, unfolding(crate::specs::Reading::agent_in))]
-fn agent_of(alloc: Global, form: &Form) -> Result<Agent, AgentFault>
-    ensures { Gives result (agent_in form.now) }
-{
-    let Some((keyword, items)) = parts(form).split_first() else {
-        return Err(AgentFault::Refused);
-    };
-    if word(keyword) != b"agent".as_slice() {
-        return Err(AgentFault::Refused);
+    match answer {
+        Ok(agent) => {
+            drop(agent);
+            unbuilt()
+        }
+        Err(fault) => AgentFault::from(fault),
     }
-    read_items(alloc, items)
 }
 
-/// The agent that the bytes of a file spell. Bytes that spell none, and more than 1,048,576 of them,
-/// are refused.
-#[tactic(auto, using(crate::proofs::Spelled::laws))]
+/// The refusal of items that spell no program.
+fn refusal_of(alloc: Global, theory: &DraftTheory) -> AgentFault
+    requires { TheoryKeeps theory.now }
+    ensures { (items : List Form) → program_in theory.now items ≡ None → ItemsAnswer theory.now items (Err result) }
+{
+    let program = nil(alloc);
+    let answer = check(alloc, theory, &program);
+    drop(program);
+    refusal_by(answer)
+}
+
+/// The agent that items spell over their theory.
+fn agent_over(alloc: Global, theory: &DraftTheory, items: &[Form]) -> Result<Agent, AgentFault>
+    requires { TheoryKeeps theory.now }
+    ensures answer { ItemsAnswer theory.now items.now result }
+    ensures formed { IfOk result WellFormed }
+{
+    match program_in(alloc, theory, items) {
+        Ok(Some(program)) => {
+            let answer = agent_with(alloc, theory, items, &program);
+            drop(program);
+            answer
+        }
+        Ok(None) => Err(refusal_of(alloc, theory)),
+        Err(fault) => Err(AgentFault::from(fault)),
+    }
+}
+
+/// The agent that a form spells, whose parts stand in order.
+fn agent_in(alloc: Global, form: &Form) -> Result<Agent, AgentFault>
+    requires { IsInOrder form.now }
+    ensures answer { FormAnswers result form.now }
+    ensures formed { IfOk result WellFormed }
+{
+    match theory_of(alloc, form) {
+        Ok(theory) => {
+            let answer = agent_over(alloc, &theory, arguments(form));
+            drop(theory);
+            answer
+        }
+        Err(fault) => Err(AgentFault::from(fault)),
+    }
+}
+
+/// The agent that the bytes of a file spell, or the first refusal, with its code and its place. It is looked for in
+/// stages: 1 to 6, the bytes spell no form; 20 to 26, the form spells no theory; 30 to 36 and 38, the theory or the
+/// program of `main` is not well-formed; and 29 at 0, the file has a `device`, an `exo` or a `proc` item, or has not
+/// exactly one `main`, which is `nil`, an `act`, a `test` or a `seq` of at most 1,000 of these. `Memory` where memory
+/// runs out.
 pub fn read_agent(alloc: Global, bytes: &[u8]) -> Result<Agent, AgentFault>
-    ensures spelled { IfOk result (SpellsAgent bytes.now) }
+    ensures answer { Reads result bytes.now }
     // What a run asks of its agent.
-    ensures small { IfOk result IsSmall }
-    ensures refused { IsErrOf result Refused → SpellsNone bytes.now }
+    ensures formed { IfOk result WellFormed }
+    ensures simple { IfOk result IsSimple }
 {
-    let form = match read_form(alloc, bytes) {
-        Ok(form) => form,
-        Err(FormFault::Refused { .. }) => return Err(AgentFault::Refused),
-        Err(FormFault::Memory) => return Err(AgentFault::Memory),
-    };
-    agent_of(alloc, &form)
+    match read_form(alloc, bytes) {
+        Ok(form) => {
+            let answer = agent_in(alloc, &form);
+            drop(form);
+            answer
+        }
+        Err(fault) => Err(AgentFault::from(fault)),
+    }
 }

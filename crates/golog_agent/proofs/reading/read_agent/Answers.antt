@@ -1,5 +1,17 @@
-use Rattle.golog_agent.proofs.Spelled.{small_given}
+use Rattle.std.proofs.Common.{Err, sym, subst}
+use Rattle.golog_agent.specs.Spelled.{Reads}
+use Rattle.golog_agent.proofs.Answers.{bytes-read, form-refused, read-simple}
 use Rattle.golog_agent.proofs.reading.read_agent.Goals as goal
 
-pub returns-clause-small : goal.returns-clause-small
-returns-clause-small c = small_given _ c.agent_of.result c.agent_of.ensures
+pub returns-in-Ok-clause-answer : goal.returns-in-Ok-clause-answer
+returns-in-Ok-clause-answer c =
+    bytes-read c.args.bytes.now c.in-Ok.form c.agent_in-answer.result c.in-Ok.ensures.found c.in-Ok.ensures.codes c.agent_in-answer.ensures.answer
+
+pub returns-in-Err-clause-answer : goal.returns-in-Err-clause-answer
+returns-in-Err-clause-answer c =
+    subst (λ fault. Reads (Err fault) c.args.bytes.now) (sym c.from.ensures) (form-refused c.args.bytes.now c.in-Err.fault c.in-Err.ensures.codes)
+
+pub returns-in-Ok-clause-simple : goal.returns-in-Ok-clause-simple
+returns-in-Ok-clause-simple c =
+    read-simple c.args.bytes.now c.agent_in-answer.result
+    (bytes-read c.args.bytes.now c.in-Ok.form c.agent_in-answer.result c.in-Ok.ensures.found c.in-Ok.ensures.codes c.agent_in-answer.ensures.answer)

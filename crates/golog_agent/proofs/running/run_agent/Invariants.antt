@@ -1,9 +1,6 @@
-use Rattle.std.proofs.Common.{◌≡◌}
-use Rattle.golog_agent.proofs.Rules.{Running}
+use Rattle.golog_agent.proofs.Going.{At}
 use Rattle.golog_agent.proofs.running.run_agent.Given as goal
 
+-- the journal so far, the values after it, and the program left
 abbrev pub invariant-loop-left : goal.invariant-loop-left
-invariant-loop-left l = record {
-  causes : l.causes ≡ l.agent.causes;
-  running : Running l.agent l.run.entries l.run.values.items l.left;
-}
+invariant-loop-left l = At l.agent l.run.entries l.run.state l.left
