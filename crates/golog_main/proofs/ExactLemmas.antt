@@ -6,13 +6,15 @@ use Rattle.golog_base.specs.declared.mem_files.HeldFile.{HeldFile}
 use Rattle.golog_tree.specs.declared.agent.Agent.{Agent}
 use Rattle.golog_semantics.specs.Text.{Text}
 use Rattle.golog_semantics.specs.declared.journal.Answer.{Answer}
-use Rattle.golog_semantics.specs.declared.journal.Answer.TheVariants.{Done, Stuck}
+use Rattle.golog_semantics.specs.declared.journal.Answer.TheVariants.{Done, Stuck, Unknown}
 use Rattle.golog_semantics.specs.Execution.{status_of as answer_status}
-use Rattle.golog_agent.specs.Spelled.{SpellsAgent, SpellsNone}
+use Rattle.golog_agent.specs.Run.{IsPlainAnswer}
+use Rattle.golog_agent.specs.Spelled.{SpellsAgent, IsFirstRefusal}
+use Rattle.golog_agent.proofs.Excluded.{excluded}
 use Rattle.golog_main.specs.declared.outcome.Outcome.{Outcome}
 use Rattle.golog_main.specs.declared.outcome.Outcome.TheVariants.{WordsRefused, ReadFault, AgentRefused, Ran}
-use Rattle.golog_main.specs.Outcome.{Outside, RunsBytes, RunsFile, Comes, Reports, text_of, status_of}
-use Rattle.golog_main.specs.Exact.{Names, Wrote, SaysItsCause, IsStopped, Answers, IsRead, FollowsItsCause, StatusesAreExact}
+use Rattle.golog_main.specs.Outcome.{Outside, RefusesBytes, RunsBytes, RunsFile, Comes, Reports, text_of, status_of}
+use Rattle.golog_main.specs.Exact.{Names, Wrote, WroteRefusal, SaysItsCause, IsStopped, Answers, IsRead, FollowsItsCause, StatusesAreExact}
 
 -- ---- the status of a report
 
@@ -24,13 +26,15 @@ stopped_or status outcome before after (inl written) = inl written.0
 stopped_or status outcome before after (inr failed) = inr (inl (failed.0, failed.2))
 
 -- no status is two numbers
-neither : {P : Type 0} (status k : ℕ) → status ≡ k → (k ≡ 0 → ⊥) → (k ≡ 10 → ⊥) → (status ≡ 0) ⊎ (status ≡ 10) → P
-neither status k is no_zero no_ten (inl zero) = absurd (no_zero (sym is ∙ zero))
-neither status k is no_zero no_ten (inr ten) = absurd (no_ten (sym is ∙ ten))
+neither : {P : Type 0} (status k : ℕ) → status ≡ k → (k ≡ 0 → ⊥) → (k ≡ 10 → ⊥) → (k ≡ 11 → ⊥) → (status ≡ 0) ⊎ (status ≡ 10) ⊎ (status ≡ 11) → P
+neither status k is no_zero no_ten no_eleven (inl zero) = absurd (no_zero (sym is ∙ zero))
+neither status k is no_zero no_ten no_eleven (inr (inl ten)) = absurd (no_ten (sym is ∙ ten))
+neither status k is no_zero no_ten no_eleven (inr (inr eleven)) = absurd (no_eleven (sym is ∙ eleven))
 
-plain_status : (answer : Answer) → (answer ≡ Done) ⊎ (answer ≡ Stuck) → (answer_status answer ≡ 0) ⊎ (answer_status answer ≡ 10)
+plain_status : (answer : Answer) → IsPlainAnswer answer → (answer_status answer ≡ 0) ⊎ (answer_status answer ≡ 10) ⊎ (answer_status answer ≡ 11)
 plain_status answer (inl done) = inl (ap answer_status done)
-plain_status answer (inr stuck) = inr (ap answer_status stuck)
+plain_status answer (inr (inl stuck)) = inr (inl (ap answer_status stuck))
+plain_status answer (inr (inr unknown)) = inr (inr (ap answer_status unknown))
 
 -- ---- what is read
 
@@ -61,7 +65,7 @@ module _ (status : ℕ) (named : Option Text) (before after : Outside) where
     agent_refused = λ three. absurd (omega arith);
     read_fault = λ four. absurd (omega arith);
     write_fault = λ five. rose;
-    done_or_stuck = neither status 5 is (λ e. omega arith) (λ e. omega arith);
+    ran = neither status 5 is (λ e. omega arith) (λ e. omega arith) (λ e. omega arith);
   }
 
   starved_says : status ≡ 6 → SaysItsCause status named before after
@@ -70,16 +74,16 @@ module _ (status : ℕ) (named : Option Text) (before after : Outside) where
     agent_refused = λ three. absurd (omega arith);
     read_fault = λ four. absurd (omega arith);
     write_fault = λ five. absurd (omega arith);
-    done_or_stuck = neither status 6 is (λ e. omega arith) (λ e. omega arith);
+    ran = neither status 6 is (λ e. omega arith) (λ e. omega arith) (λ e. omega arith);
   }
 
-  refused_says : status ≡ 3 → Names named (λ name. FileHas before.held name SpellsNone) → SaysItsCause status named before after
+  refused_says : status ≡ 3 → Names named (WroteRefusal before after) → SaysItsCause status named before after
   refused_says is cause = record {
     words_refused = λ two. absurd (omega arith);
     agent_refused = λ three. cause;
     read_fault = λ four. absurd (omega arith);
     write_fault = λ five. absurd (omega arith);
-    done_or_stuck = neither status 3 is (λ e. omega arith) (λ e. omega arith);
+    ran = neither status 3 is (λ e. omega arith) (λ e. omega arith) (λ e. omega arith);
   }
 
   fault_says : status ≡ 4 → Names named (λ name. HasNone before.held name ⊎ Rose before.file_faults after.file_faults)
@@ -89,7 +93,7 @@ module _ (status : ℕ) (named : Option Text) (before after : Outside) where
     agent_refused = λ three. absurd (omega arith);
     read_fault = λ four. cause;
     write_fault = λ five. absurd (omega arith);
-    done_or_stuck = neither status 4 is (λ e. omega arith) (λ e. omega arith);
+    ran = neither status 4 is (λ e. omega arith) (λ e. omega arith) (λ e. omega arith);
   }
 
   words_say : status ≡ 2 → named ≡ None → SaysItsCause status named before after
@@ -98,20 +102,23 @@ module _ (status : ℕ) (named : Option Text) (before after : Outside) where
     agent_refused = λ three. absurd (omega arith);
     read_fault = λ four. absurd (omega arith);
     write_fault = λ five. absurd (omega arith);
-    done_or_stuck = neither status 2 is (λ e. omega arith) (λ e. omega arith);
+    ran = neither status 2 is (λ e. omega arith) (λ e. omega arith) (λ e. omega arith);
   }
 
-  never : {P : Type 0} (k : ℕ) → (status ≡ 0) ⊎ (status ≡ 10) → status ≡ k → (0 ≡ k → ⊥) → (10 ≡ k → ⊥) → P
-  never k plain is no_zero no_ten = neither status k is (λ e. no_zero (sym e)) (λ e. no_ten (sym e)) plain
+  abbrev IsRunStatus : Type 0
+  IsRunStatus = (status ≡ 0) ⊎ (status ≡ 10) ⊎ (status ≡ 11)
 
-  run_says : (status ≡ 0) ⊎ (status ≡ 10) → Names named (λ name. Wrote status before after (RunsFile before.held name))
+  never : {P : Type 0} (k : ℕ) → IsRunStatus → status ≡ k → (0 ≡ k → ⊥) → (10 ≡ k → ⊥) → (11 ≡ k → ⊥) → P
+  never k plain is no_zero no_ten no_eleven = neither status k is (λ e. no_zero (sym e)) (λ e. no_ten (sym e)) (λ e. no_eleven (sym e)) plain
+
+  run_says : IsRunStatus → Names named (λ name. Wrote status before after (RunsFile before.held name))
       → SaysItsCause status named before after
   run_says plain cause = record {
-    words_refused = λ e. never 2 plain e (λ f. omega arith) (λ f. omega arith);
-    agent_refused = λ e. never 3 plain e (λ f. omega arith) (λ f. omega arith);
-    read_fault = λ e. never 4 plain e (λ f. omega arith) (λ f. omega arith);
-    write_fault = λ e. never 5 plain e (λ f. omega arith) (λ f. omega arith);
-    done_or_stuck = λ e. cause;
+    words_refused = λ e. never 2 plain e (λ f. omega arith) (λ f. omega arith) (λ f. omega arith);
+    agent_refused = λ e. never 3 plain e (λ f. omega arith) (λ f. omega arith) (λ f. omega arith);
+    read_fault = λ e. never 4 plain e (λ f. omega arith) (λ f. omega arith) (λ f. omega arith);
+    write_fault = λ e. never 5 plain e (λ f. omega arith) (λ f. omega arith) (λ f. omega arith);
+    ran = λ e. cause;
   }
 
 says : (status : ℕ) (outcome : Outcome) (named : Option Text) (before after : Outside)
@@ -120,7 +127,8 @@ says : (status : ℕ) (outcome : Outcome) (named : Option Text) (before after : 
     → SaysItsCause status named before after
 says status WordsRefused None before after cause (inl written) = words_say status None before after written.0 refl
 says status ReadFault (Some name) before after cause (inl written) = fault_says status (Some name) before after written.0 cause
-says status AgentRefused (Some name) before after cause (inl written) = refused_says status (Some name) before after written.0 cause
+says status (AgentRefused text) (Some name) before after cause (inl written) =
+    refused_says status (Some name) before after written.0 (record { text = text; refused = cause; written = written.1 })
 says status (Ran text answer) (Some name) before after cause (inl written) =
     run_says status (Some name) before after (rw written.0 (plain_status answer cause.runs.run.plain))
     (record { text = text; answer = answer; runs = cause; written = written.1; shown = written.0 })
@@ -133,7 +141,7 @@ words_follow : (status : ℕ) (before after : Outside) → Answers status 2 befo
 words_follow status before after answers = record {
   no_command = λ e. answers;
   no_file = λ name e none. let no : ⊥ = cc in absurd no;
-  no_agent = λ name bytes e read spells. let no : ⊥ = cc in absurd no;
+  no_agent = λ name bytes code at e read refused. let no : ⊥ = cc in absurd no;
   an_agent = λ name bytes agent e read spells. let no : ⊥ = cc in absurd no;
 }
 
@@ -143,13 +151,13 @@ module _ (status : ℕ) (name : Text) (before after : Outside) where
 
   -- what is so of the file that the words name
   file_follows : (HasNone before.held name → Answers status 4 before after)
-      → ((bytes : Text) → IsRead name bytes before after → SpellsNone bytes → Answers status 3 before after)
+      → ((bytes : Text) (code at : ℕ) → IsRead name bytes before after → IsFirstRefusal bytes code at → Answers status 3 before after)
       → ((bytes : Text) (agent : Agent) → IsRead name bytes before after → SpellsAgent bytes agent → Ran_or_stopped bytes)
       → FollowsItsCause status (Some name) before after
   file_follows no_file no_agent an_agent = record {
     no_command = λ e. let no : ⊥ = cc in absurd no;
     no_file = λ other e none. let same : other ≡ name = cc in no_file (rw same at none);
-    no_agent = λ other bytes e read spells. let same : other ≡ name = cc in no_agent bytes (rw same at read) spells;
+    no_agent = λ other bytes code at e read refused. let same : other ≡ name = cc in no_agent bytes code at (rw same at read) refused;
     an_agent = λ other bytes agent e read spells. let same : other ≡ name = cc in an_agent bytes agent (rw same at read) spells;
   }
 
@@ -157,14 +165,16 @@ module _ (status : ℕ) (name : Text) (before after : Outside) where
       → FollowsItsCause status (Some name) before after
   fault_follows cause answers =
       file_follows (λ none. answers)
-      (λ bytes read spells. absurd (no_fault name bytes before after read cause))
+      (λ bytes code at read refused. absurd (no_fault name bytes before after read cause))
       (λ bytes agent read spells. absurd (no_fault name bytes before after read cause))
 
-  refused_follows : FileHas before.held name SpellsNone → Answers status 3 before after → FollowsItsCause status (Some name) before after
-  refused_follows has answers =
-      file_follows (λ none. absurd (held_or_not before.held name SpellsNone none has))
-      (λ bytes read spells. answers)
-      (λ bytes agent read spells. absurd (read_has name bytes before after read SpellsNone has agent spells))
+  refused_follows : (text : Text) → FileHas before.held name (λ bytes. RefusesBytes bytes text) → Answers status 3 before after → FollowsItsCause status (Some name) before after
+  refused_follows text has answers =
+      file_follows (λ none. absurd (held_or_not before.held name (λ bytes. RefusesBytes bytes text) none has))
+      (λ bytes code at read refused. answers)
+      (λ bytes agent read spells.
+      let refuses = read_has name bytes before after read (λ bytes. RefusesBytes bytes text) has in
+      absurd (excluded bytes agent spells refuses.code refuses.at refuses.refused))
 
   module _ (text : Text) (answer : Answer) (runs : RunsFile before.held name text answer) where
     abbrev IsTheirs : Text → Type 0
@@ -177,7 +187,7 @@ module _ (status : ℕ) (name : Text) (before after : Outside) where
         → FollowsItsCause status (Some name) before after
     run_follows reports =
         file_follows (λ none. absurd (held_or_not before.held name IsTheirs none runs.has))
-        (λ bytes read spells. absurd (spells runs.runs.agent (rw (read_has name bytes before after read IsTheirs runs.has) runs.runs.spelled)))
+        (λ bytes code at read refused. absurd (excluded bytes runs.runs.agent (rw (read_has name bytes before after read IsTheirs runs.has) runs.runs.spelled) code at refused))
         (λ bytes agent read spells. wrote_or_stopped bytes read reports)
       where
         wrote_or_stopped : (bytes : Text) → IsRead name bytes before after
@@ -193,15 +203,15 @@ follows : (status : ℕ) (outcome : Outcome) (named : Option Text) (before after
 follows status WordsRefused None before after cause reports = words_follow status before after (stopped_or status WordsRefused before after reports)
 follows status ReadFault (Some name) before after cause reports =
     fault_follows status name before after cause (stopped_or status ReadFault before after reports)
-follows status AgentRefused (Some name) before after cause reports =
-    refused_follows status name before after cause (stopped_or status AgentRefused before after reports)
+follows status (AgentRefused text) (Some name) before after cause reports =
+    refused_follows status name before after text cause (stopped_or status (AgentRefused text) before after reports)
 follows status (Ran text answer) (Some name) before after cause reports = run_follows status name before after text answer cause reports
 follows status _ _ before after cause reports = absurd cause
 
 starved_follows : (status : ℕ) (named : Option Text) (before after : Outside) → status ≡ 6 → IsSome named → FollowsItsCause status named before after
 starved_follows status None before after is command = let no : ⊥ = cc in absurd no
 starved_follows status (Some name) before after is command =
-    file_follows status name before after (λ none. inr (inr is)) (λ bytes read spells. inr (inr is)) (λ bytes agent read spells. inr (inr is))
+    file_follows status name before after (λ none. inr (inr is)) (λ bytes code at read refused. inr (inr is)) (λ bytes agent read spells. inr (inr is))
 
 pub exact : StatusesAreExact
 exact status named before after (inl reported) = (

@@ -1,4 +1,3 @@
-pub mod BareLemmas
 pub mod RunLemmas
 pub mod OutcomeLemmas
 pub mod ExactLemmas

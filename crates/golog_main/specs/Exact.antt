@@ -8,8 +8,8 @@ use Rattle.golog_tree.specs.declared.agent.Agent.{Agent}
 use Rattle.golog_semantics.specs.declared.journal.Answer.{Answer}
 use Rattle.golog_semantics.specs.Text.{Text}
 use Rattle.golog_semantics.specs.Execution.{status_of as answer_status}
-use Rattle.golog_agent.specs.Spelled.{SpellsAgent, SpellsNone}
-use Rattle.golog_main.specs.Outcome.{Outside, RunsBytes, RunsFile, Ends}
+use Rattle.golog_agent.specs.Spelled.{SpellsAgent, IsFirstRefusal}
+use Rattle.golog_main.specs.Outcome.{Outside, RefusesBytes, RunsBytes, RunsFile, Ends}
 
 -- the words are a command, and this is so of the file that they name
 abbrev pub Names : Option Text → (Text → Type 0) → Type 0
@@ -23,16 +23,22 @@ pub record Wrote (status : ℕ) (before after : Outside) (Runs : Text → Answer
   pub written : after.taken ≡ and_then_bytes before.taken text
   pub shown : status ≡ answer_status answer
 
+-- the refusal of the file of this name was written whole
+pub record WroteRefusal (before after : Outside) (name : Text) : Type 0 where
+  pub text : Text
+  pub refused : FileHas before.held name (λ bytes. RefusesBytes bytes text)
+  pub written : after.taken ≡ and_then_bytes before.taken text
+
 -- ---- a status only where its cause is
 
 -- what each status says
 pub record SaysItsCause (status : ℕ) (named : Option Text) (before after : Outside) : Type 0 where
   pub words_refused : status ≡ 2 → named ≡ None
-  pub agent_refused : status ≡ 3 → Names named (λ name. FileHas before.held name SpellsNone)
+  pub agent_refused : status ≡ 3 → Names named (WroteRefusal before after)
   pub read_fault : status ≡ 4
       → Names named (λ name. HasNone before.held name ⊎ Rose before.file_faults after.file_faults)
   pub write_fault : status ≡ 5 → Rose before.sink_faults after.sink_faults
-  pub done_or_stuck : (status ≡ 0) ⊎ (status ≡ 10)
+  pub ran : (status ≡ 0) ⊎ (status ≡ 10) ⊎ (status ≡ 11)
       → Names named (λ name. Wrote status before after (RunsFile before.held name))
 
 -- ---- and wherever its cause is
@@ -56,8 +62,8 @@ pub record IsRead (name bytes : Text) (before after : Outside) : Type 0 where
 pub record FollowsItsCause (status : ℕ) (named : Option Text) (before after : Outside) : Type 0 where
   pub no_command : named ≡ None → Answers status 2 before after
   pub no_file : (name : Text) → named ≡ Some name → HasNone before.held name → Answers status 4 before after
-  pub no_agent : (name bytes : Text) → named ≡ Some name → IsRead name bytes before after
-      → SpellsNone bytes → Answers status 3 before after
+  pub no_agent : (name bytes : Text) (code at : ℕ) → named ≡ Some name → IsRead name bytes before after
+      → IsFirstRefusal bytes code at → Answers status 3 before after
   pub an_agent : (name bytes : Text) (agent : Agent) → named ≡ Some name → IsRead name bytes before after
       → SpellsAgent bytes agent → Wrote status before after (RunsBytes bytes) ⊎ IsStopped status before after
 

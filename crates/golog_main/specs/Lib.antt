@@ -1,4 +1,4 @@
-pub mod Bare
+pub mod Entries
 pub mod Words
 pub mod Outcome
 pub mod Exact

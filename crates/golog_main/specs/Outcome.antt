@@ -1,17 +1,17 @@
 -- What a call of the program comes to: each outcome with its cause, its text and its status.
-use Rattle.std.specs.Prelude.{◌≡◌, ◌⊎◌, ℕ, List, [], ◌∷◌, ◌++◌, Option, None, Some, IsSome, codes}
+use Rattle.std.specs.Prelude.{◌≡◌, ◌⊎◌, ℕ, List, [], ◌∷◌, ◌++◌, Option, None, Some, IsSome, codes, decimal}
 use Rattle.golog_base.specs.Faults.{Rose}
 use Rattle.golog_base.specs.Files.{HasNone, FileHas}
 use Rattle.golog_base.specs.Known.{and_then_bytes, AddsPrefix}
 use Rattle.golog_base.specs.declared.mem_files.HeldFile.{HeldFile}
 use Rattle.golog_tree.specs.declared.agent.Agent.{Agent}
 use Rattle.golog_semantics.specs.declared.journal.Answer.{Answer}
-use Rattle.golog_semantics.specs.declared.journal.Answer.TheVariants.{Done, Stuck}
 use Rattle.golog_semantics.specs.declared.journal.Entry.TheVariants.{End}
 use Rattle.golog_semantics.specs.Journal.{Journal}
 use Rattle.golog_semantics.specs.Text.{Text}
 use Rattle.golog_semantics.specs.Execution.{IsOnlineRun, status_of as answer_status}
-use Rattle.golog_agent.specs.Spelled.{SpellsAgent, SpellsNone}
+use Rattle.golog_agent.specs.Run.{IsPlainAnswer}
+use Rattle.golog_agent.specs.Spelled.{SpellsAgent, IsFirstRefusal}
 use Rattle.golog_main.specs.declared.outcome.Outcome.{Outcome}
 use Rattle.golog_main.specs.declared.outcome.Outcome.TheVariants.{WordsRefused, ReadFault, AgentRefused, Ran}
 
@@ -20,31 +20,35 @@ use Rattle.golog_main.specs.declared.outcome.Outcome.TheVariants.{WordsRefused, 
 abbrev pub line : Text → Text
 line text = text ++ 10 ∷ []
 
+-- the refusal of an agent file, with its code and its place
+abbrev pub refusal_text : ℕ → ℕ → Text
+refusal_text code at = line (codes "refused agent " ++ decimal code ++ codes " at " ++ decimal at)
+
 abbrev pub text_of : Outcome → Text
 text_of WordsRefused = line (codes "words refused")
 text_of ReadFault = line (codes "read fault agent")
-text_of AgentRefused = line (codes "refused agent 29 at 0")
+text_of (AgentRefused text) = text
 text_of (Ran text answer) = text
 
 abbrev pub status_of : Outcome → ℕ
 status_of WordsRefused = 2
 status_of ReadFault = 4
-status_of AgentRefused = 3
+status_of (AgentRefused text) = 3
 status_of (Ran text answer) = answer_status answer
 
 -- ---- the causes
 
--- the text is that of an online execution of the agent's program, which is done or stuck
+-- the text is that of an online execution of the agent's program, which is done, stuck or unknown
 pub record IsRunOf (agent : Agent) (text : Text) (answer : Answer) : Type 0 where
   pub online : IsOnlineRun agent text (answer_status answer)
-  pub plain : (answer ≡ Done) ⊎ (answer ≡ Stuck)
+  pub plain : IsPlainAnswer answer
 
--- the last entry ends the program, as done or as stuck
+-- the last entry ends the program, as done, stuck or unknown
 pub record EndsInAnswer (entries : Journal) : Type 0 where
   pub before : Journal
   pub answer : Answer
   pub is : entries ≡ before ++ End answer ∷ []
-  pub plain : (answer ≡ Done) ⊎ (answer ≡ Stuck)
+  pub plain : IsPlainAnswer answer
 
 -- an outcome of the agent's program
 abbrev pub RunOf : Agent → Outcome → Type 0
@@ -57,9 +61,16 @@ pub record RunsBytes (bytes text : Text) (answer : Answer) : Type 0 where
   pub spelled : SpellsAgent bytes agent
   pub run : IsRunOf agent text answer
 
+-- the text tells the first refusal of the bytes
+pub record RefusesBytes (bytes text : Text) : Type 0 where
+  pub code : ℕ
+  pub at : ℕ
+  pub refused : IsFirstRefusal bytes code at
+  pub is : text ≡ refusal_text code at
+
 -- what a file of these bytes comes to
 abbrev pub ComesOf : Outcome → Text → Type 0
-ComesOf AgentRefused bytes = SpellsNone bytes
+ComesOf (AgentRefused text) bytes = RefusesBytes bytes text
 ComesOf (Ran text answer) bytes = RunsBytes bytes text answer
 ComesOf _ bytes = ⊥
 
@@ -74,7 +85,8 @@ abbrev pub Comes : Outcome → Option Text → Option (List HeldFile) → ℕ �
 Comes WordsRefused None held faults_before faults_after = Unit {0}
 Comes ReadFault (Some name) held faults_before faults_after =
     HasNone held name ⊎ Rose faults_before faults_after
-Comes AgentRefused (Some name) held faults_before faults_after = FileHas held name SpellsNone
+Comes (AgentRefused text) (Some name) held faults_before faults_after =
+    FileHas held name (λ bytes. RefusesBytes bytes text)
 Comes (Ran text answer) (Some name) held faults_before faults_after = RunsFile held name text answer
 Comes outcome name held faults_before faults_after = ⊥
 

@@ -14,8 +14,8 @@ pub enum Outcome {
     WordsRefused,
     /// The agent file cannot be read.
     ReadFault,
-    /// The agent file spells no agent.
-    AgentRefused,
+    /// The agent file is refused: what is said of it.
+    AgentRefused { text: Bytes },
     /// The program ran: the text of its journal, and its answer.
     Ran { text: Bytes, answer: Answer },
 }
@@ -28,8 +28,7 @@ impl Outcome {
         match self {
             Outcome::WordsRefused => b"words refused\n",
             Outcome::ReadFault => b"read fault agent\n",
-            Outcome::AgentRefused => b"refused agent 29 at 0\n",
-            Outcome::Ran { text, .. } => text.as_slice(),
+            Outcome::AgentRefused { text } | Outcome::Ran { text, .. } => text.as_slice(),
         }
     }
 
@@ -40,7 +39,7 @@ impl Outcome {
         match self {
             Outcome::WordsRefused => 2,
             Outcome::ReadFault => 4,
-            Outcome::AgentRefused => 3,
+            Outcome::AgentRefused { .. } => 3,
             Outcome::Ran { answer, .. } => exit_status(*answer),
         }
     }

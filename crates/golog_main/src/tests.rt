@@ -1,7 +1,5 @@
-use crate::{NO_MEMORY, golog, journal_text};
+use crate::{NO_MEMORY, golog};
 use golog_base::{Bytes, HeldFile, List, MemFiles, MemSink, NoMemory, Text};
-use golog_semantics::{Answer, Entry, Report};
-use golog_tree::{Agent, Prog};
 use std::alloc::Global;
 use std::test::Fail;
 
@@ -105,6 +103,46 @@ fn effects_stand_until_others_change_them(rt: HostRuntime) -> Result<(), Fail> {
     Ok(())
 }
 
+/// Whether a run of a file of these bytes writes this journal and has this status.
+fn runs_to(alloc: Global, bytes: &[u8], journal: &str, status: u8) -> Result<bool, NoMemory> {
+    let call = ran(alloc, bytes)?;
+    Ok(call.status == status && call.out.bytes() == journal.as_bytes())
+}
+
+#[test]
+fn what_is_not_known_ends_as_unknown(rt: HostRuntime) -> Result<(), Fail> {
+    let alloc = rt.alloc();
+    let test = b"(agent (fluent p () bool) (main (test (p))))";
+    assert!(rt; runs_to(alloc, test, "0 end unknown\n", 11)?);
+    let effect =
+        b"(agent (fluent p () bool false) (fluent q () bool) (action a ()) (causes (a) (p) true (q)) (main (seq (act a) (test (p)))))";
+    assert!(rt; runs_to(alloc, effect, "0 do a\n1 end unknown\n", 11)?);
+    let poss = b"(agent (fluent p () bool) (action a ()) (poss (a) (p)) (main (act a)))";
+    assert!(rt; runs_to(alloc, poss, "0 end unknown\n", 11)?);
+    Ok(())
+}
+
+#[test]
+fn what_is_the_same_either_way_is_known(rt: HostRuntime) -> Result<(), Fail> {
+    let alloc = rt.alloc();
+    let effect =
+        b"(agent (fluent p () bool true) (fluent q () bool) (action a ()) (causes (a) (p) true (q)) (main (seq (act a) (test (p)))))";
+    assert!(rt; runs_to(alloc, effect, "0 do a\n1 test\n2 end done\n", 0)?);
+    let top =
+        b"(agent (sort level 1 2) (fluent floor () level 1) (action up ()) (causes (up) (floor) (+ (floor) 1)) (main (seq (act up) (act up) (test (= (floor) 2)))))";
+    assert!(rt; runs_to(alloc, top, "0 do up\n1 do up\n2 test\n3 end done\n", 0)?);
+    Ok(())
+}
+
+#[test]
+fn actions_have_arguments_and_preconditions(rt: HostRuntime) -> Result<(), Fail> {
+    let alloc = rt.alloc();
+    let moves =
+        b"(agent (sort place a b) (sort level -1 1) (fluent at (place level) bool false) (action move (place level)) (poss (move x l) (not (at x l))) (causes (move x l) (at x l) true) (main (seq nil (act move b -1) (test (at b -1)) (act move b -1))))";
+    assert!(rt; runs_to(alloc, moves, "0 do move(b,-1)\n1 test\n2 end stuck\n", 10)?);
+    Ok(())
+}
+
 fn are_refused(alloc: Global, words: &[&str]) -> Result<bool, NoMemory> {
     let call = called(alloc, words, files_of(alloc, ONE, &[])?)?;
     Ok(call.status == 2 && call.out.bytes() == b"words refused\n".as_slice())
@@ -149,21 +187,151 @@ fn a_read_that_fails_in_mid_stream_is_a_read_fault(rt: HostRuntime) -> Result<()
     Ok(())
 }
 
+/// Whether a file of these bytes is refused, and this is said of it.
+fn is_refused(alloc: Global, bytes: &[u8], said: &str) -> Result<bool, NoMemory> {
+    let call = ran(alloc, bytes)?;
+    Ok(call.status == 3 && call.out.bytes() == said.as_bytes())
+}
+
 #[test]
-fn bytes_that_spell_no_agent_are_refused(rt: HostRuntime) -> Result<(), Fail> {
-    let alloc = rt.alloc();
-    let wrong: [&[u8]; 5] = [
-        b"",
-        b"(agent)",
-        b"(agent (main nil)",
-        b"(agent (main (act a)))",
-        b"(agent (main nil) (action a ()))",
+fn bytes_that_spell_no_form_are_refused(rt: HostRuntime) -> Result<(), Fail> {
+    let files: [(&[u8], &str); 4] = [
+        (b"(agent (main nil)", "refused agent 1 at 17\n"),
+        (b")", "refused agent 2 at 0\n"),
+        (b"(agent $ (main nil))", "refused agent 3 at 7\n"),
+        (b"", "refused agent 6 at 0\n"),
     ];
-    for bytes in wrong {
-        let call = ran(alloc, bytes)?;
-        assert_eq!(rt; call.status, 3);
-        assert!(rt; call.out.bytes() == b"refused agent 29 at 0\n".as_slice());
+    for (bytes, said) in files {
+        assert!(rt; is_refused(rt.alloc(), bytes, said)?, "{said}");
     }
+    Ok(())
+}
+
+#[test]
+fn forms_that_spell_no_theory_are_refused(rt: HostRuntime) -> Result<(), Fail> {
+    let files: [(&[u8], &str); 7] = [
+        (b"(theory)", "refused agent 20 at 0\n"),
+        (
+            b"(agent (fluent p () bool) (fluent p () bool) (main nil))",
+            "refused agent 21 at 34\n",
+        ),
+        (
+            b"(agent (fluent p () level) (main nil))",
+            "refused agent 22 at 20\n",
+        ),
+        (
+            b"(agent (causes (a) (p) true) (main nil))",
+            "refused agent 23 at 16\n",
+        ),
+        (
+            b"(agent (action a ()) (causes (a b) (interrupts_running) true) (main nil))",
+            "refused agent 24 at 29\n",
+        ),
+        (
+            b"(agent (action aaaaaaaaaaaaaaaaaaaaaaaaaaaaaaaa ()) (main nil))",
+            "refused agent 25 at 15\n",
+        ),
+        (
+            b"(agent (sort level 2 1) (main nil))",
+            "refused agent 26 at 7\n",
+        ),
+    ];
+    for (bytes, said) in files {
+        assert!(rt; is_refused(rt.alloc(), bytes, said)?, "{said}");
+    }
+    Ok(())
+}
+
+#[test]
+fn theories_that_are_not_well_formed_are_refused(rt: HostRuntime) -> Result<(), Fail> {
+    let files: [(&[u8], &str); 5] = [
+        (
+            b"(agent (sort level 1 2) (fluent floor () level) (action a ()) (poss (a) (floor)) (main nil))",
+            "refused agent 30 at 72\n",
+        ),
+        (
+            b"(agent (sort level 1 2) (fluent floor () level 1) (main (test (= (floor) up))))",
+            "refused agent 31 at 73\n",
+        ),
+        (
+            b"(agent (sort level 1 255) (fluent on (level level) bool) (main nil))",
+            "refused agent 34 at 26\n",
+        ),
+        (
+            b"(agent (sort level 1 4) (fluent floor () level 9) (main nil))",
+            "refused agent 35 at 47\n",
+        ),
+        (
+            b"(agent (action a ()) (senses (a) (interrupts_running)) (main nil))",
+            "refused agent 36 at 21\n",
+        ),
+    ];
+    for (bytes, said) in files {
+        assert!(rt; is_refused(rt.alloc(), bytes, said)?, "{said}");
+    }
+    Ok(())
+}
+
+#[test]
+fn programs_that_are_not_built_are_refused(rt: HostRuntime) -> Result<(), Fail> {
+    let files: [(&[u8], &str); 12] = [
+        (b"(agent)", "refused agent 29 at 0\n"),
+        (b"(agent (main nil) (main nil))", "refused agent 29 at 0\n"),
+        (b"(agent (main))", "refused agent 29 at 0\n"),
+        (b"(agent (main (star nil)))", "refused agent 29 at 0\n"),
+        (b"(agent (main (seq (seq nil))))", "refused agent 29 at 0\n"),
+        (b"(agent (main (act a)))", "refused agent 29 at 0\n"),
+        (
+            b"(agent (main (act a)) (action a ()))",
+            "refused agent 29 at 0\n",
+        ),
+        (
+            b"(agent (fluent p () bool true) (main (test p)))",
+            "refused agent 29 at 0\n",
+        ),
+        (
+            b"(agent (action a ()) (main (act a b)))",
+            "refused agent 29 at 0\n",
+        ),
+        (b"(agent (device d) (main nil))", "refused agent 29 at 0\n"),
+        (
+            b"(agent (device d) (exo e () d) (main nil))",
+            "refused agent 29 at 0\n",
+        ),
+        (
+            b"(agent (proc p () nil) (main nil))",
+            "refused agent 29 at 0\n",
+        ),
+    ];
+    for (bytes, said) in files {
+        assert!(rt; is_refused(rt.alloc(), bytes, said)?, "{said}");
+    }
+    Ok(())
+}
+
+#[test]
+fn the_earlier_stage_goes_first(rt: HostRuntime) -> Result<(), Fail> {
+    let files: [(&[u8], &str); 3] = [
+        (b"(agent (bad)", "refused agent 1 at 12\n"),
+        (
+            b"(agent (sort level 1 4) (fluent floor () level 9) (bad) (main nil))",
+            "refused agent 20 at 50\n",
+        ),
+        (
+            b"(agent (device d) (sort level 1 4) (fluent floor () level 9))",
+            "refused agent 35 at 58\n",
+        ),
+    ];
+    for (bytes, said) in files {
+        assert!(rt; is_refused(rt.alloc(), bytes, said)?, "{said}");
+    }
+    Ok(())
+}
+
+/// A file that opens 129 lists.
+#[test]
+fn a_form_that_is_too_deep_is_refused(rt: HostRuntime) -> Result<(), Fail> {
+    assert!(rt; is_refused(rt.alloc(), &[b'('; 129], "refused agent 4 at 128\n")?);
     Ok(())
 }
 
@@ -182,7 +350,7 @@ fn a_file_above_its_limit_is_refused(rt: HostRuntime) -> Result<(), Fail> {
     assert!(rt; longest.out.bytes() == b"0 end done\n".as_slice());
     let above = ran(alloc, padded(alloc, 1_048_577)?.as_slice())?;
     assert_eq!(rt; above.status, 3);
-    assert!(rt; above.out.bytes() == b"refused agent 29 at 0\n".as_slice());
+    assert!(rt; above.out.bytes() == b"refused agent 5 at 1048576\n".as_slice());
     Ok(())
 }
 
@@ -199,32 +367,5 @@ fn a_write_that_fails_in_mid_stream_leaves_a_prefix(rt: HostRuntime) -> Result<(
     let call = ran_into(rt.alloc(), 10, &[])?;
     assert_eq!(rt; call.status, 5);
     assert!(rt; call.out.bytes() == b"0 do a\n1 t".as_slice());
-    Ok(())
-}
-
-#[test]
-fn a_journal_is_written_line_by_line(rt: HostRuntime) -> Result<(), Fail> {
-    let alloc = rt.alloc();
-    let agent = Agent {
-        sorts: List::new(alloc),
-        fluents: List::new(alloc),
-        actions: List::new(alloc),
-        devices: List::new(alloc),
-        poss: List::new(alloc),
-        causes: List::new(alloc),
-        senses: List::new(alloc),
-        starts: List::new(alloc),
-        procs: List::new(alloc),
-        main: Prog::Nil,
-    };
-    let end = Entry::End {
-        answer: Answer::Unanswered,
-    };
-    let report = Report {
-        entries: List::copy_of(alloc, &[Entry::Test, end])?,
-        runs: List::new(alloc),
-    };
-    let text = journal_text(alloc, &agent, &report)?;
-    assert!(rt; text.as_slice() == b"0 test\n1 end unanswered\n".as_slice());
     Ok(())
 }

@@ -1,20 +1,21 @@
-// The text of a journal whose actions are names alone.
-ghost use Rattle.std.specs.Prelude.{◌≡◌, ℕ, List, [], ◌∷◌, ◌++◌, None, IsTrue, length, IfOk, OnOk};
-ghost use Rattle.std.specs.List.{AllPass};
+// The text of a journal of a program without devices.
+ghost use Rattle.std.specs.Prelude.{◌≡◌, ℕ, List, [], ◌∷◌, ◌++◌, None, All, length, IfOk, OnOk};
 ghost use Rattle.golog_semantics.specs.Journal.{Journal};
-ghost use Rattle.golog_semantics.specs.Text.{action_text, answer_text, body_text, line_text, report_text};
+ghost use Rattle.golog_semantics.specs.Text.{answer_text, body_text, line_text, report_text};
 ghost use Rattle.golog_semantics.specs.Truth.{Values};
-ghost use Rattle.golog_main.specs.Bare.{HasBareActions, is_own_entry};
+ghost use Rattle.golog_tree.specs.Ground.{IsCountable};
+ghost use Rattle.golog_main.specs.Entries.{IsPlainEntry};
 
 use golog_base::{Bytes, NoMemory};
+use golog_ground::action_text;
 use golog_semantics::{Answer, Entry, Report};
 use golog_tree::Agent;
 use std::alloc::Global;
 
 /// The text of a report: a line for each entry, with its place, a space and its body.
 pub fn journal_text(alloc: Global, agent: &Agent, report: &Report) -> Result<Bytes, NoMemory>
-    requires bare { HasBareActions agent.now }
-    requires own { AllPass is_own_entry report.now.entries }
+    requires countable { IsCountable agent.now }
+    requires plain { All (IsPlainEntry agent.now) report.now.entries }
     requires no_runs { report.now.runs ≡ [] }
     ensures { IfOk result (λ text. text ≡ report_text agent.now report.now) }
 {
@@ -33,8 +34,8 @@ fn add_line(
     place: usize,
     entry: Entry,
 ) -> Result<(), NoMemory>
-    requires bare { HasBareActions agent.now }
-    requires own { IsTrue (is_own_entry entry) }
+    requires countable { IsCountable agent.now }
+    requires plain { IsPlainEntry agent.now entry }
     ensures { (before : Journal) → length before ≡ place
         → OnOk result (text.new ≡ text.old ++ (line_text agent.now [] before entry ++ 10 ∷ [])) }
 {
@@ -45,14 +46,14 @@ fn add_line(
 
 // Adds what the line of an entry says.
 fn add_body(text: &mut Bytes, agent: &Agent, entry: Entry) -> Result<(), NoMemory>
-    requires bare { HasBareActions agent.now }
-    requires own { IsTrue (is_own_entry entry) }
+    requires countable { IsCountable agent.now }
+    requires plain { IsPlainEntry agent.now entry }
     ensures { (values : Values) → OnOk result (text.new ≡ text.old ++ body_text agent.now values None entry) }
 {
     match entry {
         Entry::Do { action } => {
             text.extend(b"do ")?;
-            text.extend(action_name(agent, action))
+            text.extend(action_text(agent, action).as_bytes())
         }
         Entry::Test => text.extend(b"test"),
         Entry::End { answer } => {
@@ -60,17 +61,6 @@ fn add_body(text: &mut Bytes, agent: &Agent, entry: Entry) -> Result<(), NoMemor
             text.extend(answer_name(answer))
         }
         _ => unreachable!(),
-    }
-}
-
-// The name of an action, or nothing where the agent has no such action.
-fn action_name(agent: &Agent, action: u32) -> &[u8]
-    requires { HasBareActions agent.now }
-    ensures { result.now ≡ action_text agent.now action }
-{
-    match agent.actions.as_slice().get(action as usize) {
-        Some(item) => item.name.as_bytes(),
-        None => &[],
     }
 }
 

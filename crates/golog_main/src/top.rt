@@ -1,22 +1,27 @@
 // The top call.
 ghost use Rattle.std.specs.Prelude.{◌≡◌, ◌⊎◌, map, string_bytes, IsSome, IfOk, OnErr, Contains};
-ghost use Rattle.golog_agent.specs.Small.{IsSmall};
+ghost use Rattle.golog_agent.specs.Run.{IsPlainAnswer};
+ghost use Rattle.golog_agent.specs.Simple.{IsSimple};
+ghost use Rattle.golog_semantics.specs.WellFormed.{WellFormed};
 ghost use Rattle.golog_semantics.specs.declared.journal.Entry.TheVariants.{End};
-ghost use Rattle.golog_semantics.specs.declared.journal.Answer.TheVariants.{Done, Stuck};
-ghost use Rattle.golog_main.specs.Outcome.{Comes, ComesOf, Ends, EndsInAnswer, Reports, RunOf, outside, text_of, status_of};
+ghost use Rattle.golog_main.specs.Outcome.{Comes, ComesOf, Ends, EndsInAnswer, Reports, RunOf, outside, refusal_text, text_of, status_of};
 ghost use Rattle.golog_main.specs.Words.{agent_named};
+ghost use Rattle.golog_main.specs.declared.outcome.Outcome.TheVariants.{AgentRefused};
 
 use crate::outcome::Outcome;
 use crate::text::journal_text;
 use crate::words::agent_word;
 use golog_agent::{AgentFault, read_agent, run_agent};
-use golog_base::{Files, NoMemory, ReadFault, Sink, read_all, write_all};
+use golog_base::{Bytes, Files, NoMemory, ReadFault, Sink, read_all, write_all};
 use golog_semantics::{Answer, Entry, Report};
 use golog_tree::Agent;
 use std::alloc::Global;
 
 /// How many bytes an agent file may have.
 const LONGEST_FILE: u32 = 1_048_576;
+
+/// The code of an agent file with more bytes.
+const TOO_LONG: u8 = 5;
 
 /// The exit status where a write failed.
 const WRITE_FAULT: u8 = 5;
@@ -31,8 +36,9 @@ pub const NO_MEMORY: u8 = 6;
 ///
 /// - 2, `words refused`: the words are anything else.
 /// - 4, `read fault agent`: the file is not there, or a call of `files` failed.
-/// - 3, `refused agent 29 at 0`: the file spells no agent, or has more than 1,048,576 bytes.
-/// - 0 or 10, the journal of an online execution of the agent's program, which ends `done` or `stuck`.
+/// - 3, `refused agent CODE at PLACE`: the file spells no agent; the code and the place are those of its first
+///   refusal, in the order of the stages of `golog_agent::read_agent`.
+/// - 0, 10 or 11, the journal of an online execution of the agent's program, which ends `done`, `stuck` or `unknown`.
 ///
 /// Each line ends with a line feed. Where a write fails the answer is 5, and a prefix of the text is written.
 /// Where memory runs out the answer is 6, and nothing is written.
@@ -59,7 +65,7 @@ fn outcome_of<F: Files>(alloc: Global, words: &[String], files: &mut F) -> Resul
     match read_all(alloc, files, name, LONGEST_FILE) {
         Ok(bytes) => run_file(alloc, bytes.as_slice()),
         Err(ReadFault::Failed) => Ok(Outcome::ReadFault),
-        Err(ReadFault::TooLong) => Ok(Outcome::AgentRefused),
+        Err(ReadFault::TooLong) => refused(alloc, TOO_LONG, LONGEST_FILE),
         Err(ReadFault::Memory) => Err(NoMemory),
     }
 }
@@ -74,14 +80,36 @@ fn run_file(alloc: Global, bytes: &[u8]) -> Result<Outcome, NoMemory>
             drop(agent);
             outcome
         }
-        Err(AgentFault::Refused) => Ok(Outcome::AgentRefused),
+        Err(AgentFault::Refused { code, at }) => refused(alloc, code, at),
         Err(AgentFault::Memory) => Err(NoMemory),
     }
 }
 
+// What is said of an agent file that is refused with this code and this place.
+fn refusal_text(alloc: Global, code: u8, at: u32) -> Result<Bytes, NoMemory>
+    ensures { IfOk result (λ text. text ≡ refusal_text code at) }
+{
+    let mut text = Bytes::new(alloc);
+    text.extend(b"refused agent ")?;
+    text.extend(format!(in alloc; "{code}")?.as_bytes())?;
+    text.extend(b" at ")?;
+    text.extend(format!(in alloc; "{at}")?.as_bytes())?;
+    text.extend(b"\n")?;
+    Ok(text)
+}
+
+// The refusal of an agent file.
+fn refused(alloc: Global, code: u8, at: u32) -> Result<Outcome, NoMemory>
+    ensures { IfOk result (λ outcome. outcome ≡ AgentRefused (refusal_text code at)) }
+{
+    let text = refusal_text(alloc, code, at)?;
+    Ok(Outcome::AgentRefused { text })
+}
+
 // What a run of the agent's program comes to.
 fn run_program(alloc: Global, agent: &Agent) -> Result<Outcome, NoMemory>
-    requires { IsSmall agent.now }
+    requires formed { WellFormed agent.now }
+    requires simple { IsSimple agent.now }
     ensures { IfOk result (RunOf agent.now) }
 {
     let report = run_agent(alloc, agent)?;
@@ -94,7 +122,7 @@ fn run_program(alloc: Global, agent: &Agent) -> Result<Outcome, NoMemory>
 fn last_answer(report: &Report) -> Answer
     requires { EndsInAnswer report.now.entries }
     ensures stands { Contains report.now.entries (End result) }
-    ensures plain { (result ≡ Done) ⊎ (result ≡ Stuck) }
+    ensures plain { IsPlainAnswer result }
 {
     match report.entries.as_slice().last() {
         Some(Entry::End { answer }) => *answer,

@@ -1,5 +1,5 @@
-use Rattle.golog_main.proofs.RunLemmas.{run_is_own}
+use Rattle.golog_main.proofs.RunLemmas.{run_is_plain}
 use Rattle.golog_main.proofs.top.run_program.Goals as goal
 
-pub journal_text-requires-clause-own : goal.journal_text-requires-clause-own
-journal_text-requires-clause-own c = run_is_own c.args.agent.now c.in_ok-report.report c.in_ok-report.ensures.ran
+pub journal_text-requires-clause-plain : goal.journal_text-requires-clause-plain
+journal_text-requires-clause-plain c = run_is_plain c.args.agent.now c.requires.formed c.requires.simple c.in_ok-report.report c.in_ok-report.ensures.ran
