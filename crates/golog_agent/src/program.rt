@@ -23,7 +23,7 @@ const PARTS: usize = 1000;
 fn is_posted(theory: &Indexed<'_>, action: usize) -> bool
     ensures { result ≡ is_posted (slice_get theory.now.actions action) }
 {
-    match theory.theory().actions.as_slice().get(action) {
+    match theory.actions().get(action) {
         Some(action) => action.posters.len() > 0,
         None => false,
     }

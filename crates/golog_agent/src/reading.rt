@@ -55,11 +55,11 @@ fn agent_with(
     }
 }
 
-/// The refusal of items that spell no program, by what the check of their theory answers: its refusal, or that the
-/// program is not built.
+/// The refusal of items that spell no program, by what the check of their theory answers: its refusal, or
+/// that the program is not built.
 fn refusal_by(answer: Result<Agent, CheckFault>) -> AgentFault
-    ensures { (theory : DraftTheory) (items : List Form) → program_in theory items ≡ None → Checks answer theory (alone (Nil 0) 0)
-        → ItemsAnswer theory items (Err result) }
+    ensures { (theory : DraftTheory) (items : List Form) → program_in theory items ≡ None
+        → Checks answer theory (alone (Nil 0) 0) → ItemsAnswer theory items (Err result) }
 {
     match answer {
         Ok(agent) => {
@@ -73,7 +73,8 @@ fn refusal_by(answer: Result<Agent, CheckFault>) -> AgentFault
 /// The refusal of items that spell no program.
 fn refusal_of(alloc: Global, theory: &DraftTheory) -> AgentFault
     requires { TheoryKeeps theory.now }
-    ensures { (items : List Form) → program_in theory.now items ≡ None → ItemsAnswer theory.now items (Err result) }
+    ensures { (items : List Form) → program_in theory.now items ≡ None
+        → ItemsAnswer theory.now items (Err result) }
 {
     let program = nil(alloc);
     let answer = check(alloc, theory, &program);
@@ -114,11 +115,11 @@ fn agent_in(alloc: Global, form: &Form) -> Result<Agent, AgentFault>
     }
 }
 
-/// The agent that the bytes of a file spell, or the first refusal, with its code and its place. It is looked for in
-/// stages: 1 to 6, the bytes spell no form; 20 to 26, the form spells no theory; 30 to 36 and 38, the theory or the
-/// program of `main` is not well-formed; and 29 at 0, the file has a `device`, an `exo` or a `proc` item, or has not
-/// exactly one `main`, which is `nil`, an `act`, a `test` or a `seq` of at most 1,000 of these. `Memory` where memory
-/// runs out.
+/// The agent that the bytes of a file spell, or the first refusal, with its code and its place. It is looked
+/// for in stages: 1 to 6, the bytes spell no form; 20 to 26, the form spells no theory; 30 to 36 and 38, the
+/// theory or the program of `main` is not well-formed; and 29 at 0, the file has a `device`, an `exo` or a
+/// `proc` item, or has not exactly one `main`, which is `nil`, an `act`, a `test` or a `seq` of at most 1,000
+/// of these. `Memory` where memory runs out.
 pub fn read_agent(alloc: Global, bytes: &[u8]) -> Result<Agent, AgentFault>
     ensures answer { Reads result bytes.now }
     // What a run asks of its agent.

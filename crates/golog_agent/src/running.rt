@@ -55,8 +55,10 @@ impl Run {
         requires formed { WellFormed agent.now }
         requires theirs { IsTrue (fits agent.now part.now) }
         requires sorted { AreInSorts agent.now self.old.state }
-        ensures state { OnOk result (self.new.state ≡ fold (after_entry agent.now) self.old.state (part_entries agent.now part.now)) }
-        ensures entries { OnOk result (self.new.entries ≡ self.old.entries ++ part_entries agent.now part.now) }
+        ensures state { OnOk result
+            (self.new.state ≡ fold (after_entry agent.now) self.old.state (part_entries agent.now part.now)) }
+        ensures entries { OnOk result
+            (self.new.entries ≡ self.old.entries ++ part_entries agent.now part.now) }
     {
         let Some(entry) = entry_of(agent, part) else {
             return Ok(());
@@ -70,10 +72,12 @@ impl Run {
         requires formed { WellFormed agent.now }
         requires theirs { IsTrue (fits agent.now part.now) }
         requires sorted { AreInSorts agent.now self.old.state }
-        ensures answer { IfOk result (λ answer. answer ≡ answer_before (part_truth agent.now self.old.state part.now)) }
-        ensures state { IfOk result (λ answer. answer ≡ None
-            → self.new.state ≡ fold (after_entry agent.now) self.old.state (part_entries agent.now part.now)) }
-        ensures entries { IfOk result (λ answer. answer ≡ None → self.new.entries ≡ self.old.entries ++ part_entries agent.now part.now) }
+        ensures answer { IfOk result (λ answer.
+            answer ≡ answer_before (part_truth agent.now self.old.state part.now)) }
+        ensures state { IfOk result (λ answer. answer ≡ None → self.new.state
+            ≡ fold (after_entry agent.now) self.old.state (part_entries agent.now part.now)) }
+        ensures entries { IfOk result (λ answer. answer ≡ None
+            → self.new.entries ≡ self.old.entries ++ part_entries agent.now part.now) }
         ensures kept { IfOk result (λ answer. IfSome answer (λ _. self.new.entries ≡ self.old.entries)) }
     {
         let answer = answer_before(truth_of(agent, self.state.values(), part));
@@ -95,10 +99,10 @@ impl Run {
     }
 }
 
-/// The online execution of a simple agent: its program is `nil`, an action, a test, or a sequence of at most 1,000
-/// of these, and it has no devices. A step is taken where it is certain at what is known there: an action where its
-/// precondition is true, a test where its condition is. The program ends as done; as stuck before a step that may
-/// not be taken; and as unknown before one of which that is not known.
+/// The online execution of a simple agent: its program is `nil`, an action, a test, or a sequence of at most
+/// 1,000 of these, and it has no devices. A step is taken where it is certain at what is known there: an action
+/// where its precondition is true, a test where its condition is. The program ends as done; as stuck before a
+/// step that may not be taken; and as unknown before one of which that is not known.
 pub fn run_agent(alloc: Global, agent: &Agent) -> Result<Report, NoMemory>
     requires formed { WellFormed agent.now }
     requires simple { IsSimple agent.now }

@@ -6,6 +6,7 @@ pub mod Each
 pub mod Forms
 pub mod Found
 pub mod Lookups
+pub mod Within
 pub mod Starting
 pub mod Theory
 pub mod Variables

@@ -1,8 +1,9 @@
 -- Where the names of a theory stand: maps that agree with its lists.
-use Rattle.std.specs.Prelude.{◌≡◌, ℕ, Bool, if◌then◌else◌, List, Option, Some, None, position}
+use Rattle.std.specs.Prelude.{◌≡◌, ℕ, nat_lt, Bool, if◌then◌else◌, List, length, Option, Some, None, position}
 use Rattle.std.specs.BTreeMap.{get_by}
 use Rattle.std.specs.Ordering.{nat_cmp}
 use Rattle.std.specs.Cmp.Lexicographic.{slice_cmp}
+use Rattle.golog_tree.specs.declared.draft.DraftSort.{DraftSort}
 use Rattle.golog_tree.specs.declared.draft.DraftFluent.{DraftFluent}
 use Rattle.golog_tree.specs.declared.draft.DraftAction.{DraftAction}
 use Rattle.golog_tree.specs.declared.draft.DraftDevice.{DraftDevice}
@@ -31,3 +32,26 @@ pub record IsIndexOf (index : Index) (theory : DraftTheory) : Type 0 where
   pub devices : Finds (λ word (device : DraftDevice). same word device.name) index.devices theory.devices
   pub fluents : Finds (λ word (fluent : DraftFluent). same word fluent.name) index.fluents theory.fluents
   pub actions : Finds (λ word (action : DraftAction). same word action.name) index.actions theory.actions
+
+-- the number, where it is below the limit
+abbrev pub below : ℕ → Option ℕ → Option ℕ
+below limit None = None
+below limit (Some number) = if nat_lt number limit then Some number else None
+
+-- each word has the number of the first item that stands for it, but for numbers of items behind the last
+abbrev pub FindsBelow : {T : Type 0} → (List ℕ → T → Bool) → Numbers → List T → Type 0
+FindsBelow stands_for numbers items = (word : List ℕ) →
+    below (length items) (number_at numbers word) ≡ position (stands_for word) items
+
+-- the theory with these declarations
+abbrev pub declared : DraftTheory → List DraftSort → List DraftDevice → List DraftFluent → List DraftAction → DraftTheory
+declared theory sorts devices fluents actions =
+    record theory { sorts = sorts; devices = devices; fluents = fluents; actions = actions }
+
+-- the numbers of what a theory declares, maybe among numbers of what is declared behind it
+pub record IsIndexUpTo (index : Index) (theory : DraftTheory) : Type 0 where
+  pub sorts : FindsBelow (λ word sort. same word (sort_name sort)) index.sorts theory.sorts
+  pub constants : FindsBelow lists index.constants theory.sorts
+  pub devices : FindsBelow (λ word (device : DraftDevice). same word device.name) index.devices theory.devices
+  pub fluents : FindsBelow (λ word (fluent : DraftFluent). same word fluent.name) index.fluents theory.fluents
+  pub actions : FindsBelow (λ word (action : DraftAction). same word action.name) index.actions theory.actions

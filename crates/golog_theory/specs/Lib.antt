@@ -12,6 +12,7 @@ pub mod Effects
 pub mod Items
 pub mod Sorts
 pub mod Index
+pub mod Before
 pub mod Draft
 pub mod Started
 pub mod Order

@@ -24,7 +24,7 @@ pub fn device_item(
     let [name] = parts else {
         return Err(unknown_form(at));
     };
-    refuse_where(theory.theory().devices.len() >= DEVICES, COUNT, at)?;
+    refuse_where(theory.devices().len() >= DEVICES, COUNT, at)?;
     let name = new_name(theory, name)?;
     Ok(DraftDevice { name, at })
 }

@@ -160,12 +160,12 @@ pub fn causes_item(
 {
     match parts {
         [action, fluent, term] => {
-            refuse_where(theory.theory().causes.len() >= BUILT_IN + CAUSES, COUNT, at)?;
+            refuse_where(theory.causes().len() >= BUILT_IN + CAUSES, COUNT, at)?;
             let effect = effect_of(alloc, theory, action, fluent, term)?;
             Ok(effect.under(DraftCond::Truth { truth: true, at }, at))
         }
         [action, fluent, term, cond] => {
-            refuse_where(theory.theory().causes.len() >= BUILT_IN + CAUSES, COUNT, at)?;
+            refuse_where(theory.causes().len() >= BUILT_IN + CAUSES, COUNT, at)?;
             let effect = effect_of(alloc, theory, action, fluent, term)?;
             let scope = effect.variable_count(alloc, theory)?;
             let cond = cond_of(alloc, theory, cond, scope)?;

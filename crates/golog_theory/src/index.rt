@@ -1,7 +1,7 @@
 ghost use Rattle.std.specs.Prelude.{◌≡◌, ℕ, List, None, OnOk, IfOk};
 ghost use Rattle.std.specs.List.{list_any};
 ghost use Rattle.golog_theory.specs.Names.{same, lists, sort_name};
-ghost use Rattle.golog_theory.specs.Index.{number_at, or_new, Finds, IsIndexOf};
+ghost use Rattle.golog_theory.specs.Index.{number_at, or_new, below, Finds, IsIndexOf};
 
 use golog_base::{NoMemory, Word};
 use golog_tree::{DraftAction, DraftDevice, DraftFluent, DraftSort, DraftTheory};
@@ -74,6 +74,16 @@ impl Numbers {
         self.by_name.get(name).copied()
     }
 
+    /// The number of the name, where it has one that is below the limit.
+    pub fn get_below(&self, name: &[u8], limit: usize) -> Option<usize>
+        ensures { result ≡ below limit (number_at self.now name.now) }
+    {
+        match self.get(name) {
+            Some(number) if number < limit => Some(number),
+            _ => None,
+        }
+    }
+
     /// Gives the number to the name, unless it has one.
     pub fn add(&mut self, alloc: Global, name: &[u8], number: usize) -> Result<(), NoMemory>
         ensures { OnOk result ((word : List ℕ) → number_at self.new word
@@ -90,7 +100,7 @@ impl Numbers {
 }
 
 /// The numbers of items by their names.
-fn numbers_of<T: Named>(alloc: Global, items: &[T]) -> Result<Numbers, NoMemory>
+pub fn numbers_of<T: Named>(alloc: Global, items: &[T]) -> Result<Numbers, NoMemory>
     ensures { IfOk result (λ numbers. Finds (λ word item. same word (T.name item)) numbers items.now) }
 {
     let mut numbers = Numbers::new(alloc);

@@ -59,7 +59,7 @@ fn range_of(
     let lowest = bound(low);
     let highest = bound(high);
     refuse_where(
-        theory.theory().sorts.len() >= SORTS || is_too_wide(lowest, highest),
+        theory.sorts().len() >= SORTS || is_too_wide(lowest, highest),
         COUNT,
         at,
     )?;
@@ -132,7 +132,7 @@ fn listed_of(
     ensures { Answers result (listed_of theory.now at name.now constants.now) }
 {
     refuse_where(
-        theory.theory().sorts.len() >= SORTS || constants.len() > CONSTANTS,
+        theory.sorts().len() >= SORTS || constants.len() > CONSTANTS,
         COUNT,
         at,
     )?;
