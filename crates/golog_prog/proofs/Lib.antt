@@ -1,0 +1,10 @@
+pub mod Progs
+pub mod Program
+pub mod Binders
+pub mod Nested
+pub mod HasMain
+pub mod Earlier
+pub mod KeptProgs
+pub mod KeptItems
+pub mod KeptProgram
+pub mod Ordered

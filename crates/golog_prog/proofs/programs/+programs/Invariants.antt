@@ -1,0 +1,68 @@
+use Rattle.std.proofs.Common.{◌≡◌, ◌+◌, ◌*◌, List, [], map, drop}
+use Rattle.golog_form.specs.Spelling.{nest}
+use Rattle.golog_tree.specs.declared.draft_prog.DraftProg.{DraftProg}
+use Rattle.golog_theory.specs.Reading.{each}
+use Rattle.golog_theory.specs.Recursion.{Part}
+use Rattle.golog_theory.proofs.Descent.{deepest}
+use Rattle.golog_prog.specs.Constructs.{InScope}
+use Rattle.golog_prog.specs.Programs.{prog_part}
+use Rattle.golog_prog.proofs.programs.+programs.Given as goal
+
+abbrev pub decreases-prog_of : goal.decreases-prog_of
+decreases-prog_of l = 5 * nest l.form.now
+
+abbrev pub decreases-construct_of : goal.decreases-construct_of
+decreases-construct_of l = 5 * deepest l.parts.now + 4
+
+abbrev pub decreases-seq_of : goal.decreases-seq_of
+decreases-seq_of l = 5 * deepest l.parts.now + 3
+
+abbrev pub decreases-choice_of : goal.decreases-choice_of
+decreases-choice_of l = 5 * deepest l.parts.now + 3
+
+abbrev pub decreases-conc_of : goal.decreases-conc_of
+decreases-conc_of l = 5 * deepest l.parts.now + 3
+
+abbrev pub decreases-prio_of : goal.decreases-prio_of
+decreases-prio_of l = 5 * deepest l.parts.now + 3
+
+abbrev pub decreases-several_of : goal.decreases-several_of
+decreases-several_of l = 5 * deepest l.parts.now + 2
+
+abbrev pub decreases-progs_of : goal.decreases-progs_of
+decreases-progs_of l = 5 * deepest l.forms.now + 1
+
+abbrev pub decreases-pick_of : goal.decreases-pick_of
+decreases-pick_of l = 5 * deepest l.parts.now + 3
+
+abbrev pub decreases-one_of : goal.decreases-one_of
+decreases-one_of l = 5 * deepest l.parts.now + 2
+
+abbrev pub decreases-star_of : goal.decreases-star_of
+decreases-star_of l = 5 * deepest l.parts.now + 3
+
+abbrev pub decreases-cstar_of : goal.decreases-cstar_of
+decreases-cstar_of l = 5 * deepest l.parts.now + 3
+
+abbrev pub decreases-guarded_of : goal.decreases-guarded_of
+decreases-guarded_of l = 5 * nest l.body.now + 1
+
+abbrev pub decreases-if_of : goal.decreases-if_of
+decreases-if_of l = 5 * deepest l.parts.now + 3
+
+abbrev pub decreases-while_of : goal.decreases-while_of
+decreases-while_of l = 5 * deepest l.parts.now + 3
+
+abbrev pub decreases-search_of : goal.decreases-search_of
+decreases-search_of l = 5 * deepest l.parts.now + 3
+
+abbrev pub decreases-interrupt_of : goal.decreases-interrupt_of
+decreases-interrupt_of l = 5 * deepest l.parts.now + 3
+
+abbrev pub decreases-interrupts_of : goal.decreases-interrupts_of
+decreases-interrupts_of l = 5 * deepest l.parts.now + 3
+
+abbrev pub invariant-progs_of-loop-form : goal.invariant-progs_of-loop-form
+invariant-progs_of-loop-form l =
+    (each (λ (_ : List DraftProg) (part : Part InScope). part.spelled l.scope) l.progs (map (prog_part l.theory l.procs) (drop l.form-index l.forms))).outcome
+    ≡ (each (λ (_ : List DraftProg) (part : Part InScope). part.spelled l.scope) [] (map (prog_part l.theory l.procs) l.forms)).outcome

@@ -1,0 +1,6 @@
+pub mod Keywords
+pub mod Procedures
+pub mod Callees
+pub mod Constructs
+pub mod Programs
+pub mod Items

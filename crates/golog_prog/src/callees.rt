@@ -1,0 +1,99 @@
+ghost use Rattle.std.specs.Prelude.{◌≡◌};
+ghost use Rattle.golog_theory.specs.Reading.{Answers};
+ghost use Rattle.golog_prog.specs.Callees.{action_named, proc_named, named};
+ghost use Rattle.golog_prog.specs.Constructs.{act_of, call_of};
+
+use crate::procedures::Procedures;
+use golog_base::is_name;
+use golog_form::Form;
+use golog_theory::fault::{ARITY, UNKNOWN_FORM, refuse_where, unknown_form, unknown_name};
+use golog_theory::heads::args_of;
+use golog_theory::parts::{item_no, word};
+use golog_theory::{Indexed, TheoryFault};
+use golog_tree::{DraftProg, Place};
+use std::alloc::Global;
+
+/// An action or a procedure by its number, and how many arguments it has.
+#[derive(Clone, Copy)]
+pub struct Callee {
+    pub item: usize,
+    pub arity: usize,
+}
+
+/// The action with the name, one of the program or a built-in one.
+#[tactic(auto, unfolding(crate::specs::Callees::action_named))]
+fn action_named(theory: &Indexed<'_>, name: &[u8]) -> Option<Callee>
+    ensures { result ≡ action_named theory.now name.now }
+{
+    let item = theory.action_no(name)?;
+    let action = theory.actions().get(item)?;
+    if action.posters.len() > 0 {
+        return None;
+    }
+    Some(Callee {
+        item,
+        arity: action.args.len(),
+    })
+}
+
+/// The procedure with the name.
+#[tactic(auto, unfolding(crate::specs::Callees::proc_named))]
+fn proc_named(procs: &Procedures, name: &[u8]) -> Option<Callee>
+    ensures { result ≡ proc_named procs.now name.now }
+{
+    let item = procs.number(name)?;
+    let proc = procs.as_slice().get(item)?;
+    Some(Callee {
+        item,
+        arity: proc.params,
+    })
+}
+
+/// The number of the action or procedure that a form names, with these arguments, in a form at the place.
+#[tactic(auto, unfolding(crate::specs::Callees::named))]
+fn named(at: Place, name: &Form, args: &[Form], callee: Option<Callee>) -> Result<u32, TheoryFault>
+    ensures { Answers result (named at name.now args.now callee) }
+{
+    refuse_where(!is_name(word(name)), UNKNOWN_FORM, name.at())?;
+    let Some(Callee { item, arity }) = callee else {
+        return Err(unknown_name(name.at()));
+    };
+    refuse_where(args.len() != arity, ARITY, at)?;
+    item_no(item)
+}
+
+/// `(act ACTION ARGS)`
+#[tactic(auto, unfolding(crate::specs::Constructs::act_of))]
+pub fn act_of(
+    alloc: Global,
+    theory: &Indexed<'_>,
+    at: Place,
+    parts: &[Form],
+) -> Result<DraftProg, TheoryFault>
+    ensures { Answers result (act_of theory.now at parts.now) }
+{
+    let Some((name, args)) = parts.split_first() else {
+        return Err(unknown_form(at));
+    };
+    let action = named(at, name, args, action_named(theory, word(name)))?;
+    let args = args_of(alloc, args)?;
+    Ok(DraftProg::Act { action, args, at })
+}
+
+/// `(call PROC ARGS)`
+#[tactic(auto, unfolding(crate::specs::Constructs::call_of))]
+pub fn call_of(
+    alloc: Global,
+    procs: &Procedures,
+    at: Place,
+    parts: &[Form],
+) -> Result<DraftProg, TheoryFault>
+    ensures { Answers result (call_of procs.now at parts.now) }
+{
+    let Some((name, args)) = parts.split_first() else {
+        return Err(unknown_form(at));
+    };
+    let item = named(at, name, args, proc_named(procs, word(name)))?;
+    let args = args_of(alloc, args)?;
+    Ok(DraftProg::Call { item, args, at })
+}
