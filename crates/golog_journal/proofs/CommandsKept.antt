@@ -1,0 +1,83 @@
+-- The commands, the rest and the awaited results that are kept are those of the journal.
+use Rattle.std.proofs.Common.{◌≡◌, ℕ, ◌-◌, ◌<◌, false, ◌==◌, if◌then◌else◌, Option, Some, None, List, length, map, get_or, refl, sym, ap, ◌∙◌, subst, arith}
+use Rattle.std.specs.Prelude.{slice_get, option_map}
+use Rattle.std.specs.Option.{option_map_or}
+use Rattle.std.proofs.lemmas.Bool.{ne_eqb}
+use Rattle.std.proofs.lemmas.Option.{slice_get-map}
+use Rattle.golog_tree.specs.declared.agent.Agent.{Agent}
+use Rattle.golog_semantics.specs.declared.journal.Entry.{Entry}
+use Rattle.golog_semantics.specs.declared.journal.Entry.TheVariants.{Do, Test, Exo, Sense, Rest, Close, End}
+use Rattle.golog_semantics.specs.Journal.{Journal, Command, commands, posted, last_of, is_rest_after, is_outstanding, poster_of}
+use Rattle.golog_semantics.specs.Posts.{awaited, awaited_by}
+use Rattle.golog_journal.specs.declared.tally.Kept.{Kept}
+use Rattle.golog_journal.specs.declared.tally.DeviceTally.{DeviceTally}
+use Rattle.golog_journal.specs.Commands.{is_resting}
+use Rattle.golog_journal.specs.Commits.{IsOfProgram}
+use Rattle.golog_journal.specs.Tallies.{command_of, rested_after, IsTally, IsKept, IsStep}
+
+-- what a tally says of the last entry is what the journal says
+pub resting-of : (taken : ℕ) (o : Option Entry) → option_map_or (λ n. n == taken) (rested_after o) false ≡ option_map_or (is_rest_after taken) o false
+resting-of taken None = refl
+resting-of taken (Some (Rest p n)) = refl
+resting-of taken (Some (Do a)) = refl
+resting-of taken (Some Test) = refl
+resting-of taken (Some (Exo p a)) = refl
+resting-of taken (Some (Sense p at f v)) = refl
+resting-of taken (Some (Close p r t)) = refl
+resting-of taken (Some (End a)) = refl
+
+module _ (agent : Agent) (journal : Journal) (ts : List DeviceTally) (kept : IsKept agent journal ts) (d : ℕ) (tally : DeviceTally)
+    (inside : d < length agent.devices) (at : tally ≡ get_or ts d tally) where
+  is-tally : IsTally agent journal d tally
+  is-tally =
+      let one = kept.tallied.one_each in
+      subst (IsTally agent journal d) (sym at) (kept.tallied.each d tally (omega (arith, inside, one)))
+
+  pub command-kept : (items : List Kept) (k : ℕ) (x : Kept) → items ≡ tally.commands.items → slice_get items k ≡ Some x
+      → slice_get (commands agent d journal) k ≡ Some (command_of x)
+  command-kept items k x same here =
+      ap (λ cs. slice_get cs k) (sym is-tally.has_commands ∙ ap (map command_of) (sym same))
+      ∙ slice_get-map command_of items k ∙ ap (option_map command_of) here
+
+  pub command-past : (items : List Kept) (k : ℕ) → items ≡ tally.commands.items → slice_get items k ≡ None
+      → slice_get (commands agent d journal) k ≡ None
+  command-past items k same past =
+      ap (λ cs. slice_get cs k) (sym is-tally.has_commands ∙ ap (map command_of) (sym same))
+      ∙ slice_get-map command_of items k ∙ ap (option_map command_of) past
+
+  pub kept-resting : (taken : ℕ) → option_map_or (λ n. n == taken) tally.rested false ≡ is_resting agent journal d taken
+  kept-resting taken =
+      ap (λ o. option_map_or (λ n. n == taken) o false) is-tally.has_rested ∙ resting-of taken (last_of (posted d journal))
+
+module _ (agent : Agent) (journal : Journal) (d taken : ℕ) where
+  -- the last command taken is awaited where its result does not stand
+  pub awaited-some : (c : Command) → (taken ≡ 0 → ⊥) → slice_get (commands agent d journal) (taken - 1) ≡ Some c
+      → awaited agent journal d taken ≡ (if is_outstanding agent journal c then Some c else None)
+  awaited-some c some here =
+      ap (λ b. if b then None else awaited_by agent journal d taken (slice_get (commands agent d journal) (taken - 1))) (ne_eqb taken 0 some)
+      ∙ ap (awaited_by agent journal d taken) here
+
+  pub awaited-none : (taken ≡ 0 → ⊥) → slice_get (commands agent d journal) (taken - 1) ≡ None → awaited agent journal d taken ≡ None
+  awaited-none some past =
+      ap (λ b. if b then None else awaited_by agent journal d taken (slice_get (commands agent d journal) (taken - 1))) (ne_eqb taken 0 some)
+      ∙ ap (awaited_by agent journal d taken) past
+
+-- an entry of no device that is no action
+pub is-step : (agent : Agent) (e : Entry) → poster_of e ≡ None → ((action : ℕ) → e ≡ Do action → ⊥) → IsStep agent e
+is-step agent (Do action) own other = absurd (other action refl)
+is-step agent Test own other = tt
+is-step agent (End answer) own other = tt
+is-step agent (Exo p a) own other = absurd (cc)
+is-step agent (Sense p at f v) own other = absurd (cc)
+is-step agent (Rest p t) own other = absurd (cc)
+is-step agent (Close p r t) own other = absurd (cc)
+
+-- an entry of the program is of no device
+pub of-no-device : (agent : Agent) (journal : Journal) (place : ℕ) (e x : Entry) → IsOfProgram agent journal place e x → poster_of x ≡ None
+of-no-device agent journal place e (Do action) own = refl
+of-no-device agent journal place e Test own = refl
+of-no-device agent journal place e (End answer) own = refl
+of-no-device agent journal place e (Exo p a) own = absurd own
+of-no-device agent journal place e (Sense p at f v) own = absurd own
+of-no-device agent journal place e (Rest p t) own = absurd own
+of-no-device agent journal place e (Close p r t) own = absurd own

@@ -1,0 +1,277 @@
+-- What is kept of a journal with one more lawful entry.
+use Rattle.std.proofs.Common.{◌≡◌, ◌≢◌, ℕ, ◌+◌, ◌≤◌, ◌<◌, Bool, true, false, not, ◌&&◌, ◌||◌, ◌==◌, if◌then◌else◌, Option, Some, None, List, [], ◌∷◌, ◌++◌, length, length-append, set, get_or, refl, sym, ap, ◌∙◌, subst, arith, length-set}
+use Rattle.std.proofs.lemmas.Bool.{and_parts, ltb-true, eq-eqb, ne_eqb}
+use Rattle.std.specs.Option.{option_map_or}
+use Rattle.std.proofs.lemmas.Option.{same_Some}
+use Rattle.std.proofs.lemmas.List.Sums.{count_by-le-length}
+use Rattle.golog_tree.specs.declared.agent.Agent.{Agent}
+use Rattle.golog_semantics.specs.declared.journal.Entry.{Entry}
+use Rattle.golog_semantics.specs.declared.journal.Entry.TheVariants.{Do, Test, Exo, Sense, Rest, Close, End}
+use Rattle.golog_semantics.specs.Journal.{Journal, command_at, is_carried_by, device_of, is_posted_by, poster_of, is_close, is_end, has_end, is_counted, count}
+use Rattle.golog_semantics.specs.Reports.{is_device}
+use Rattle.golog_journal.specs.declared.tally.Kept.{Kept}
+use Rattle.golog_journal.specs.declared.tally.DeviceTally.{DeviceTally}
+use Rattle.golog_journal.specs.Boards.{IsBoardList}
+use Rattle.golog_journal.specs.Tallies.{command_of, rested_after, IsTally, closed, AreTallies, IsStep, IsKept}
+use Rattle.golog_journal.proofs.Lawful.{count-push, lawful-last, lawful-parts}
+use Rattle.golog_journal.proofs.Tallied.{tally-command, tally-noted, each-set, tallies-step, has_end-after, closed-same, closed-more, some-open}
+
+or-false : (b : Bool) → (b || false) ≡ b
+or-false true = refl
+or-false false = refl
+
+abbrev one_if : Bool → ℕ
+one_if b = if b then 1 else 0
+
+module _ (agent : Agent) (journal : Journal) where
+  ended : (e : Entry) → is_end e ≡ false → one_if (has_end (journal ++ e ∷ [])) ≡ one_if (has_end journal)
+  ended e stays = ap one_if (has_end-after agent journal e ∙ ap (λ b. has_end journal || b) stays ∙ or-false (has_end journal))
+
+  longer : (e : Entry) → length (journal ++ e ∷ []) ≡ length journal + 1
+  longer e = length-append journal (e ∷ [])
+
+  -- the counted entries and the end, with one more entry
+  in-counted : (e : Entry) (n : ℕ) → is_counted e ≡ true → is_end e ≡ false
+      → length journal ≡ count journal + n + one_if (has_end journal)
+      → length (journal ++ e ∷ []) ≡ count (journal ++ e ∷ []) + n + one_if (has_end (journal ++ e ∷ []))
+  in-counted e n counts no_end all =
+      let c : count (journal ++ e ∷ []) ≡ count journal + 1 = count-push journal e ∙ ap (λ b. count journal + one_if b) counts in
+      let l = longer e in
+      let m = ended e no_end in
+      omega (arith, c, l, m, all)
+
+  -- the program has not ended before its end
+  pub goes-on : (answer : _) → IsBoardList agent (journal ++ End answer ∷ []) → has_end journal ≡ false
+  goes-on answer is = go (has_end journal) (lawful-parts agent journal (End answer) (lawful-last agent journal (End answer) is)).after
+    where
+      go : (b : Bool) → (not b || false) ≡ true → b ≡ false
+      go false h = refl
+      go true h = absurd (cc)
+
+  in-end : (answer : _) (n : ℕ) → has_end journal ≡ false
+      → length journal ≡ count journal + n + one_if (has_end journal)
+      → length (journal ++ End answer ∷ []) ≡ count (journal ++ End answer ∷ []) + n + one_if (has_end (journal ++ End answer ∷ []))
+  in-end answer n no_end all =
+      let c = count-push journal (End answer) in
+      let l = longer (End answer) in
+      let now_ended : one_if (has_end (journal ++ End answer ∷ [])) ≡ 1 = ap one_if (has_end-after agent journal (End answer) ∙ ap (λ b. b || true) no_end) in
+      let before : one_if (has_end journal) ≡ 0 = ap one_if no_end in
+      omega (arith, c, l, now_ended, before, all)
+
+  in-close : (p : ℕ) (r : _) (t n m : ℕ) → m ≡ n + 1
+      → length journal ≡ count journal + n + one_if (has_end journal)
+      → length (journal ++ Close p r t ∷ []) ≡ count (journal ++ Close p r t ∷ []) + m + one_if (has_end (journal ++ Close p r t ∷ []))
+  in-close p r t n m more all =
+      let c = count-push journal (Close p r t) in
+      let l = longer (Close p r t) in
+      let same = ended (Close p r t) refl in
+      omega (arith, c, l, same, more, all)
+
+  module _ (ts : List DeviceTally) (kept : IsKept agent journal ts) where
+    few : closed agent journal ts ≤ 16
+    few =
+        let most = count_by-le-length (λ (tally : DeviceTally). not tally.is_open) ts in
+        let one = kept.tallied.one_each in
+        let devices = kept.serves.few in
+        omega (arith, most, one, devices)
+
+    at-most-one : (b : Bool) → one_if b ≤ 1
+    at-most-one true = omega arith
+    at-most-one false = omega arith
+
+    -- the device of a lawful Close has an open tally
+    pub number-in : (p : ℕ) → is_device agent p ≡ true → p < length ts
+    number-in p is =
+        let number : p < length agent.devices = ltb-true p (length agent.devices) is in
+        let one = kept.tallied.one_each in
+        omega (arith, number, one)
+
+    pub open-in : (p : ℕ) (r : _) (t : ℕ) → IsBoardList agent (journal ++ Close p r t ∷ [])
+        → (inside : p < length ts) → (d : DeviceTally) → (get_or ts p d).is_open ≡ true
+    open-in p r t is inside d =
+        (kept.tallied.each p d inside).has_open ∙ (lawful-parts agent journal (Close p r t) (lawful-last agent journal (Close p r t) is)).poster
+
+    pub device-of-close : (p : ℕ) (r : _) (t : ℕ) → IsBoardList agent (journal ++ Close p r t ∷ []) → p < length ts
+    device-of-close p r t is =
+        let parts = lawful-parts agent journal (Close p r t) (lawful-last agent journal (Close p r t) is) in
+        number-in p (and_parts (is_device agent p) _ parts.of_agent).0
+
+    counted : (e : Entry) → is_counted e ≡ true → IsBoardList agent (journal ++ e ∷ []) → length journal < 65553
+    counted e counts is =
+        let c : count (journal ++ e ∷ []) ≡ count journal + 1 = count-push journal e ∙ ap (λ b. count journal + one_if b) counts in
+        let room = is.room in
+        let shut = few in
+        let ends = at-most-one (has_end journal) in
+        let all = kept.tallied.in_all in
+        omega (arith, c, room, shut, ends, all)
+
+    at-close : (p : ℕ) (r : _) (t : ℕ) → IsBoardList agent (journal ++ Close p r t ∷ []) → length journal < 65553
+    at-close p r t is =
+        let inside = device-of-close p r t is in
+        let shut = some-open ts p inside (open-in p r t is inside) in
+        let one = kept.tallied.one_each in
+        let devices = kept.serves.few in
+        let room = kept.lawful.room in
+        let ends = at-most-one (has_end journal) in
+        let all = kept.tallied.in_all in
+        omega (arith, shut, one, devices, room, ends, all)
+
+    at-end : (answer : _) → IsBoardList agent (journal ++ End answer ∷ []) → length journal < 65553
+    at-end answer is =
+        let room = kept.lawful.room in
+        let shut = few in
+        let none : one_if (has_end journal) ≡ 0 = ap one_if (goes-on answer is) in
+        let all = kept.tallied.in_all in
+        omega (arith, room, shut, none, all)
+
+    -- there is room for one more lawful entry
+    pub room-for : (e : Entry) → IsBoardList agent (journal ++ e ∷ []) → length journal < 65553
+    room-for (Do action) is = counted (Do action) refl is
+    room-for Test is = counted Test refl is
+    room-for (Exo poster action) is = counted (Exo poster action) refl is
+    room-for (Sense poster place fluent value) is = counted (Sense poster place fluent value) refl is
+    room-for (Rest poster taken) is = counted (Rest poster taken) refl is
+    room-for (Close p r t) is = at-close p r t is
+    room-for (End answer) is = at-end answer is
+
+    -- the list goes on, with other tallies
+    goes : (e : Entry) (new : List DeviceTally) → IsBoardList agent (journal ++ e ∷ []) → AreTallies agent (journal ++ e ∷ []) new
+        → IsKept agent (journal ++ e ∷ []) new
+    goes e new is are = record { serves = kept.serves; lawful = is; tallied = are }
+
+    -- a test
+    pub kept-test : IsBoardList agent (journal ++ Test ∷ []) → IsKept agent (journal ++ Test ∷ []) ts
+    kept-test is =
+        goes Test ts is
+        (tallies-step agent journal Test ts (λ d. refl) (λ d. refl) (in-counted Test (closed agent journal ts) refl refl kept.tallied.in_all) kept.tallied)
+
+    -- the end
+    pub kept-end : (answer : _) → IsBoardList agent (journal ++ End answer ∷ []) → IsKept agent (journal ++ End answer ∷ []) ts
+    kept-end answer is =
+        goes (End answer) ts is
+        (tallies-step agent journal (End answer) ts (λ d. refl) (λ d. refl) (in-end answer (closed agent journal ts) (goes-on answer is) kept.tallied.in_all) kept.tallied)
+
+    module _ (action : ℕ) where
+      carried : (o : Option ℕ) (d : ℕ) → device_of agent action ≡ o → is_carried_by agent d action ≡ option_map_or (λ x. x == d) o false
+      carried o d is = ap (λ p. option_map_or (λ x. x == d) p false) is
+
+      command-if : (d : ℕ) (b : Bool) → is_carried_by agent d action ≡ b
+          → command_at agent d (length journal, Do action) ≡ (if b then Some (record { place = length journal; action = action }) else None)
+      command-if d b is = ap (λ c. if c then Some (record { place = length journal; action = action }) else None) is
+
+      -- an action without a device
+      pub kept-do : device_of agent action ≡ None → IsBoardList agent (journal ++ Do action ∷ []) → IsKept agent (journal ++ Do action ∷ []) ts
+      kept-do none is =
+          goes (Do action) ts is
+          (tallies-step agent journal (Do action) ts (λ d. refl) (λ d. command-if d false (carried None d none))
+          (in-counted (Do action) (closed agent journal ts) refl refl kept.tallied.in_all) kept.tallied)
+
+      -- a command of a device
+      pub kept-command : (i : ℕ) (new : DeviceTally) (command : Kept) → device_of agent action ≡ Some i → i < length ts
+          → command_of command ≡ record { place = length journal; action = action }
+          → new.commands.items ≡ (get_or ts i new).commands.items ++ command ∷ []
+          → new.rested ≡ (get_or ts i new).rested → new.is_open ≡ (get_or ts i new).is_open
+          → IsBoardList agent (journal ++ Do action ∷ []) → IsKept agent (journal ++ Do action ∷ []) (set ts i new)
+      kept-command i new command device inside it more rested still is =
+          goes (Do action) (set ts i new) is (record {
+            one_each = length-set ts i new ∙ kept.tallied.one_each;
+            each = each-set agent journal (Do action) ts i new inside others this kept.tallied.each;
+            in_all = in_all;
+          })
+        where
+          others : (d : ℕ) → d ≢ i → (is_posted_by d (Do action) ≡ false) × (command_at agent d (length journal, Do action) ≡ None)
+          others d other = (refl, command-if d false (carried (Some i) d device ∙ ne_eqb i d (λ e. other (sym e))))
+
+          this : IsTally agent (journal ++ Do action ∷ []) i new
+          this =
+              tally-command agent journal (Do action) i (get_or ts i new) new command refl
+              (command-if i true (carried (Some i) i device ∙ eq-eqb i i refl) ∙ ap Some (sym it)) more rested still (kept.tallied.each i new inside)
+
+          in_all : length (journal ++ Do action ∷ []) ≡ count (journal ++ Do action ∷ []) + closed agent journal (set ts i new) + one_if (has_end (journal ++ Do action ∷ []))
+          in_all =
+              let same = closed-same ts i new inside still in
+              let all = in-counted (Do action) (closed agent journal ts) refl refl kept.tallied.in_all in
+              omega (arith, same, all)
+
+    -- what a device posted
+    module _ (i : ℕ) (new : DeviceTally) (inside : i < length ts) where
+      -- the tallies where the entry is this device's and no command
+      noted : (e : Entry) (own : is_posted_by i e ≡ true) → ((d : ℕ) → d ≢ i → is_posted_by d e ≡ false) → ((d : ℕ) → command_at agent d (length journal, e) ≡ None)
+          → new.commands.items ≡ (get_or ts i new).commands.items → new.rested ≡ rested_after (Some e)
+          → new.is_open ≡ ((get_or ts i new).is_open && not (is_close e))
+          → length (journal ++ e ∷ []) ≡ count (journal ++ e ∷ []) + closed agent journal (set ts i new) + one_if (has_end (journal ++ e ∷ []))
+          → AreTallies agent (journal ++ e ∷ []) (set ts i new)
+      noted e own others none same rested still in_all = record {
+        one_each = length-set ts i new ∙ kept.tallied.one_each;
+        each = each-set agent journal e ts i new inside (λ d other. (others d other, none d))
+            (tally-noted agent journal e i (get_or ts i new) new own (none i) same rested still (kept.tallied.each i new inside)) kept.tallied.each;
+        in_all = in_all;
+      }
+
+      own-number : (p : ℕ) → p ≡ i → (p == i) ≡ true
+      own-number p same = eq-eqb p i same
+
+      other-number : (p : ℕ) → p ≡ i → (d : ℕ) → d ≢ i → (p == d) ≡ false
+      other-number p same d other = ne_eqb p d (λ e. other (sym e ∙ same))
+
+      and-true : (b : Bool) → (b && true) ≡ b
+      and-true true = refl
+      and-true false = refl
+
+      still-open : (e : Entry) → is_close e ≡ false → new.is_open ≡ ((get_or ts i new).is_open && not (is_close e)) → new.is_open ≡ (get_or ts i new).is_open
+      still-open e stays still = still ∙ ap (λ b. (get_or ts i new).is_open && not b) stays ∙ and-true (get_or ts i new).is_open
+
+      counts : (e : Entry) → is_counted e ≡ true → is_end e ≡ false → is_close e ≡ false → new.is_open ≡ ((get_or ts i new).is_open && not (is_close e))
+          → length (journal ++ e ∷ []) ≡ count (journal ++ e ∷ []) + closed agent journal (set ts i new) + one_if (has_end (journal ++ e ∷ []))
+      counts e counted_it no_end no_close still =
+          let same = closed-same ts i new inside (still-open e no_close still) in
+          let all = in-counted e (closed agent journal ts) counted_it no_end kept.tallied.in_all in
+          omega (arith, same, all)
+
+      shuts : (p : ℕ) (r : _) (t : ℕ) → p ≡ i → IsBoardList agent (journal ++ Close p r t ∷ []) → new.is_open ≡ ((get_or ts i new).is_open && false)
+          → length (journal ++ Close p r t ∷ []) ≡ count (journal ++ Close p r t ∷ []) + closed agent journal (set ts i new) + one_if (has_end (journal ++ Close p r t ∷ []))
+      shuts p r t same is still =
+          let was_open = subst (λ k. (get_or ts k new).is_open ≡ true) same (open-in p r t is (subst (λ k. k < length ts) (sym same) inside) new) in
+          let now_shut : new.is_open ≡ false = still ∙ ap (λ b. b && false) was_open in
+          let more = closed-more ts i new inside now_shut was_open in
+          in-close p r t (closed agent journal ts) (closed agent journal (set ts i new)) more.0 kept.tallied.in_all
+
+      pub kept-posted : (e : Entry) → poster_of e ≡ Some i
+          → new.commands.items ≡ (get_or ts i new).commands.items → new.rested ≡ rested_after (Some e)
+          → new.is_open ≡ ((get_or ts i new).is_open && not (is_close e))
+          → IsBoardList agent (journal ++ e ∷ []) → IsKept agent (journal ++ e ∷ []) (set ts i new)
+      kept-posted (Do action) own same rested still is = absurd (cc)
+      kept-posted Test own same rested still is = absurd (cc)
+      kept-posted (End answer) own same rested still is = absurd (cc)
+      kept-posted (Exo p action) own same rested still is =
+          let n = same_Some p i own in let e = Exo p action in
+          goes e (set ts i new) is (noted e (own-number p n) (other-number p n) (λ d. refl) same rested still (counts e refl refl refl still))
+      kept-posted (Sense p place fluent value) own same rested still is =
+          let n = same_Some p i own in let e = Sense p place fluent value in
+          goes e (set ts i new) is (noted e (own-number p n) (other-number p n) (λ d. refl) same rested still (counts e refl refl refl still))
+      kept-posted (Rest p taken) own same rested still is =
+          let n = same_Some p i own in let e = Rest p taken in
+          goes e (set ts i new) is (noted e (own-number p n) (other-number p n) (λ d. refl) same rested still (counts e refl refl refl still))
+      kept-posted (Close p r t) own same rested still is =
+          let n = same_Some p i own in let e = Close p r t in
+          goes e (set ts i new) is (noted e (own-number p n) (other-number p n) (λ d. refl) same rested still (shuts p r t n is still))
+
+-- not too many entries stand
+pub kept-short : (agent : Agent) (journal : Journal) (ts : List DeviceTally) → IsKept agent journal ts → length journal ≤ 65553
+kept-short agent journal ts kept =
+    let shut = few agent journal ts kept in
+    let ends = at-most-one agent journal ts kept (has_end journal) in
+    let room = kept.lawful.room in
+    let all = kept.tallied.in_all in
+    omega (arith, shut, ends, room, all)
+
+-- an entry of the program that is no command
+pub kept-step : (agent : Agent) (journal : Journal) (ts : List DeviceTally) → IsKept agent journal ts → (e : Entry) → IsStep agent e
+    → IsBoardList agent (journal ++ e ∷ []) → IsKept agent (journal ++ e ∷ []) ts
+kept-step agent journal ts kept (Do action) step is = kept-do agent journal ts kept action step is
+kept-step agent journal ts kept Test step is = kept-test agent journal ts kept is
+kept-step agent journal ts kept (End answer) step is = kept-end agent journal ts kept answer is
+kept-step agent journal ts kept (Exo p a) step is = absurd step
+kept-step agent journal ts kept (Sense p at f v) step is = absurd step
+kept-step agent journal ts kept (Rest p t) step is = absurd step
+kept-step agent journal ts kept (Close p r t) step is = absurd step

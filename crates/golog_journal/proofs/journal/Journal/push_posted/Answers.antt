@@ -1,0 +1,61 @@
+use Rattle.std.proofs.Common.{◌≡◌, ◌<◌, ◌≤◌, not, ◌&&◌, ◌∷◌, [], ◌++◌, length, set, get_or, sym, ap, ◌∙◌, subst, arith}
+use Rattle.std.proofs.lemmas.List.{get_or_default}
+use Rattle.golog_semantics.specs.Journal.{is_close}
+use Rattle.golog_journal.specs.declared.tally.DeviceTally.{DeviceTally}
+use Rattle.golog_journal.specs.Tallies.{IsKept}
+use Rattle.golog_journal.proofs.Views.{lawful-inside}
+use Rattle.golog_journal.proofs.Beginning.{poster-inside, earlier}
+use Rattle.golog_journal.proofs.Pushing.{room-for, kept-posted, kept-short}
+use Rattle.golog_journal.proofs.journal.Journal.push_posted.Goals as goal
+
+pub index_mut-requires : goal.index_mut-requires
+index_mut-requires c =
+    let j = c.self.inside in
+    let lawful = lawful-inside j.facts j.ledger c.args.self.now c.args.entry c.self.view_is c.requires.lawful in
+    let inside = poster-inside j.facts j.ledger c.args.entry c.args.poster c.requires.poster lawful in
+    let one = c.self.invariant.tallied.one_each in
+    let ok = j.tallies.ok.0 in
+    omega (arith, inside, one, ok)
+
+pub push-requires-clause-room : goal.push-requires-clause-room
+push-requires-clause-room c =
+    let j = c.self.inside in
+    let lawful = lawful-inside j.facts j.ledger c.args.self.now c.args.entry c.self.view_is c.requires.lawful in
+    room-for j.facts j.ledger j.tallies.items c.self.invariant c.args.entry lawful
+
+pub push-requires-clause-earlier : goal.push-requires-clause-earlier
+push-requires-clause-earlier c =
+    let j = c.self.inside in
+    let lawful = lawful-inside j.facts j.ledger c.args.self.now c.args.entry c.self.view_is c.requires.lawful in
+    earlier j.facts j.ledger c.args.entry lawful
+
+pub invariant_of-self : goal.invariant_of-self
+invariant_of-self c =
+    let j = c.self.inside in
+    let ts = j.tallies.items in
+    let new = c.note.new.self in
+    let lawful = lawful-inside j.facts j.ledger c.args.self.now c.args.entry c.self.view_is c.requires.lawful in
+    let number = poster-inside j.facts j.ledger c.args.entry c.args.poster c.requires.poster lawful in
+    let inside : c.args.poster < length ts = (let one = c.self.invariant.tallied.one_each in omega (arith, number, one)) in
+    let was : c.index_mut.result.now ≡ get_or ts c.args.poster new =
+    c.index_mut.ensures.value ∙ get_or_default ts c.args.poster c.index_mut.result.now new inside in
+    subst (λ entries. IsKept j.facts entries (set ts c.args.poster new)) (sym c.push.ensures)
+    (kept-posted j.facts j.ledger ts c.self.invariant c.args.poster new inside c.args.entry c.requires.poster
+    (c.note.ensures.commands ∙ ap (λ (t : DeviceTally). t.commands.items) was) c.note.ensures.rested
+    (c.note.ensures.is_open ∙ ap (λ (t : DeviceTally). t.is_open && not (is_close c.args.entry)) was) lawful)
+
+pub returns-clause-short : goal.returns-clause-short
+returns-clause-short c =
+    let j = c.self.inside in
+    let ts = j.tallies.items in
+    let new = c.note.new.self in
+    let lawful = lawful-inside j.facts j.ledger c.args.self.now c.args.entry c.self.view_is c.requires.lawful in
+    let number = poster-inside j.facts j.ledger c.args.entry c.args.poster c.requires.poster lawful in
+    let inside : c.args.poster < length ts = (let one = c.self.invariant.tallied.one_each in omega (arith, number, one)) in
+    let was : c.index_mut.result.now ≡ get_or ts c.args.poster new =
+    c.index_mut.ensures.value ∙ get_or_default ts c.args.poster c.index_mut.result.now new inside in
+    subst (λ entries. length entries ≤ 65553) (sym c.push.ensures)
+    (kept-short j.facts (j.ledger ++ c.args.entry ∷ []) (set ts c.args.poster new)
+    (kept-posted j.facts j.ledger ts c.self.invariant c.args.poster new inside c.args.entry c.requires.poster
+    (c.note.ensures.commands ∙ ap (λ (t : DeviceTally). t.commands.items) was) c.note.ensures.rested
+    (c.note.ensures.is_open ∙ ap (λ (t : DeviceTally). t.is_open && not (is_close c.args.entry)) was) lawful))

@@ -1,0 +1,27 @@
+-- What is kept of each ground action.
+use Rattle.std.specs.Prelude.{◌≡◌, ℕ, ◌<◌, false, Some, List, length, slice_index_or}
+use Rattle.golog_tree.specs.declared.agent.Agent.{Agent}
+use Rattle.golog_tree.specs.Ground.{ground_actions, sort_size}
+use Rattle.golog_semantics.specs.Values.{fluent_sort}
+use Rattle.golog_semantics.specs.Journal.{device_of, may_post, sensed as senses}
+use Rattle.golog_journal.specs.declared.facts.ActionFact.{ActionFact}
+
+module _ (agent : Agent) where
+  -- its device, the devices that may post it, the fluent whose value its result tells, and how many values
+  -- that fluent has
+  pub record IsFactOf (action : ℕ) (fact : ActionFact) : Type 0 where
+    pub device : fact.device ≡ device_of agent action
+    pub posters : (d : ℕ) → d < 16 → slice_index_or fact.posters d false ≡ may_post agent d action
+    pub sensed : fact.sensed ≡ senses agent action
+    pub values : (fluent : ℕ) → senses agent action ≡ Some fluent
+        → fact.values ≡ sort_size agent (fluent_sort agent fluent)
+
+  -- the first ground actions
+  pub record AreFacts (facts : List ActionFact) : Type 0 where
+    pub each : (action : ℕ) (d : ActionFact) → action < length facts
+        → IsFactOf action (slice_index_or facts action d)
+
+  -- all of them
+  pub record AreAllFacts (facts : List ActionFact) : Type 0 where
+    pub first : AreFacts facts
+    pub whole : length facts ≡ length (ground_actions agent)

@@ -1,0 +1,15 @@
+pub mod Boards
+pub mod Taken
+pub mod Posting
+pub mod Commands
+pub mod Commits
+pub mod Copies
+pub mod Growing
+pub mod Leading
+pub mod Agents
+pub mod Facts
+pub mod Tallies
+pub mod Ledgers
+pub mod Laws
+pub mod Quiet
+pub mod Examples

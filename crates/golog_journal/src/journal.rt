@@ -1,0 +1,434 @@
+//! The journal of one owner.
+ghost use Rattle.std.specs.Prelude.{◌≡◌, ◌<◌, ◌≤◌, [], ◌∷◌, ◌++◌, length, min, take, drop, ◌-◌, Some, None, IfOk, IfSome, MatchOption, if◌then◌else◌, option_map, slice_get};
+ghost use Rattle.std.specs.Option.{option_map_or};
+ghost use Rattle.golog_semantics.specs.Journal.{poster_of, device_of, commands, is_open as is_open_in, is_full as is_full_in, is_quiet as is_quiet_in};
+ghost use Rattle.golog_journal.specs.Quiet.{asked_of as asked_of_device};
+ghost use Rattle.golog_semantics.specs.Posts.{awaited as awaited_in, is_bad as is_bad_in, later_reason as later_reason_in, closing as closing_in, entry_of as entry_in};
+ghost use Rattle.golog_semantics.specs.declared.journal.Entry.TheVariants.{Do, Close};
+ghost use Rattle.golog_journal.specs.Agents.{ServesDevices};
+ghost use Rattle.golog_journal.specs.Boards.{IsBoardList};
+ghost use Rattle.golog_journal.specs.Posting.{posted_at as posted_at_in};
+ghost use Rattle.golog_journal.specs.Commands.{next_of as next_in, next_by};
+ghost use Rattle.golog_journal.specs.Tallies.{command_of, IsStep};
+
+use crate::facts::AgentFacts;
+use crate::ledger::Ledger;
+use crate::quiet::all_quiet;
+use crate::tally::{DeviceTally, Kept, tallies_of};
+use crate::{BATCH, Batch, Board, Commit, LIMIT, Next, Posted};
+use golog_base::{List, NoMemory};
+use golog_semantics::{Entry, Item, Reason};
+use golog_tree::Agent;
+use std::alloc::Global;
+use std::marker::Model;
+
+/// A journal of an agent that no one else adds to. Contracts see it as the agent and the entries.
+#[derive(Drop)]
+pub struct Journal {
+    facts: AgentFacts,
+    ledger: Ledger,
+    tallies: Vec<DeviceTally>,
+}
+
+impl Model for Journal {
+    ghost use Rattle.golog_journal.specs.Boards.{AgentJournal};
+    ghost use Rattle.golog_journal.specs.Tallies.{IsKept};
+    ghost use Rattle.std.specs.Coded.{codes};
+    ghost use Rattle.golog_tree.specs.contracts.cond.Cond as cond;
+    ghost use Rattle.golog_tree.specs.contracts.cond.Term as term;
+    ghost use Rattle.golog_tree.specs.contracts.prog.Prog as prog;
+    ghost use Rattle.golog_tree.specs.contracts.prog.Way as way;
+
+    ghost Value = { AgentJournal };
+
+    ghost coded = { Prim.hlevel (codes, cond.the_row.coded, term.the_row.coded, prog.the_row.coded, way.the_row.coded) };
+
+    ghost view = { λ journal. record { agent = journal.facts; entries = journal.ledger } };
+
+    ghost invariant = { λ journal. IsKept journal.facts journal.ledger journal.tallies.items };
+}
+
+impl Journal {
+    /// A journal of this agent, without an entry and with room for 65,553. No later call takes memory.
+    pub fn new(alloc: Global, agent: &Agent) -> Result<Journal, NoMemory>
+        requires { ServesDevices agent.now }
+        ensures { IfOk result (λ journal. journal ≡ record { agent = agent.now; entries = [] }) }
+    {
+        let facts = AgentFacts::of(alloc, agent)?;
+        let ledger = Ledger::new(alloc)?;
+        let tallies = tallies_of(alloc, agent.devices.len())?;
+        Ok(Journal {
+            facts,
+            ledger,
+            tallies,
+        })
+    }
+
+    /// Whether the device is open.
+    pub fn is_open(&self, device: u8) -> bool
+        requires { device < length self.now.agent.devices }
+        ensures { result ≡ is_open_in device self.now.entries }
+    {
+        self.tallies[device as usize].is_open
+    }
+
+    /// The number of entries.
+    pub fn len(&self) -> u32
+        ensures number { result ≡ length self.now.entries }
+        ensures most { length self.now.entries ≤ 65553 }
+    {
+        self.ledger.len()
+    }
+
+    /// Whether it takes no further counted entry.
+    pub fn is_full(&self) -> bool
+        ensures { result ≡ is_full_in self.now.entries }
+    {
+        self.ledger.count() >= LIMIT
+    }
+
+    /// Whether each device is closed or at rest. Takes time for each device, and none for the entries.
+    pub fn is_quiet(&self) -> bool
+        ensures { result ≡ is_quiet_in self.now.agent self.now.entries }
+    {
+        all_quiet(&self.tallies)
+    }
+
+    /// The device that answers the action with a value, if one does.
+    pub fn asked_of(&self, action: u32) -> Option<u8>
+        ensures { result ≡ asked_of_device self.now.agent action }
+    {
+        if self.facts.is_sensing(action) {
+            self.facts.device_of(action)
+        } else {
+            None
+        }
+    }
+
+    /// Adds an entry, of the program or of a device, as to a copy of another board's entries.
+    pub fn add(&mut self, entry: Entry)
+        requires { IsBoardList self.old.agent (self.old.entries ++ entry ∷ []) }
+        ensures { self.new ≡ record { agent = self.old.agent; entries = self.old.entries ++ entry ∷ [] } }
+    {
+        match poster(entry) {
+            Some(device) => self.push_posted(device, entry),
+            None => self.push_committed(entry),
+        }
+    }
+
+    /// The entries, handed out. Takes no memory.
+    pub fn into_entries(self) -> List<Entry>
+        ensures { result ≡ self.entries }
+    {
+        self.ledger.into_entries()
+    }
+
+    // Adds an entry of the program that is no command.
+    fn push_step(&mut self, entry: Entry)
+        requires step { IsStep self.old.agent entry }
+        requires lawful { IsBoardList self.old.agent (self.old.entries ++ entry ∷ []) }
+        ensures more { self.new ≡ record { agent = self.old.agent; entries = self.old.entries ++ entry ∷ [] } }
+        ensures short { length self.new.entries ≤ 65553 }
+    {
+        self.ledger.push(entry);
+    }
+
+    // Adds an action.
+    fn push_do(&mut self, action: u32)
+        requires { IsBoardList self.old.agent (self.old.entries ++ Do action ∷ []) }
+        ensures more { self.new ≡ record { agent = self.old.agent; entries = self.old.entries ++ Do action ∷ [] } }
+        ensures short { length self.new.entries ≤ 65553 }
+    {
+        match self.facts.device_of(action) {
+            Some(device) => self.push_command(device, action),
+            None => self.push_step(Entry::Do { action }),
+        }
+    }
+
+    // Adds an action that is a command of the device.
+    fn push_command(&mut self, device: u8, action: u32)
+        requires device { device_of self.old.agent action ≡ Some device }
+        requires lawful { IsBoardList self.old.agent (self.old.entries ++ Do action ∷ []) }
+        ensures more { self.new ≡ record { agent = self.old.agent; entries = self.old.entries ++ Do action ∷ [] } }
+        ensures short { length self.new.entries ≤ 65553 }
+    {
+        let place = self.ledger.len();
+        self.tallies[device as usize].add(Kept { place, action });
+        self.ledger.push(Entry::Do { action });
+    }
+
+    // Adds an entry of the program.
+    fn push_committed(&mut self, entry: Entry)
+        requires program { poster_of entry ≡ None }
+        requires lawful { IsBoardList self.old.agent (self.old.entries ++ entry ∷ []) }
+        ensures more { self.new ≡ record { agent = self.old.agent; entries = self.old.entries ++ entry ∷ [] } }
+        ensures short { length self.new.entries ≤ 65553 }
+    {
+        match entry {
+            Entry::Do { action } => self.push_do(action),
+            _ => self.push_step(entry),
+        }
+    }
+
+    // Adds an entry of a device.
+    fn push_posted(&mut self, poster: u8, entry: Entry)
+        requires poster { poster_of entry ≡ Some poster }
+        requires lawful { IsBoardList self.old.agent (self.old.entries ++ entry ∷ []) }
+        ensures more { self.new ≡ record { agent = self.old.agent; entries = self.old.entries ++ entry ∷ [] } }
+        ensures short { length self.new.entries ≤ 65553 }
+    {
+        self.tallies[poster as usize].note(entry);
+        self.ledger.push(entry);
+    }
+
+    // A command of the device, by its number from 0.
+    fn command_at(&self, poster: u8, number: u32) -> Option<Kept>
+        requires { poster < length self.now.agent.devices }
+        ensures command { option_map command_of result ≡ slice_get (commands self.now.agent poster self.now.entries) number }
+        ensures place { IfSome result (λ command. command.place < length self.now.entries) }
+    {
+        let tally = &self.tallies[poster as usize];
+        match tally.commands.get(number as usize) {
+            Some(command) => Some(*command),
+            None => None,
+        }
+    }
+
+    // The last command taken, where its result is still to come.
+    fn awaited(&self, poster: u8, taken: u32) -> Option<Kept>
+        requires { poster < length self.now.agent.devices }
+        ensures { option_map command_of result ≡ awaited_in self.now.agent self.now.entries poster taken }
+    {
+        if taken == 0 {
+            return None;
+        }
+        match self.command_at(poster, taken - 1) {
+            Some(command)
+                if self.facts.is_sensing(command.action)
+                    && !self.ledger.is_answered(command.place) => { Some(command) }
+            _ => None,
+        }
+    }
+
+    // What a device is to do that has taken so many commands.
+    fn next_of(&self, poster: u8, taken: u32) -> Next
+        requires { poster < length self.now.agent.devices }
+        ensures { result ≡ next_in self.now.agent self.now.entries poster taken }
+    {
+        match self.command_at(poster, taken) {
+            Some(next) => Next::Command {
+                place: next.place,
+                action: next.action,
+                asked: self.facts.is_sensing(next.action),
+            },
+            None => self.next_without(poster, taken),
+        }
+    }
+
+    // What a device is to do that has no command.
+    fn next_without(&self, poster: u8, taken: u32) -> Next
+        requires { poster < length self.now.agent.devices }
+        ensures { result ≡ next_by self.now.agent self.now.entries poster taken None }
+    {
+        let ended = self.ledger.has_end();
+        let tally = &self.tallies[poster as usize];
+        let resting = tally.is_resting(taken);
+        idle_next(ended, resting)
+    }
+
+    // What is so of the entries of each journal.
+    fn keeps_rules(&self)
+        ensures serves { ServesDevices self.now.agent }
+        ensures lawful { IsBoardList self.now.agent self.now.entries }
+        ensures short { length self.now.entries ≤ 65553 }
+    {
+        let _entries = &self.ledger;
+    }
+
+    // The number of entries, where there are more than that.
+    fn longer_than(&self, at: u32) -> Option<u32>
+        requires { at ≤ length self.now.entries }
+        ensures { MatchOption result (length self.now.entries ≡ at)
+            (λ longer. (at < length self.now.entries) × (longer ≡ length self.now.entries)) }
+    {
+        let length = self.ledger.len();
+        if length == at { None } else { Some(length) }
+    }
+
+    // The entries from a place on.
+    fn batch(&self, since: u32) -> Batch
+        requires { since ≤ length self.now.entries }
+        ensures count { result.count ≡ min 64 (length self.now.entries - since) }
+        ensures entries { take result.count result.entries ≡ take result.count (drop since self.now.entries) }
+        ensures length { result.length ≡ length self.now.entries }
+    {
+        let new = self.ledger.since(since);
+        let count = new.len().min(BATCH);
+        let mut entries = [Entry::Test; BATCH];
+        entries[..count].copy_from_slice(&new[..count]);
+        Batch {
+            count: count as u32,
+            entries,
+            length: self.ledger.len(),
+        }
+    }
+
+    fn is_bad(&self, poster: u8, item: Item, taken: u32) -> bool
+        requires { poster < length self.now.agent.devices }
+        ensures { result ≡ is_bad_in self.now.agent self.now.entries poster taken item }
+    {
+        let awaited = self.awaited(poster, taken);
+        match item {
+            Item::Unreadable | Item::Silent => true,
+            Item::Exo(action) => !self.facts.may_post(poster, action) || awaited.is_some(),
+            Item::Value(value) => match awaited {
+                Some(command) => !self.facts.is_value_for(command.action, value),
+                None => true,
+            },
+            Item::Rest | Item::Close | Item::Stop | Item::Refused => awaited.is_some(),
+        }
+    }
+
+    fn later_reason(&self, poster: u8, item: Item, taken: u32) -> Option<Reason>
+        requires { poster < length self.now.agent.devices }
+        ensures { result ≡ later_reason_in self.now.agent self.now.entries poster taken item }
+    {
+        if self.ledger.has_end() {
+            Some(Reason::Late)
+        } else if self.is_full() {
+            Some(Reason::Full)
+        } else if self.is_bad(poster, item, taken) {
+            Some(Reason::Bad)
+        } else {
+            None
+        }
+    }
+
+    // Why the device is closed in place of the item, if it is.
+    fn closing(&self, poster: u8, item: Item, taken: u32) -> Option<Reason>
+        requires { poster < length self.now.agent.devices }
+        ensures { result ≡ closing_in self.now.agent self.now.entries poster taken item }
+    {
+        match item {
+            Item::Stop => Some(Reason::Stopped),
+            Item::Refused => Some(Reason::Refused),
+            Item::Close => Some(Reason::Ended),
+            Item::Exo(_) | Item::Value(_) | Item::Rest | Item::Unreadable | Item::Silent => {
+                self.later_reason(poster, item, taken)
+            }
+        }
+    }
+
+    // The entry for an item, or the Close in its place.
+    fn posted_entry(&self, poster: u8, item: Item, taken: u32, closing: Option<Reason>) -> Entry
+        requires { poster < length self.now.agent.devices }
+        ensures { result ≡ option_map_or (λ reason. Close poster reason taken) closing (entry_in self.now.agent self.now.entries poster taken item) }
+    {
+        match closing {
+            Some(reason) => Entry::Close {
+                poster,
+                reason,
+                taken,
+            },
+            None => self.entry_of(poster, item, taken),
+        }
+    }
+
+    // The entry for an item that is not refused.
+    fn entry_of(&self, poster: u8, item: Item, taken: u32) -> Entry
+        requires { poster < length self.now.agent.devices }
+        ensures { result ≡ entry_in self.now.agent self.now.entries poster taken item }
+    {
+        match item {
+            Item::Exo(action) => Entry::Exo { poster, action },
+            Item::Value(value) => match self.awaited(poster, taken) {
+                Some(command) => Entry::Sense {
+                    poster,
+                    place: command.place,
+                    fluent: self.facts.sensed(command.action).unwrap_or(0),
+                    value,
+                },
+                None => Entry::Rest { poster, taken },
+            },
+            Item::Rest
+            | Item::Close
+            | Item::Unreadable
+            | Item::Silent
+            | Item::Stop
+            | Item::Refused => Entry::Rest { poster, taken },
+        }
+    }
+}
+
+// The device that an entry is of, if it is of one.
+fn poster(entry: Entry) -> Option<u8>
+    ensures { result ≡ poster_of entry }
+{
+    match entry {
+        Entry::Exo { poster, .. }
+        | Entry::Sense { poster, .. }
+        | Entry::Rest { poster, .. }
+        | Entry::Close { poster, .. } => Some(poster),
+        Entry::Do { .. } | Entry::Test | Entry::End { .. } => None,
+    }
+}
+
+// What a device is to do that has no command.
+fn idle_next(ended: bool, resting: bool) -> Next
+    ensures { result ≡ (if ended then Next.Ended else Next.Nothing resting) }
+{
+    if ended {
+        Next::Ended
+    } else {
+        Next::Nothing { resting }
+    }
+}
+
+// What is answered where the device is closed for this reason, if it is.
+fn posted_at(place: u32, closing: Option<Reason>) -> Posted
+    ensures { result ≡ posted_at_in place closing }
+{
+    match closing {
+        Some(reason) => Posted::Closed { place, reason },
+        None => Posted::At(place),
+    }
+}
+
+impl Board for Journal {
+    ghost use Rattle.std.specs.Prelude.{true, refl};
+    ghost use Rattle.golog_journal.specs.Growing.{Sight};
+
+    ghost sight = { λ journal. record { agent = journal.agent; seen = journal.entries; alone = true; holds = λ _. true } };
+
+    ghost holds_all = { λ journal alone party within. refl };
+
+    fn post(&mut self, poster: u8, item: Item, taken: u32) -> Posted {
+        self.keeps_rules();
+        let place = self.ledger.len();
+        let closing = self.closing(poster, item, taken);
+        let entry = self.posted_entry(poster, item, taken, closing);
+        self.push_posted(poster, entry);
+        posted_at(place, closing)
+    }
+
+    fn next_command(&mut self, poster: u8, taken: u32) -> Next {
+        self.keeps_rules();
+        self.next_of(poster, taken)
+    }
+
+    fn copy_since(&mut self, since: u32) -> Batch {
+        self.keeps_rules();
+        self.batch(since)
+    }
+
+    fn commit(&mut self, at: u32, entry: Entry) -> Commit {
+        self.keeps_rules();
+        match self.longer_than(at) {
+            Some(longer) => Commit::Moved { longer },
+            None => {
+                self.push_committed(entry);
+                Commit::Taken
+            }
+        }
+    }
+}

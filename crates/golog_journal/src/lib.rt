@@ -1,0 +1,21 @@
+//! The journal of a run: what devices post, what the program commits, and what they see of it.
+#![tactic(auto)]
+
+mod board;
+mod facts;
+mod journal;
+mod laws;
+mod lead;
+mod ledger;
+mod quiet;
+mod table;
+mod tally;
+
+pub use board::{BATCH, Batch, Board, Commit, LIMIT, LONGEST, Next, Posted};
+pub use golog_semantics::{Answer, Entry, Item, PlacedRun, Reason, Report};
+pub use journal::Journal;
+pub use laws::{driven_stays, fitting_stays, ready_stays, well_formed_serves};
+pub use lead::{Lead, Led};
+
+#[cfg(test)]
+mod tests;
