@@ -1,0 +1,15 @@
+pub mod Reading
+pub mod Places
+pub mod Taking
+pub mod Resting
+pub mod Growing
+pub mod Dealing
+pub mod Turning
+pub mod Asked
+pub mod DealtTurn
+pub mod Scripted
+pub mod Standings
+pub mod Refused
+pub mod Told
+pub mod SensedSorts
+pub mod DealtFirst
