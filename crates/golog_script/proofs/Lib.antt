@@ -1,0 +1,5 @@
+pub mod Gathered
+pub mod Elements
+pub mod Values
+pub mod ScriptObjects
+pub mod Kept

@@ -1,0 +1,5 @@
+pub mod Reading
+pub mod DevicesFile
+pub mod ScriptTexts
+pub mod Following
+pub mod Meanings

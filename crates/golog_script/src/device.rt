@@ -1,0 +1,184 @@
+// A device that follows its script.
+ghost use Rattle.std.specs.Prelude.{◌≡◌, ◌<◌, ◌+◌, false, vec_len, vec_capacity};
+ghost use Rattle.golog_device.specs.Devices.{idle_of, tells};
+ghost use Rattle.golog_script.specs.Following.{item_of};
+ghost use Rattle.golog_script.specs.declared.served.TheConstants.{ROOM};
+
+use crate::lines::{Lines, lines_of};
+use crate::served::{ROOM, ServedTexts};
+use crate::told::{Told, ToldItems};
+use crate::twin::{Twin, reversed};
+use golog_base::NoMemory;
+use golog_device::{Begun, Device, Idle, Served};
+use std::alloc::Global;
+
+/// A device that follows its script: it answers sensing commands by the script's answers, and idle it does
+/// what the script's idle items say, in their order. It tells what is left of its script, what it told, and
+/// what it was given, as far as this has room in 1,048,576 bytes, with one byte more for each text.
+#[derive(Drop)]
+pub struct ScriptDevice {
+    fresh: bool,
+    // What is left of the script, the last in front.
+    answers: Vec<Twin>,
+    idle: Vec<Twin>,
+    told: ToldItems,
+    served: ServedTexts,
+    ghost begun: { fresh ≡ false → served.room ≡ ROOM },
+    ghost room: { told.closed ≡ false
+        → vec_len answers + vec_len idle + vec_len told.told < vec_capacity told.told },
+}
+
+impl ScriptDevice {
+    ghost use Rattle.std.specs.Prelude.{◌≡◌, true, false, [], Some, IfOk, IfSome, option_map};
+    ghost use Rattle.golog_device.specs.Devices.{next_answer, rest_of, told_after};
+    ghost use Rattle.golog_device.specs.Scripts.{script_spelled};
+    ghost use Rattle.golog_script.specs.Following.{items_of};
+    ghost use Rattle.golog_script.specs.Meanings.{left_of, meaning_of, following};
+
+    /// A fresh device. It was given and told nothing, and has no script.
+    pub fn new(alloc: Global) -> Result<ScriptDevice, NoMemory>
+        ensures fresh { IfOk result (λ device. ⟦<ScriptDevice as Device>⟧.fresh device ≡ true) }
+        ensures bare { IfOk result (λ device. ⟦<ScriptDevice as Device>⟧.meaning device
+            ≡ following (record { answers = []; idle = [] })) }
+    {
+        let told = ToldItems::with_room(alloc, 1)?;
+        let served = ServedTexts::with_room(alloc, 0)?;
+        Ok(ScriptDevice {
+            fresh: true,
+            answers: Vec::new(alloc),
+            idle: Vec::new(alloc),
+            told,
+            served,
+        })
+    }
+
+    // A device that has begun with the script that the text spells: `None` exactly where it spells none.
+    fn begun(alloc: Global, text: &[u8]) -> Result<Option<ScriptDevice>, NoMemory>
+        ensures meaning { IfOk result (λ device. option_map meaning_of device
+            ≡ option_map following (script_spelled text.now)) }
+        ensures begun { IfOk result (λ device. IfSome device (λ d. d.fresh ≡ false)) }
+    {
+        match lines_of(alloc, text)? {
+            Some(lines) => Ok(Some(ScriptDevice::with_script(alloc, lines)?)),
+            None => Ok(None),
+        }
+    }
+
+    // A device that has begun with this script.
+    fn with_script(alloc: Global, script: Lines) -> Result<ScriptDevice, NoMemory>
+        ensures meaning { IfOk result (λ device. meaning_of device
+            ≡ following (record { answers = script.answers; idle = script.idle })) }
+        ensures begun { IfOk result (λ device. device.fresh ≡ false) }
+    {
+        let Lines { answers, idle } = script;
+        let answers = reversed(alloc, answers)?;
+        let idle = reversed(alloc, idle)?;
+        let told = ToldItems::with_room(alloc, answers.len() + idle.len() + 1)?;
+        let served = ServedTexts::with_room(alloc, ROOM)?;
+        Ok(ScriptDevice {
+            fresh: false,
+            answers,
+            idle,
+            told,
+            served,
+        })
+    }
+
+    // The next answer.
+    fn answer(&mut self) -> Served
+        ensures answer { result ≡ next_answer (left_of self.old).answers }
+        ensures left { left_of self.new
+            ≡ record { answers = rest_of (left_of self.old).answers; idle = (left_of self.old).idle } }
+        ensures told { Some (items_of self.new.told.told.items)
+            ≡ told_after (Some (items_of self.old.told.told.items)) result }
+        ensures served { self.new.served ≡ self.old.served }
+        ensures fresh { self.new.fresh ≡ self.old.fresh }
+    {
+        match self.answers.pop() {
+            Some(text) => {
+                let (handed, kept) = text.split();
+                self.told.push(Told::Value(kept));
+                Served::Value(handed)
+            }
+            None => Served::Nothing,
+        }
+    }
+}
+
+impl Device for ScriptDevice {
+    ghost use Rattle.std.specs.Prelude.{◌≡◌, ◌≤◌, Bool, true, false, length};
+    ghost use Rattle.golog_semantics.specs.Dealt.{Service};
+    ghost use Rattle.golog_device.specs.Devices.{Begins, still_fresh, Serves, Idles};
+    ghost use Rattle.golog_device.specs.Scripts.{script_spelled};
+    ghost use Rattle.golog_script.specs.Meanings.{is_fresh, meaning_of, TakesScript, IsCutAtRoom};
+
+    ghost fresh = { is_fresh };
+
+    ghost meaning = { meaning_of };
+
+    /// Takes the text of a script, and reserves the room for all that is told later. Refuses exactly what is
+    /// no JSON object with arrays of strings `answers` and `idle`.
+    fn begin(&mut self, alloc: Global, _name: &[u8], script: &[u8]) -> Begun
+        requires { is_fresh self.old ≡ true }
+        ensures fresh { is_fresh self.new ≡ still_fresh result }
+        ensures begins { Begins result (meaning_of self.old) (meaning_of self.new) script.now }
+        ensures takes { TakesScript result (script_spelled script.now) }
+    {
+        match ScriptDevice::begun(alloc, script) {
+            Ok(Some(begun)) => {
+                *self = begun;
+                Begun::Ready
+            }
+            Ok(None) => Begun::Refused,
+            Err(NoMemory) => Begun::Memory,
+        }
+    }
+
+    /// Answers a sensing command by the next answer, while there is one.
+    fn serve(&mut self, action: &[u8], asked: bool) -> Served
+        requires { length action.now ≤ 128 }
+        ensures fresh { is_fresh self.new ≡ is_fresh self.old }
+        ensures serves { Serves result (meaning_of self.old) (meaning_of self.new)
+            (record { text = action.now; asked = asked }) }
+        ensures cut { is_fresh self.old ≡ false
+            → IsCutAtRoom (meaning_of self.old) (meaning_of self.new)
+            (record { text = action.now; asked = asked }) }
+    {
+        self.served.push(action, asked);
+        if asked {
+            self.answer()
+        } else {
+            Served::Nothing
+        }
+    }
+
+    /// Does what the next idle item says, and closes where none is left.
+    fn idle(&mut self) -> Idle {
+        match self.idle.pop() {
+            Some(text) => {
+                let (idle, told) = idle_of(text);
+                self.told.push(told);
+                idle
+            }
+            None => {
+                self.told.push(Told::Close);
+                Idle::Close
+            }
+        }
+    }
+}
+
+// What an idle item says, and the same to keep.
+fn idle_of(text: Twin) -> (Idle, Told)
+    ensures idle { result.0 ≡ idle_of text }
+    ensures told { item_of result.1 ≡ tells (idle_of text) }
+{
+    let (handed, kept) = text.split();
+    if handed.as_slice() == b"rest".as_slice() {
+        (Idle::Rest, Told::Rest)
+    } else if handed.as_slice() == b"close".as_slice() {
+        (Idle::Close, Told::Close)
+    } else {
+        (Idle::Post(handed), Told::Post(kept))
+    }
+}

@@ -1,0 +1,20 @@
+//! Scripts of devices: the file that holds them, their text, and a device that follows one.
+#![tactic(auto)]
+
+mod device;
+mod fault;
+mod lines;
+mod scripts;
+mod served;
+mod strings;
+mod text;
+mod told;
+mod twin;
+
+pub use device::ScriptDevice;
+pub use fault::{NO_DEVICE, NOT_JSON, SAME_NAME, SHAPE, ScriptFault, TOO_MANY};
+pub use scripts::{DEVICES, Script, scripts_of};
+pub use text::script_text;
+
+#[cfg(test)]
+mod tests;
