@@ -1,0 +1,61 @@
+ghost use Rattle.std.specs.Prelude.{◌≡◌, [], ◌∷◌, ◌++◌, IfOk, OnOk, codes, decimal};
+ghost use Rattle.golog_semantics.specs.Reports.{IsReport};
+ghost use Rattle.golog_semantics.specs.SortLaws.{AreInSorts};
+ghost use Rattle.golog_semantics.specs.Text.{body_text, report_text, run_at};
+ghost use Rattle.golog_semantics.specs.WellFormed.{WellFormed};
+ghost use Rattle.golog_text.specs.Named.{AreFrom, AreNamed, IsNamed};
+
+use crate::body::add_body;
+use crate::names::add_number;
+use crate::runs::runs_behind;
+use golog_base::{Bytes, NoMemory};
+use golog_progress::start;
+use golog_semantics::{Entry, PlacedRun, Report};
+use golog_tree::Agent;
+use std::alloc::Global;
+
+/// The text of a report: a line for each entry, which is its place, a space and what the entry says, as in
+/// `3 do move(a,3) @arm`, `4 sense arm 3 true against false` or `5 end done`. A step that begins a run says
+/// its labels too, as in `0 test run -; move(a,3)`. Numbers are in decimal, places from 0 on.
+///
+/// `NoMemory` comes only for want of memory.
+pub fn write_journal(alloc: Global, agent: &Agent, report: &Report) -> Result<Bytes, NoMemory>
+    requires formed { WellFormed agent.now }
+    requires report { IsReport agent.now report.now }
+    ensures { IfOk result (λ text. text ≡ report_text agent.now report.now) }
+{
+    let mut text = Bytes::new(alloc);
+    let mut state = start(alloc, agent)?;
+    let mut runs = report.runs.as_slice();
+    for (place, entry) in report.entries.as_slice().iter().enumerate() {
+        add_line(&mut text, agent, state.values(), runs, place, *entry)?;
+        state.roll(agent, &[*entry]);
+        runs = runs_behind(runs, place);
+    }
+    Ok(text)
+}
+
+// Adds the line of an entry that stands at this place, with these values before it. The runs are those
+// from the place on.
+fn add_line(
+    text: &mut Bytes,
+    agent: &Agent,
+    values: &[u8],
+    runs: &[PlacedRun],
+    place: usize,
+    entry: Entry,
+) -> Result<(), NoMemory>
+    requires formed { WellFormed agent.now }
+    requires sorts { AreInSorts agent.now values.now }
+    requires in_order { AreFrom place runs.now }
+    requires runs { AreNamed agent.now runs.now }
+    requires entry { IsNamed agent.now entry }
+    ensures { OnOk result (text.new
+        ≡ text.old ++ (decimal place ++ codes " "
+        ++ body_text agent.now values.now (run_at runs.now place) entry ++ 10 ∷ [])) }
+{
+    add_number(text, place)?;
+    text.extend(b" ")?;
+    add_body(text, agent, values, runs, place, entry)?;
+    text.extend(b"\n")
+}

@@ -1,0 +1,73 @@
+// The things of an agent, whose texts are added to a text.
+ghost use Rattle.std.specs.Prelude.{◌≡◌, ◌<◌, ◌++◌, decimal, length, IsTrue, IfSome, OnOk};
+ghost use Rattle.golog_tree.specs.Ground.{IsCountable, ground_count, action_args, fluent_args};
+ghost use Rattle.golog_semantics.specs.Journal.{device_of as spec_device_of};
+ghost use Rattle.golog_semantics.specs.Reports.{is_value};
+ghost use Rattle.golog_semantics.specs.Text.{action_text as spec_action_text, device_text, value_text};
+ghost use Rattle.golog_semantics.specs.Values.{fluent_sort as spec_fluent_sort};
+ghost use Rattle.golog_semantics.specs.WellFormed.{WellFormed};
+
+use golog_base::{Bytes, NoMemory};
+use golog_ground::{action_text, constant_text};
+use golog_tree::{Agent, action_of, fluent_of};
+use itoa::Buffer;
+
+// Adds a number.
+pub(crate) fn add_number(text: &mut Bytes, number: usize) -> Result<(), NoMemory>
+    ensures { OnOk result (text.new ≡ text.old ++ decimal number) }
+{
+    let mut buffer = Buffer::new();
+    text.extend(buffer.format(number).as_bytes())
+}
+
+// Adds a ground action.
+pub(crate) fn add_action(text: &mut Bytes, agent: &Agent, action: u32) -> Result<(), NoMemory>
+    requires countable { IsCountable agent.now }
+    requires number { action < ground_count agent.now (action_args agent.now) }
+    ensures { OnOk result (text.new ≡ text.old ++ spec_action_text agent.now action) }
+{
+    text.extend(action_text(agent, action).as_bytes())
+}
+
+// Adds the name of a device.
+pub(crate) fn add_device(text: &mut Bytes, agent: &Agent, device: u32) -> Result<(), NoMemory>
+    requires { device < length agent.now.devices }
+    ensures { OnOk result (text.new ≡ text.old ++ device_text agent.now device) }
+{
+    text.extend(agent.devices.as_slice()[device as usize].as_bytes())
+}
+
+// Adds a value of a ground fluent.
+pub(crate) fn add_value(
+    text: &mut Bytes,
+    agent: &Agent,
+    fluent: u32,
+    value: u8,
+) -> Result<(), NoMemory>
+    requires countable { IsCountable agent.now }
+    requires value { IsTrue (is_value agent.now fluent value) }
+    ensures { OnOk result (text.new ≡ text.old ++ value_text agent.now fluent value) }
+{
+    text.extend(constant_text(agent, fluent_sort(agent, fluent), value).as_bytes())
+}
+
+// The sort of a ground fluent.
+fn fluent_sort(agent: &Agent, fluent: u32) -> u32
+    requires countable { IsCountable agent.now }
+    requires number { fluent < ground_count agent.now (fluent_args agent.now) }
+    ensures { result ≡ spec_fluent_sort agent.now fluent }
+{
+    let ground = fluent_of(agent, fluent);
+    agent.fluents.as_slice()[ground.item as usize].sort
+}
+
+// The device that carries a ground action out, if one does.
+pub(crate) fn device_of(agent: &Agent, action: u32) -> Option<u32>
+    requires formed { WellFormed agent.now }
+    requires number { action < ground_count agent.now (action_args agent.now) }
+    ensures device { result ≡ spec_device_of agent.now action }
+    ensures declared { IfSome result (λ device. device < length agent.now.devices) }
+{
+    let ground = action_of(agent, action);
+    agent.actions.as_slice()[ground.item as usize].device
+}
