@@ -1,4 +1,3 @@
-pub mod Entries
 pub mod Words
 pub mod Outcome
 pub mod Exact

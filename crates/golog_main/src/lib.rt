@@ -3,13 +3,11 @@
 
 mod laws;
 mod outcome;
-mod text;
 mod top;
 mod words;
 
 pub use laws::each_status_where_its_cause_is;
 pub use outcome::Outcome;
-pub use text::journal_text;
 pub use top::{NO_MEMORY, golog};
 
 #[cfg(test)]

@@ -114,8 +114,8 @@ fn what_is_not_known_ends_as_unknown(rt: HostRuntime) -> Result<(), Fail> {
     let alloc = rt.alloc();
     let test = b"(agent (fluent p () bool) (main (test (p))))";
     assert!(rt; runs_to(alloc, test, "0 end unknown\n", 11)?);
-    let effect =
-        b"(agent (fluent p () bool false) (fluent q () bool) (action a ()) (causes (a) (p) true (q)) (main (seq (act a) (test (p)))))";
+    let effect = b"(agent (fluent p () bool false) (fluent q () bool) (action a ())
+        (causes (a) (p) true (q)) (main (seq (act a) (test (p)))))";
     assert!(rt; runs_to(alloc, effect, "0 do a\n1 end unknown\n", 11)?);
     let poss = b"(agent (fluent p () bool) (action a ()) (poss (a) (p)) (main (act a)))";
     assert!(rt; runs_to(alloc, poss, "0 end unknown\n", 11)?);
@@ -125,11 +125,11 @@ fn what_is_not_known_ends_as_unknown(rt: HostRuntime) -> Result<(), Fail> {
 #[test]
 fn what_is_the_same_either_way_is_known(rt: HostRuntime) -> Result<(), Fail> {
     let alloc = rt.alloc();
-    let effect =
-        b"(agent (fluent p () bool true) (fluent q () bool) (action a ()) (causes (a) (p) true (q)) (main (seq (act a) (test (p)))))";
+    let effect = b"(agent (fluent p () bool true) (fluent q () bool) (action a ())
+        (causes (a) (p) true (q)) (main (seq (act a) (test (p)))))";
     assert!(rt; runs_to(alloc, effect, "0 do a\n1 test\n2 end done\n", 0)?);
-    let top =
-        b"(agent (sort level 1 2) (fluent floor () level 1) (action up ()) (causes (up) (floor) (+ (floor) 1)) (main (seq (act up) (act up) (test (= (floor) 2)))))";
+    let top = b"(agent (sort level 1 2) (fluent floor () level 1) (action up ())
+        (causes (up) (floor) (+ (floor) 1)) (main (seq (act up) (act up) (test (= (floor) 2)))))";
     assert!(rt; runs_to(alloc, top, "0 do up\n1 do up\n2 test\n3 end done\n", 0)?);
     Ok(())
 }
@@ -137,8 +137,9 @@ fn what_is_the_same_either_way_is_known(rt: HostRuntime) -> Result<(), Fail> {
 #[test]
 fn actions_have_arguments_and_preconditions(rt: HostRuntime) -> Result<(), Fail> {
     let alloc = rt.alloc();
-    let moves =
-        b"(agent (sort place a b) (sort level -1 1) (fluent at (place level) bool false) (action move (place level)) (poss (move x l) (not (at x l))) (causes (move x l) (at x l) true) (main (seq nil (act move b -1) (test (at b -1)) (act move b -1))))";
+    let moves = b"(agent (sort place a b) (sort level -1 1) (fluent at (place level) bool false)
+        (action move (place level)) (poss (move x l) (not (at x l))) (causes (move x l) (at x l) true)
+        (main (seq nil (act move b -1) (test (at b -1)) (act move b -1))))";
     assert!(rt; runs_to(alloc, moves, "0 do move(b,-1)\n1 test\n2 end stuck\n", 10)?);
     Ok(())
 }
@@ -242,28 +243,71 @@ fn forms_that_spell_no_theory_are_refused(rt: HostRuntime) -> Result<(), Fail> {
     Ok(())
 }
 
+// The smallest file of each code of the check.
 #[test]
 fn theories_that_are_not_well_formed_are_refused(rt: HostRuntime) -> Result<(), Fail> {
-    let files: [(&[u8], &str); 5] = [
+    let files: [(&[u8], &str); 7] = [
         (
-            b"(agent (sort level 1 2) (fluent floor () level) (action a ()) (poss (a) (floor)) (main nil))",
-            "refused agent 30 at 72\n",
+            b"(agent (action a ()) (poss (a) (= 1 1)))",
+            "refused agent 30 at 34\n",
         ),
         (
-            b"(agent (sort level 1 2) (fluent floor () level 1) (main (test (= (floor) up))))",
-            "refused agent 31 at 73\n",
+            b"(agent (action a ()) (poss (a) (= (interrupts_running) x)))",
+            "refused agent 31 at 55\n",
         ),
         (
-            b"(agent (sort level 1 255) (fluent on (level level) bool) (main nil))",
-            "refused agent 34 at 26\n",
+            b"(agent (sort s 1 64) (fluent p (s s) bool))",
+            "refused agent 34 at 21\n",
         ),
         (
-            b"(agent (sort level 1 4) (fluent floor () level 9) (main nil))",
-            "refused agent 35 at 47\n",
+            b"(agent (sort s 1 41) (action a (s s s)))",
+            "refused agent 34 at 21\n",
+        ),
+        (b"(agent (fluent p () bool 1))", "refused agent 35 at 25\n"),
+        (
+            b"(agent (senses (start_interrupts) (interrupts_running)))",
+            "refused agent 36 at 7\n",
         ),
         (
-            b"(agent (action a ()) (senses (a) (interrupts_running)) (main nil))",
-            "refused agent 36 at 21\n",
+            b"(agent (action a ()) (poss (a) (interrupts_running)) (senses (a) (interrupts_running)))",
+            "refused agent 36 at 53\n",
+        ),
+    ];
+    for (bytes, said) in files {
+        assert!(rt; is_refused(rt.alloc(), bytes, said)?, "{said}");
+    }
+    Ok(())
+}
+
+// Of two refusals of one stage that of the least place is told, and at one place that of the least code.
+#[test]
+fn the_least_refusal_of_a_stage_is_told(rt: HostRuntime) -> Result<(), Fail> {
+    let files: [(&[u8], &str); 8] = [
+        (b"(a . b", "refused agent 3 at 3\n"),
+        (
+            b"(agent (fluent p () s) (sort bool a))",
+            "refused agent 22 at 20\n",
+        ),
+        (b"(agent (sort bool 2 1))", "refused agent 26 at 7\n"),
+        (
+            b"(agent (action a (aaaaaaaaaaaaaaaaaaaaaaaaaaaaaaaa)))",
+            "refused agent 22 at 18\n",
+        ),
+        (
+            b"(agent (fluent p () bool 1) (senses (start_interrupts) (interrupts_running)))",
+            "refused agent 35 at 25\n",
+        ),
+        (
+            b"(agent (senses (start_interrupts) (interrupts_running)) (fluent p () bool 1))",
+            "refused agent 36 at 7\n",
+        ),
+        (
+            b"(agent (sort s 1 64) (start (interrupts_running) 1) (fluent p (s s) bool))",
+            "refused agent 35 at 49\n",
+        ),
+        (
+            b"(agent (action a ()) (poss (a) (= x 1)))",
+            "refused agent 30 at 34\n",
         ),
     ];
     for (bytes, said) in files {
@@ -311,8 +355,13 @@ fn programs_that_are_not_built_are_refused(rt: HostRuntime) -> Result<(), Fail> 
 
 #[test]
 fn the_earlier_stage_goes_first(rt: HostRuntime) -> Result<(), Fail> {
-    let files: [(&[u8], &str); 3] = [
+    let files: [(&[u8], &str); 5] = [
         (b"(agent (bad)", "refused agent 1 at 12\n"),
+        (b"x .", "refused agent 3 at 2\n"),
+        (
+            b"(agent (fluent p () bool 1) (sort s 1 0))",
+            "refused agent 26 at 28\n",
+        ),
         (
             b"(agent (sort level 1 4) (fluent floor () level 9) (bad) (main nil))",
             "refused agent 20 at 50\n",

@@ -9,11 +9,11 @@ ghost use Rattle.golog_main.specs.Words.{agent_named};
 ghost use Rattle.golog_main.specs.declared.outcome.Outcome.TheVariants.{AgentRefused};
 
 use crate::outcome::Outcome;
-use crate::text::journal_text;
 use crate::words::agent_word;
 use golog_agent::{AgentFault, read_agent, run_agent};
 use golog_base::{Bytes, Files, NoMemory, ReadFault, Sink, read_all, write_all};
 use golog_semantics::{Answer, Entry, Report};
+use golog_text::write_journal;
 use golog_tree::Agent;
 use std::alloc::Global;
 
@@ -113,7 +113,7 @@ fn run_program(alloc: Global, agent: &Agent) -> Result<Outcome, NoMemory>
     ensures { IfOk result (RunOf agent.now) }
 {
     let report = run_agent(alloc, agent)?;
-    let text = journal_text(alloc, agent, &report)?;
+    let text = write_journal(alloc, agent, &report)?;
     let answer = last_answer(&report);
     Ok(Outcome::Ran { text, answer })
 }
