@@ -17,7 +17,7 @@ pub use agent::{
     ActionItem, Agent, CauseItem, FluentItem, PossItem, ProcItem, SenseItem, SortItem,
 };
 pub use cond::{Arg, Cond, Term, Truth};
-pub use copy::copy_prog;
+pub use copy::{copy_cond, copy_prog};
 pub use draft::{
     DraftAction, DraftCause, DraftDevice, DraftFluent, DraftMain, DraftParam, DraftPoss, DraftProc,
     DraftProgram, DraftSense, DraftSort, DraftStart, DraftTheory,
@@ -27,7 +27,7 @@ pub use draft_prog::DraftProg;
 pub use ground::{Ground, action_no, action_of, fluent_no, fluent_of, sort_size};
 pub use nesting::nest;
 pub use prog::{Label, Prog, Way};
-pub use substitute::put_arg;
+pub use substitute::{put_arg, put_cond};
 pub use tidy::{tidy_conc, tidy_prio, tidy_seq};
 
 #[cfg(test)]

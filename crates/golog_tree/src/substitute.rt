@@ -71,7 +71,7 @@ fn conds_with(alloc: Global, conds: &[Cond], put: Put) -> Result<List<Cond>, NoM
 }
 
 #[cycle(cond_with)]
-fn cond_with(alloc: Global, cond: &Cond, put: Put) -> Result<Cond, NoMemory>
+pub(crate) fn cond_with(alloc: Global, cond: &Cond, put: Put) -> Result<Cond, NoMemory>
     ensures { IfOk result (λ c. c ≡ cond_put cond.now put) }
 {
     match cond {
@@ -234,4 +234,11 @@ pub fn put_arg(alloc: Global, prog: &Prog, var: u8, value: u8) -> Result<Prog, N
     ensures { IfOk result (λ p. p ≡ prog_put prog.now (Some (var, value))) }
 {
     prog_with(alloc, prog, Some((var, value)))
+}
+
+/// The condition with the constant put in for the variable; a binder of the same variable keeps its own.
+pub fn put_cond(alloc: Global, cond: &Cond, var: u8, value: u8) -> Result<Cond, NoMemory>
+    ensures { IfOk result (λ c. c ≡ cond_put cond.now (Some (var, value))) }
+{
+    cond_with(alloc, cond, Some((var, value)))
 }
