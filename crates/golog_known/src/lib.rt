@@ -9,7 +9,7 @@ mod shift;
 mod valuation;
 
 pub use env::Env;
-pub use kleene::{UNKNOWN, chosen};
+pub use kleene::{UNKNOWN, both, chosen, either, negation};
 pub use laws::{conditions_fit_at_arguments, terms_fit_at_arguments};
 pub use valuation::{term, value};
 

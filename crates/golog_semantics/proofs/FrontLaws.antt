@@ -22,7 +22,7 @@ unless true = false
 unless false = true
 
 -- a negation holds in a mode where the condition does not in the flipped one
-holds-not : (m : Mode) (t : Truth) → holds m (not_of t) ≡ (if holds (flip m) t then false else true)
+pub holds-not : (m : Mode) (t : Truth) → holds m (not_of t) ≡ (if holds (flip m) t then false else true)
 holds-not Must Yes = refl
 holds-not Must No = refl
 holds-not Must Unknown = refl
@@ -33,7 +33,7 @@ holds-not Near Yes = refl
 holds-not Near No = refl
 holds-not Near Unknown = refl
 
-holds-both : (m : Mode) (a b : Truth) → holds m (both a b) ≡ (holds m a && holds m b)
+pub holds-both : (m : Mode) (a b : Truth) → holds m (both a b) ≡ (holds m a && holds m b)
 holds-both Must Yes b = refl
 holds-both Must No b = refl
 holds-both Must Unknown Yes = refl
@@ -50,7 +50,7 @@ holds-both Near Unknown Yes = refl
 holds-both Near Unknown No = refl
 holds-both Near Unknown Unknown = refl
 
-holds-either : (m : Mode) (a b : Truth) → holds m (either a b) ≡ (holds m a || holds m b)
+pub holds-either : (m : Mode) (a b : Truth) → holds m (either a b) ≡ (holds m a || holds m b)
 holds-either Must Yes b = refl
 holds-either Must No Yes = refl
 holds-either Must No No = refl
@@ -73,12 +73,12 @@ holds-either Near Unknown Yes = refl
 holds-either Near Unknown No = refl
 holds-either Near Unknown Unknown = refl
 
-holds-no : (m : Mode) → holds m No ≡ false
+pub holds-no : (m : Mode) → holds m No ≡ false
 holds-no Must = refl
 holds-no May = refl
 holds-no Near = refl
 
-holds-yes : (m : Mode) → holds m Yes ≡ true
+pub holds-yes : (m : Mode) → holds m Yes ≡ true
 holds-yes Must = refl
 holds-yes May = refl
 holds-yes Near = refl

@@ -26,17 +26,17 @@ module _ {A : Type 0} (P : A → Type 0) where
   all-left [] ys a = tt
   all-left (x ∷ xs) ys a = (a.0, all-left xs ys a.1)
 
-distinct-left : (xs ys : List Text) → IsDistinct same_text (xs ++ ys) → IsDistinct same_text xs
+pub distinct-left : (xs ys : List Text) → IsDistinct same_text (xs ++ ys) → IsDistinct same_text xs
 unfolding IsDistinct
 distinct-left [] ys d = tt
 distinct-left (x ∷ xs) ys d = (all-left (λ y. same_text x y ≡ false) xs ys d.0, distinct-left xs ys d.1)
 
-distinct-right : (xs ys : List Text) → IsDistinct same_text (xs ++ ys) → IsDistinct same_text ys
+pub distinct-right : (xs ys : List Text) → IsDistinct same_text (xs ++ ys) → IsDistinct same_text ys
 unfolding IsDistinct
 distinct-right [] ys d = d
 distinct-right (x ∷ xs) ys d = distinct-right xs ys d.1
 
-distinct-part : {A : Type 0} (f : A → List Text) (xs : List A) (i : ℕ) (x : A) → slice_get xs i ≡ Some x → IsDistinct same_text (flat_map f xs) → IsDistinct same_text (f x)
+pub distinct-part : {A : Type 0} (f : A → List Text) (xs : List A) (i : ℕ) (x : A) → slice_get xs i ≡ Some x → IsDistinct same_text (flat_map f xs) → IsDistinct same_text (f x)
 distinct-part f [] i x e d = absurd (cc)
 distinct-part f (y ∷ xs) zero x e d = subst (λ z. IsDistinct same_text (f z)) (some-same y x e) (distinct-left (f y) (flat_map f xs) d)
 distinct-part f (y ∷ xs) (suc i) x e d = distinct-part f xs i x e (distinct-right (f y) (flat_map f xs) d)

@@ -1,6 +1,8 @@
 pub use Rattle.golog_tree.specs.Ground
 pub mod Reading
 pub mod Drafts
+pub mod DraftPlaces
+pub mod DraftOrder
 pub mod Truth
 pub mod Modes
 pub mod Program
