@@ -142,7 +142,7 @@ first-least ((false, code', at') ∷ rows) code at o e other place zero lt is =
 first-least ((false, code', at') ∷ rows) code at o e other place (suc k) lt is =
     first-least rows code at (λ i j d lt within. o (suc i) (suc j) d (omega arith) (omega arith)) e other place k (omega arith) is
 
-none-fits : (rows : List Row) → first rows ≡ None → (other place k : ℕ) → k < length rows
+pub none-fits : (rows : List Row) → first rows ≡ None → (other place k : ℕ) → k < length rows
     → get_or rows k (true, other, place) ≡ (true, other, place) → ⊥
 none-fits [] e other place k lt is = omega arith
 none-fits ((true, code', at') ∷ rows) e other place k lt is = cc

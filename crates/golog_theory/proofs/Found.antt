@@ -2,15 +2,12 @@
 use Rattle.std.proofs.Common.{◌≡◌, ℕ, ◌+◌, ◌<◌, Bool, true, false, List, [], ◌∷◌, ◌++◌, length, take, drop, get_or, length-take-le, Option, Some, None, refl, sym, ap, subst, ◌∙◌, arith, cond, ⊎_elim}
 use Rattle.std.specs.Prelude.{◌||◌, position, is_some}
 use Rattle.std.specs.List.{position_from, list_any}
-use Rattle.std.specs.BTreeMap as tree
-use Rattle.std.specs.Cmp.{eq_by_cmp_equiv}
-use Rattle.std.specs.Cmp.Lexicographic.{slice_cmp, bytes_decides, nat_list_cmp_total, nat_list_eq_equiv}
-use Rattle.std.specs.Map.{lookup, IsKeyTest, AreApart, KeepsOthers}
-use Rattle.std.specs.Ordering.{nat_cmp, is_eq}
+use Rattle.std.specs.HashMap as hash
+use Rattle.std.specs.Cmp.Lexicographic.{bytes_decides, nat_list_eq_equiv}
+use Rattle.std.specs.Map.{KeepsOthers}
 use Rattle.std.proofs.lemmas.Bool.{cases_Bool}
 use Rattle.std.proofs.lemmas.Iterator.Adapters.{position_from-zero}
 use Rattle.std.proofs.lemmas.List.{take_more}
-use Rattle.std.proofs.lemmas.Map.Text.{is_eq-slice_cmp}
 use Rattle.golog_theory.proofs.Each.{drop-item}
 use Rattle.golog_theory.specs.Names.{same}
 use Rattle.golog_theory.specs.Index.{number_at, or_new, Finds}
@@ -70,14 +67,13 @@ kept numbers name word n has =
 -- the name gets the number, and other words keep theirs
 module _ (old new : Numbers) (name : List ℕ) (n : ℕ) where
   abbrev Updates : Type 0
-  Updates = tree.UpdatesBy (λ x y. slice_cmp nat_cmp x.items y.items) (λ key. slice_cmp nat_cmp name key.items) old.by_name new.by_name (Some n)
-
-  apart : (word key : List ℕ) → same word name ≡ false → is_eq (slice_cmp nat_cmp name key) ≡ true → is_eq (slice_cmp nat_cmp word key) ≡ false
-  apart word key ne y = let e : name ≡ key = same-is name key (sym (is_eq-slice_cmp name key) ∙ y) in is_eq-slice_cmp word key ∙ subst (λ k. same word k ≡ false) e ne
+  Updates = hash.UpdatesBy (λ x y. same x.items y.items) (λ key. same name key.items) old.by_name new.by_name (Some n)
 
   others : Updates → (word : List ℕ) → same word name ≡ false → number_at new word ≡ number_at old word
   unfolding KeepsOthers
-  others h word ne = h.3 (λ key. is_eq (slice_cmp nat_cmp word key.items)) (λ x y. (eq_by_cmp_equiv nat_list_cmp_total).congr word x.items y.items) (λ key. apart word key.items ne)
+  others h word ne =
+      h.3 (λ key. same word key.items) (λ x y. nat_list_eq_equiv.congr word x.items y.items)
+      (λ key y. subst (λ k. same word k ≡ false) (same-is name key.items y) ne)
 
   pub added : Updates → is_some (number_at old name) ≡ false → (word : List ℕ) → number_at new word ≡ or_new (number_at old word) (same word name) n
   added h none word =

@@ -32,3 +32,8 @@ pub mod NewNames
 pub mod KeptNames
 pub mod CauseVars
 pub mod KeptCauses
+pub mod Ascend
+pub mod PlacesOfTerms
+pub mod PlacesOfConds
+pub mod PlacesOfItems
+pub mod PlacesOfTheory

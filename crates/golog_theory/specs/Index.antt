@@ -1,8 +1,6 @@
 -- Where the names of a theory stand: maps that agree with its lists.
 use Rattle.std.specs.Prelude.{◌≡◌, ℕ, nat_lt, Bool, if◌then◌else◌, List, length, Option, Some, None, position}
-use Rattle.std.specs.BTreeMap.{get_by}
-use Rattle.std.specs.Ordering.{nat_cmp}
-use Rattle.std.specs.Cmp.Lexicographic.{slice_cmp}
+use Rattle.std.specs.HashMap.{get_by}
 use Rattle.golog_tree.specs.declared.draft.DraftSort.{DraftSort}
 use Rattle.golog_tree.specs.declared.draft.DraftFluent.{DraftFluent}
 use Rattle.golog_tree.specs.declared.draft.DraftAction.{DraftAction}
@@ -14,7 +12,7 @@ use Rattle.golog_theory.specs.Names.{same, sort_name, lists}
 
 -- the number at a word, where it has one
 abbrev pub number_at : Numbers → List ℕ → Option ℕ
-number_at numbers word = get_by (λ key. slice_cmp nat_cmp word key.items) numbers.by_name
+number_at numbers word = get_by (λ key. same word key.items) numbers.by_name
 
 -- the number so far, or else the new one where it is for the word
 abbrev pub or_new : Option ℕ → Bool → ℕ → Option ℕ

@@ -6,7 +6,7 @@ ghost use Rattle.golog_theory.specs.Index.{number_at, or_new, below, Finds, IsIn
 use golog_base::{NoMemory, Word};
 use golog_tree::{DraftAction, DraftDevice, DraftFluent, DraftSort, DraftTheory};
 use std::alloc::Global;
-use std::collections::BTreeMap;
+use std::collections::HashMap;
 
 /// What has a name.
 pub trait Named {
@@ -54,7 +54,7 @@ impl Named for DraftAction {
 /// The numbers of items by their names, where the first of a name counts.
 #[derive(Drop)]
 pub struct Numbers {
-    by_name: BTreeMap<Vec<u8>, usize>,
+    by_name: HashMap<Vec<u8>, usize>,
 }
 
 impl Numbers {
@@ -63,7 +63,7 @@ impl Numbers {
         ensures { (word : List ℕ) → number_at result word ≡ None }
     {
         Numbers {
-            by_name: BTreeMap::new(alloc),
+            by_name: HashMap::new(alloc),
         }
     }
 

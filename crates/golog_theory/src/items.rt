@@ -1,5 +1,7 @@
 ghost use Rattle.std.specs.Prelude.{◌≡◌, OnOk, IfOk};
 ghost use Rattle.golog_semantics.specs.Drafts.{TheoryKeeps, CondKeeps};
+ghost use Rattle.golog_semantics.specs.DraftOrder.{IsAscending, TheoryInOrder};
+ghost use Rattle.golog_semantics.specs.DraftPlaces.{cond_places};
 ghost use Rattle.golog_theory.specs.Reading.{Answers, IsFirstRow, Leaves};
 ghost use Rattle.golog_form.specs.Places.{IsInOrder};
 ghost use Rattle.golog_theory.specs.Order.{IsLeastRow};
@@ -248,21 +250,23 @@ fn read_theory(alloc: Global, form: &Form) -> Result<DraftTheory, TheoryFault>
 /// a shape of the grammar for its place, 21 a name or an item that stands already, 22 a sort and 23 another
 /// name that is not declared, 24 a wrong number of arguments, 25 a limit that is passed, 26 a number out of
 /// range. `Memory` where memory runs out. Where the parts stand in order, as a parser leaves them, the theory
-/// keeps all rules for drafts.
-#[tactic(auto, using(crate::proofs::Theory::laws, crate::proofs::Ordered::laws, crate::proofs::Laws::laws))]
+/// keeps all rules for drafts. The places of its fluents and of its actions then stand in order too, and those
+/// within each start value, precondition, effect and sensing item ascend.
+#[tactic(auto, using(crate::proofs::Theory::laws, crate::proofs::Ordered::laws, crate::proofs::Laws::laws, crate::proofs::PlacesOfTheory::laws))]
 pub fn theory_of(alloc: Global, form: &Form) -> Result<DraftTheory, TheoryFault>
     ensures read { Answers result (theory_of form.now) }
     ensures first { IsFirstRow result (theory_of form.now).rows }
     ensures least { IsInOrder form.now → IsLeastRow result (theory_of form.now).rows }
     ensures keeps { IsInOrder form.now → IfOk result TheoryKeeps }
+    ensures in_order { IsInOrder form.now → IfOk result TheoryInOrder }
 {
     read_theory(alloc, form)
 }
 
 /// The condition that a form spells over a theory, with no variable around it. It is refused with the code
 /// and the place of the first row that fits, in reading order, with the codes of `theory_of`. `Memory` where
-/// memory runs out.
-#[tactic(auto, using(crate::proofs::Ordered::laws, crate::proofs::Laws::laws))]
+/// memory runs out. Where the parts of the form stand in order, the places in the condition ascend.
+#[tactic(auto, using(crate::proofs::Ordered::laws, crate::proofs::Laws::laws, crate::proofs::PlacesOfTheory::laws))]
 pub fn condition_of(
     alloc: Global,
     theory: &DraftTheory,
@@ -271,6 +275,7 @@ pub fn condition_of(
     ensures read { Answers result (cond_of theory.now form.now 0) }
     ensures least { IsInOrder form.now → IsLeastRow result (cond_of theory.now form.now 0).rows }
     ensures keeps { IfOk result (CondKeeps theory.now) }
+    ensures in_order { IsInOrder form.now → IfOk result (λ cond. IsAscending (cond_places cond)) }
 {
     let index = Index::of(alloc, theory)?;
     cond_of(alloc, &Indexed::new(theory, &index), form, 0)

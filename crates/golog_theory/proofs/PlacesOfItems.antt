@@ -1,0 +1,192 @@
+-- The places in an item ascend, and a fluent and an action have the place of their item.
+use Rattle.std.proofs.Common.{◌≡◌, ℕ, ◌+◌, ◌<◌, ◌≤◌, true, List, [], ◌∷◌, ◌++◌, length, Some, None, refl, sym, subst, arith}
+use Rattle.std.specs.Prelude.{nat_le}
+use Rattle.golog_form.specs.declared.form.Form.{Form}
+use Rattle.golog_form.specs.Shape.{place_of}
+use Rattle.golog_tree.specs.declared.draft.DraftTheory.{DraftTheory}
+use Rattle.golog_tree.specs.declared.draft.DraftFluent.{DraftFluent}
+use Rattle.golog_tree.specs.declared.draft.DraftStart.{DraftStart}
+use Rattle.golog_tree.specs.declared.draft.DraftStart.TheVariants.{One}
+use Rattle.golog_tree.specs.declared.draft.DraftAction.{DraftAction}
+use Rattle.golog_tree.specs.declared.draft.DraftPoss.{DraftPoss}
+use Rattle.golog_tree.specs.declared.draft.DraftCause.{DraftCause}
+use Rattle.golog_tree.specs.declared.draft.DraftSense.{DraftSense}
+use Rattle.golog_tree.specs.declared.draft_cond.DraftCond.TheVariants.{Truth}
+use Rattle.golog_semantics.specs.DraftPlaces.{arg_places, term_places, cond_places, value_places, start_places, poss_places, cause_places, sense_places}
+use Rattle.golog_semantics.specs.DraftOrder.{Ascend, IsAscending}
+use Rattle.golog_theory.specs.declared.names.Actions.TheVariants.{OfProgram, All}
+use Rattle.golog_theory.specs.declared.fluents.FluentItem.{FluentItem}
+use Rattle.golog_theory.specs.declared.effects.Effect.{Effect}
+use Rattle.golog_theory.specs.Reading.{each}
+use Rattle.golog_theory.specs.Parts.{new_name, sort_of}
+use Rattle.golog_theory.specs.Heads.{head_word, fluent_called, action_called, schema_of}
+use Rattle.golog_theory.specs.Fluents.{sorts_of, start_value, fluent_of, fluent_item, ground_of, is_started_again, start_item}
+use Rattle.golog_theory.specs.Actions.{device_of, action_of, action_item, exo_item}
+use Rattle.golog_theory.specs.Terms.{term_of}
+use Rattle.golog_theory.specs.Conditions.{cond_of}
+use Rattle.golog_theory.specs.Effects.{is_restricted, poss_item, variable_count, effect_of, cause_of, causes_item, senses_item}
+use Rattle.golog_theory.proofs.Inside.{end_of, Between, stands}
+use Rattle.golog_theory.proofs.Yields.{Yields, gives-yields, refused-yields, row-yields, then-yields}
+use Rattle.golog_theory.proofs.Ascend.{ascend-low, ascend-append, is_ascending}
+use Rattle.golog_theory.proofs.PlacesOfTerms.{called_places, outside, fluent_called-ascend, action_called-ascend, start_value-ascend, ground_of-ascend, term_of-ascend}
+use Rattle.golog_theory.proofs.PlacesOfConds.{places-Truth, cond_of-ascend}
+
+-- places in a form, and then those behind it
+behind : (f : Form) (ones others : List ℕ) (from to : ℕ) → from ≤ place_of f → Ascend (place_of f) ones (end_of f) → Ascend (end_of f) others to
+    → Ascend from (ones ++ others) to
+behind f ones others from to le a b =
+    ascend-append from (end_of f) to ones others (ascend-low from (place_of f) (end_of f) ones le a) b
+
+-- the place of a fluent, and those of its start value
+pub record FluentAscends (at : ℕ) (item : FluentItem) : Type 0 where
+  pub at_item : item.fluent.at ≡ at
+  pub value : IsAscending (value_places item.value)
+
+module _ (theory : DraftTheory) where
+  abbrev FluentAt : ℕ → DraftFluent → Type 0
+  FluentAt at fluent = fluent.at ≡ at
+
+  fluent_of-place : (at : ℕ) (name sorts sort : Form) → Yields (FluentAt at) (fluent_of theory at name sorts sort)
+  unfolding fluent_of
+  fluent_of-place at name sorts sort =
+      then-yields (λ _. Unit {0}) _ (new_name theory name).outcome _ (λ x e. tt) (λ name' _.
+      then-yields (λ _. Unit {0}) _ (sorts_of theory sorts).outcome _ (λ x e. tt) (λ args' _.
+      then-yields (λ _. Unit {0}) _ (sort_of theory sort).outcome _ (λ x e. tt) (λ sort' _.
+      gives-yields (FluentAt at) (record { name = name'; args = args'; sort = sort'; at = at }) refl)))
+
+  pub fluent_item-ascend : (at : ℕ) (fs : List Form) (from to : ℕ) → Between from fs to → Yields (FluentAscends at) (fluent_item theory at fs)
+  unfolding fluent_item
+  fluent_item-ascend at [] from to b = refused-yields (FluentAscends at) 20 at
+  fluent_item-ascend at (name ∷ []) from to b = refused-yields (FluentAscends at) 20 at
+  fluent_item-ascend at (name ∷ sorts ∷ []) from to b = refused-yields (FluentAscends at) 20 at
+  fluent_item-ascend at (name ∷ sorts ∷ sort ∷ []) from to b =
+      then-yields _ _ (fluent_of theory at name sorts sort).outcome _ (fluent_of-place at name sorts sort) (λ fluent is.
+      gives-yields (FluentAscends at) (record { fluent = fluent; value = None }) (record { at_item = is; value = is_ascending 0 [] 0 (omega arith) }))
+  fluent_item-ascend at (name ∷ sorts ∷ sort ∷ value ∷ []) from to b =
+      then-yields _ _ (fluent_of theory at name sorts sort).outcome _ (fluent_of-place at name sorts sort) (λ fluent is.
+      then-yields _ _ (start_value theory value).outcome _ (start_value-ascend theory value b.2.2.2.1) (λ v a.
+      gives-yields (FluentAscends at) (record { fluent = fluent; value = v }) (record { at_item = is; value = is_ascending (place_of value) (value_places v) (end_of value) a })))
+  fluent_item-ascend at (name ∷ sorts ∷ sort ∷ value ∷ other ∷ fs) from to b = refused-yields (FluentAscends at) 20 at
+
+  abbrev StartAscends : DraftStart → Type 0
+  StartAscends item = IsAscending (start_places item)
+
+  pub start_item-ascend : (at : ℕ) (fs : List Form) (from to : ℕ) → Between from fs to → Yields StartAscends (start_item theory at fs)
+  unfolding start_item
+  start_item-ascend at [] from to b = refused-yields StartAscends 20 at
+  start_item-ascend at (fluent ∷ []) from to b = refused-yields StartAscends 20 at
+  start_item-ascend at (fluent ∷ value ∷ []) from to b =
+      row-yields _ (is_started_again theory (ground_of theory fluent).outcome) (21, at) _ (λ _.
+      then-yields _ _ (ground_of theory fluent).outcome _ (outside called_places fluent (ground_of theory fluent) (ground_of-ascend theory fluent b.1)) (λ c is.
+      then-yields _ _ (start_value theory value).outcome _ (start_value-ascend theory value b.2.1) (λ v is'.
+      gives-yields StartAscends (One c.item c.args v at)
+      (is_ascending from (arg_places c.args ++ value_places v) (end_of value)
+      (behind fluent (arg_places c.args) (value_places v) from (end_of value) b.0 is (ascend-low (end_of fluent) (place_of value) (end_of value) (value_places v) b.2.0 is'))))))
+  start_item-ascend at (fluent ∷ value ∷ other ∷ fs) from to b = refused-yields StartAscends 20 at
+
+  abbrev pub ActionAt : ℕ → DraftAction → Type 0
+  ActionAt at action = action.at ≡ at
+
+  action_of-place : (at : ℕ) (name sorts : Form) → Yields (ActionAt at) (action_of theory at name sorts)
+  unfolding action_of
+  action_of-place at name sorts =
+      then-yields (λ _. Unit {0}) _ (new_name theory name).outcome _ (λ x e. tt) (λ name' _.
+      then-yields (λ _. Unit {0}) _ (sorts_of theory sorts).outcome _ (λ x e. tt) (λ args' _.
+      gives-yields (ActionAt at) (record { name = name'; args = args'; device = None; posters = []; at = at }) refl))
+
+  pub action_item-place : (at : ℕ) (fs : List Form) → Yields (ActionAt at) (action_item theory at fs)
+  unfolding action_item
+  action_item-place at [] = refused-yields (ActionAt at) 20 at
+  action_item-place at (name ∷ []) = refused-yields (ActionAt at) 20 at
+  action_item-place at (name ∷ sorts ∷ []) = action_of-place at name sorts
+  action_item-place at (name ∷ sorts ∷ device ∷ []) =
+      then-yields _ _ (action_of theory at name sorts).outcome _ (action_of-place at name sorts) (λ action is.
+      then-yields (λ _. Unit {0}) _ (device_of theory device).outcome _ (λ x e. tt) (λ device' _.
+      gives-yields (ActionAt at) (record action { device = Some device' }) is))
+  action_item-place at (name ∷ sorts ∷ device ∷ other ∷ fs) = refused-yields (ActionAt at) 20 at
+
+  pub exo_item-place : (at : ℕ) (fs : List Form) → Yields (ActionAt at) (exo_item theory at fs)
+  unfolding exo_item
+  exo_item-place at [] = refused-yields (ActionAt at) 20 at
+  exo_item-place at (name ∷ []) = refused-yields (ActionAt at) 20 at
+  exo_item-place at (name ∷ sorts ∷ []) = refused-yields (ActionAt at) 20 at
+  exo_item-place at (name ∷ sorts ∷ device ∷ devices) =
+      then-yields _ _ (action_of theory at name sorts).outcome _ (action_of-place at name sorts) (λ action is.
+      then-yields (λ _. Unit {0}) _ (each (λ (_ : List ℕ). device_of theory) [] (device ∷ devices)).outcome _ (λ x e. tt) (λ posters _.
+      gives-yields (ActionAt at) (record action { posters = posters }) is))
+
+  abbrev PossAscends : DraftPoss → Type 0
+  PossAscends item = IsAscending (poss_places item)
+
+  pub poss_item-ascend : (at : ℕ) (fs : List Form) (from to : ℕ) → Between from fs to → Yields PossAscends (poss_item theory at fs)
+  unfolding poss_item
+  poss_item-ascend at [] from to b = refused-yields PossAscends 20 at
+  poss_item-ascend at (schema ∷ []) from to b = refused-yields PossAscends 20 at
+  poss_item-ascend at (schema ∷ cond ∷ []) from to b =
+      row-yields _ (is_restricted theory (head_word schema)) (21, at) _ (λ _.
+      then-yields (λ _. Unit {0}) _ (schema_of theory OfProgram schema).outcome _ (λ x e. tt) (λ s _.
+      then-yields _ _ (cond_of theory cond (length s.vars)).outcome _ (cond_of-ascend theory cond b.2.1 (length s.vars)) (λ c is.
+      gives-yields PossAscends (record { action = s.action; vars = s.vars; cond = c; at = at }) (is_ascending (place_of cond) (cond_places c) (end_of cond) is))))
+  poss_item-ascend at (schema ∷ cond ∷ other ∷ fs) from to b = refused-yields PossAscends 20 at
+
+  -- an effect, and places behind it
+  abbrev effect_places : Effect → List ℕ → List ℕ
+  effect_places effect others =
+      arg_places effect.action.args ++ (arg_places effect.fluent.args ++ (term_places effect.term ++ others))
+
+  abbrev EffectAscends : ℕ → ℕ → Effect → Type 0
+  EffectAscends from to effect = (others : List ℕ) (later : ℕ) → Ascend to others later → Ascend from (effect_places effect others) later
+
+  effect_of-ascend : (action fluent term : Form) (fs : List Form) (from to : ℕ) → Between from (action ∷ fluent ∷ term ∷ fs) to
+      → Yields (EffectAscends from (end_of term)) (effect_of theory action fluent term)
+  unfolding effect_of
+  effect_of-ascend action fluent term fs from to b =
+      then-yields _ _ (action_called theory action).outcome _ (outside called_places action (action_called theory action) (action_called-ascend theory action b.1)) (λ a is.
+      then-yields _ _ (fluent_called theory fluent).outcome _ (outside called_places fluent (fluent_called theory fluent) (fluent_called-ascend theory fluent b.2.1)) (λ c is'.
+      then-yields _ _ (term_of theory term).outcome _ (term_of-ascend theory term b.2.2.1) (λ t is''.
+      gives-yields (EffectAscends from (end_of term)) (record { action = a; fluent = c; term = t }) (λ others later more.
+      behind action (arg_places a.args) _ from later b.0 is
+      (behind fluent (arg_places c.args) _ (end_of action) later b.2.0 is'
+      (behind term (term_places t) others (end_of fluent) later b.2.2.0 is'' more))))))
+
+  abbrev CauseAscends : DraftCause → Type 0
+  CauseAscends item = IsAscending (cause_places item)
+
+  pub causes_item-ascend : (at : ℕ) (fs : List Form) (from to : ℕ) → Between from fs to → Yields CauseAscends (causes_item theory at fs)
+  unfolding causes_item
+  causes_item-ascend at [] from to b = refused-yields CauseAscends 20 at
+  causes_item-ascend at (action ∷ []) from to b = refused-yields CauseAscends 20 at
+  causes_item-ascend at (action ∷ fluent ∷ []) from to b = refused-yields CauseAscends 20 at
+  causes_item-ascend at (action ∷ fluent ∷ term ∷ []) from to b =
+      row-yields _ (nat_le 1026 (length theory.causes)) (25, at) _ (λ _.
+      then-yields _ _ (effect_of theory action fluent term).outcome _ (effect_of-ascend action fluent term [] from to b) (λ effect is.
+      gives-yields CauseAscends (cause_of at effect (Truth true at))
+      (is_ascending from (cause_places (cause_of at effect (Truth true at))) (end_of term)
+      (is (cond_places (Truth true at)) (end_of term) (subst (λ places. Ascend (end_of term) places (end_of term)) (sym (places-Truth true at)) (omega arith))))))
+  causes_item-ascend at (action ∷ fluent ∷ term ∷ cond ∷ []) from to b =
+      row-yields _ (nat_le 1026 (length theory.causes)) (25, at) _ (λ _.
+      then-yields _ _ (effect_of theory action fluent term).outcome _ (effect_of-ascend action fluent term (cond ∷ []) from to b) (λ effect is.
+      then-yields _ _ (cond_of theory cond (variable_count theory effect)).outcome _ (cond_of-ascend theory cond b.2.2.2.1 (variable_count theory effect)) (λ c is'.
+      gives-yields CauseAscends (cause_of at effect c)
+      (is_ascending from (cause_places (cause_of at effect c)) (end_of cond)
+      (is (cond_places c) (end_of cond) (ascend-low (end_of term) (place_of cond) (end_of cond) (cond_places c) b.2.2.2.0 is'))))))
+  causes_item-ascend at (action ∷ fluent ∷ term ∷ cond ∷ other ∷ fs) from to b = refused-yields CauseAscends 20 at
+
+  abbrev SenseAscends : DraftSense → Type 0
+  SenseAscends item = IsAscending (sense_places item)
+
+  pub senses_item-ascend : (at : ℕ) (fs : List Form) (from to : ℕ) → at < from → Between from fs to → Yields SenseAscends (senses_item theory at fs)
+  unfolding senses_item
+  senses_item-ascend at [] from to lt b = refused-yields SenseAscends 20 at
+  senses_item-ascend at (schema ∷ []) from to lt b = refused-yields SenseAscends 20 at
+  senses_item-ascend at (schema ∷ fluent ∷ []) from to lt b =
+      then-yields (λ _. Unit {0}) _ (schema_of theory All schema).outcome _ (λ x e. tt) (λ s _.
+      then-yields _ _ (fluent_called theory fluent).outcome _ (fluent_called-ascend theory fluent b.2.1) (λ c is.
+      gives-yields SenseAscends (record { action = s.action; vars = s.vars; fluent = c.item; args = c.args; at = at })
+      (is_ascending at (at ∷ arg_places c.args) (end_of fluent) (
+        omega arith,
+        ascend-low (at + 1) (place_of fluent + 1) (end_of fluent) (arg_places c.args) (omega (arith, lt, b.0, b.2.0, (stands schema b.1).size)) is,
+      ))))
+  senses_item-ascend at (schema ∷ fluent ∷ other ∷ fs) from to lt b = refused-yields SenseAscends 20 at
+
+pub ruleset laws = (fluent_item-ascend, senses_item-ascend)
