@@ -8,3 +8,7 @@ pub mod KeptProgs
 pub mod KeptItems
 pub mod KeptProgram
 pub mod Ordered
+pub mod AscendingProgs
+pub mod AscendingProgram
+pub mod Stems
+pub mod Spaces

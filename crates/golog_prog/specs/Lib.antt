@@ -4,3 +4,4 @@ pub mod Callees
 pub mod Constructs
 pub mod Programs
 pub mod Items
+pub mod Printing

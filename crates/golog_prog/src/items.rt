@@ -11,6 +11,7 @@ ghost use Rattle.golog_theory.specs.Order.{IsLeastRow};
 ghost use Rattle.golog_theory.specs.declared.fault.TheoryFault.TheVariants.{Refused};
 ghost use Rattle.golog_form.specs.Places.{IsInOrder};
 ghost use Rattle.golog_semantics.specs.Drafts.{TheoryKeeps, ProgramKeeps};
+ghost use Rattle.golog_semantics.specs.DraftOrder.{ProgramInOrder};
 
 use crate::procedures::Procedures;
 use crate::programs::prog_of;
@@ -333,7 +334,8 @@ fn read_program(
 /// name that no earlier item declares (procedures may be called anywhere), 24 a wrong number of arguments, 25 a
 /// limit that is passed, 26 a number out of range, and 27 at the place of the form where no item is `main`.
 /// `Memory` where memory runs out. Over a theory that keeps the rules for drafts, the program keeps them.
-#[tactic(auto, using(crate::proofs::Program::laws, crate::proofs::Ordered::laws, crate::proofs::KeptProgram::laws))]
+/// Where the parts of the form stand in order, the places in each procedure and in the program ascend.
+#[tactic(auto, using(crate::proofs::Program::laws, crate::proofs::Ordered::laws, crate::proofs::KeptProgram::laws, crate::proofs::AscendingProgram::laws))]
 pub fn program_of(
     alloc: Global,
     theory: &DraftTheory,
@@ -343,6 +345,7 @@ pub fn program_of(
     ensures first { IsFirstRow result (program_of theory.now form.now).rows }
     ensures least { IsInOrder form.now → IsLeastRow result (program_of theory.now form.now).rows }
     ensures keeps { TheoryKeeps theory.now → IfOk result (ProgramKeeps theory.now) }
+    ensures in_order { IsInOrder form.now → IfOk result ProgramInOrder }
 {
     read_program(alloc, theory, form)
 }

@@ -3,13 +3,17 @@
 
 mod built_in;
 mod callees;
+mod cond_text;
 mod items;
 mod keyword;
+mod named;
 mod procedures;
+mod prog_text;
 mod programs;
 mod written;
 
 pub use items::{NO_MAIN, program_of};
+pub use prog_text::print_prog;
 
 #[cfg(test)]
 mod tests;
