@@ -25,7 +25,7 @@ use Rattle.golog_semantics.specs.Text.{Text}
 use Rattle.golog_semantics.specs.Ways.{is_empty}
 use Rattle.golog_semantics.specs.Fits as fits
 use Rattle.golog_semantics.specs.Fits.{bound_from, is_sort, args_fit}
-use Rattle.golog_semantics.specs.Drafts.{TheoryKeeps, signature, cond_keeps, fluent_keeps, draft_args_keep, draft_action_at, draft_fluent_keeps, draft_action_keeps, draft_poss_keeps, draft_sense_keeps}
+use Rattle.golog_semantics.specs.Drafts.{TheoryKeeps, ProgramKeeps, signature, cond_keeps, fluent_keeps, draft_args_keep, draft_action_at, draft_fluent_keeps, draft_action_keeps, draft_poss_keeps, draft_sense_keeps}
 use Rattle.golog_semantics.specs.Written.{is_written_cond}
 use Rattle.golog_semantics.specs.WellFormed.{poss_fits, poss_fits_for, sense_fits, sense_fits_for}
 use Rattle.golog_semantics.proofs.Tests.{and_both, and_cases, neither_first, neither_second}
@@ -36,7 +36,7 @@ use Rattle.golog_check.specs.Terms.{args_in}
 use Rattle.golog_check.specs.Conditions.{cond_in}
 use Rattle.golog_check.specs.CheckLaws.{HasItems, Binds, signature_of}
 use Rattle.golog_check.specs.Effects.{may_sense, poss_in, sense_by}
-use Rattle.golog_check.specs.Check.{IsPlain, names_of, agent_of}
+use Rattle.golog_check.specs.Check.{names_of, agent_of}
 use Rattle.golog_check.proofs.Readings.{both, past, ok-same}
 use Rattle.golog_check.proofs.ArgLaws.{args-fit}
 use Rattle.golog_check.proofs.CondLaws.{conds-fit}
@@ -83,7 +83,7 @@ arities-same : (items : List DraftFluent) → map (λ (i : FluentItem). length i
 arities-same [] = refl
 arities-same (item ∷ items) = ap (λ arities. length item.args ∷ arities) (arities-same items)
 
-module _ (theory : DraftTheory) (program : DraftProgram) (keeps : TheoryKeeps theory) (plain : IsPlain program) where
+module _ (theory : DraftTheory) (program : DraftProgram) (keeps : TheoryKeeps theory) (also : ProgramKeeps theory program) where
   abbrev agent : Agent
   agent = agent_of theory program
 
@@ -101,7 +101,7 @@ module _ (theory : DraftTheory) (program : DraftProgram) (keeps : TheoryKeeps th
     sorts = refl;
     fluents = refl;
     sorted = made (λ (item : FluentItem). is_sort agent item.sort) fluent_item (draft_fluent_keeps theory)
-        (λ item h. sym (sort-in theory program keeps plain item.sort)
+        (λ item h. sym (sort-in theory program keeps also item.sort)
         ∙ (and_cases (draft_args_keep theory item.args) (nat_lt item.sort (length theory.sorts)) h).1)
         theory.fluents keeps.fluents;
   }
@@ -112,7 +112,7 @@ module _ (theory : DraftTheory) (program : DraftProgram) (keeps : TheoryKeeps th
       → IsBound agent (bound_from 0 action.args) (scope_of_vars words action.args) (0 + length words)
   action-scope action words h l =
       scope-bound agent (bound_from 0 action.args) 0 action.args words [] refl (sym l) (bound-at 0 action.args)
-      (args-in theory program keeps plain action.args h) tt
+      (args-in theory program keeps also action.args h) tt
 
   pub action-get : (action : ℕ) (item : DraftAction) → slice_get theory.actions action ≡ Some item
       → slice_get agent.actions action ≡ Some (action_item item)

@@ -4,7 +4,7 @@ use Rattle.std.specs.Prelude.{All, nat_lt, nat_le, IsTrue, is_some}
 use Rattle.std.specs.List.{list_all, flat_map, IsDistinct}
 use Rattle.std.specs.Option.{option_map_or}
 use Rattle.std.proofs.lemmas.Bool.{lt-ltb}
-use Rattle.std.proofs.lemmas.List.{length-map, append-nil, length-append}
+use Rattle.std.proofs.lemmas.List.{length-map, length-append}
 use Rattle.golog_base.specs.Names.{IsWord}
 use Rattle.golog_tree.specs.declared.agent.Agent.{Agent}
 use Rattle.golog_tree.specs.declared.agent.FluentItem.{FluentItem}
@@ -22,15 +22,17 @@ use Rattle.golog_semantics.specs.Text.{Text}
 use Rattle.golog_semantics.specs.Ways.{is_empty}
 use Rattle.golog_semantics.specs.BuiltIn.{NamesFit, declared_names, sort_names, same_text, is_keyword}
 use Rattle.golog_semantics.specs.Fits.{is_sort}
-use Rattle.golog_semantics.specs.Drafts.{TheoryKeeps, draft_sort_names, theory_names, draft_sort_keeps, draft_fluent_keeps, draft_action_keeps, draft_args_keep}
+use Rattle.golog_semantics.specs.Drafts.{TheoryKeeps, ProgramKeeps, proc_names, draft_sort_names, theory_names, draft_sort_keeps, draft_fluent_keeps, draft_action_keeps, draft_args_keep}
 use Rattle.golog_semantics.specs.WellFormed.{IsSmall, sort_fits, are_sorts, is_device_no, fluent_item_fits, action_item_fits}
 use Rattle.golog_semantics.proofs.Tests.{and_both, and_cases}
 use Rattle.golog_check.specs.DeclaredItems.{sort_item, fluent_item, action_item}
-use Rattle.golog_check.specs.Least.{CodeAt, value_of, given}
+use Rattle.golog_check.specs.Least.{CodeAt, refusals, value_of, given}
 use Rattle.golog_check.specs.Effects.{cause_in}
+use Rattle.golog_check.specs.Procs.{proc_in}
 use Rattle.golog_check.specs.Sums.{fluent_sum, action_sum}
-use Rattle.golog_check.specs.Check.{IsPlain, names_of, agent_of}
+use Rattle.golog_check.specs.Check.{names_of, agent_of}
 use Rattle.golog_check.proofs.Countable.{made, sort-few, countable}
+use Rattle.golog_check.proofs.ShapeLaws.{procs-named}
 
 -- what is given is no more than what is read
 pub given-few : {A : Type 0} (readings : List (Reading A)) → length (given readings) ≤ length readings
@@ -65,27 +67,29 @@ actions-named : (items : List DraftAction) → map (λ (i : ActionItem). i.name)
 actions-named [] = refl
 actions-named (item ∷ items) = ap (λ names. item.name ∷ names) (actions-named items)
 
-module _ (theory : DraftTheory) (program : DraftProgram) (keeps : TheoryKeeps theory) (plain : IsPlain program) where
+module _ (theory : DraftTheory) (program : DraftProgram) (keeps : TheoryKeeps theory) (also : ProgramKeeps theory program) where
   abbrev agent : Agent
   agent = agent_of theory program
 
-  named : declared_names agent ≡ theory_names theory
-  named =
-      let devices = map (λ (device : DraftDevice). device.name) theory.devices in
-      let fluents = map (λ (i : FluentItem). i.name) (map fluent_item theory.fluents) in
-      let actions = map (λ (i : ActionItem). i.name) (map action_item theory.actions) in
-      let drafts = map (λ (item : DraftFluent). item.name) theory.fluents in
-      append-nil (flat_map sort_names (map sort_item theory.sorts) ++ devices ++ fluents ++ actions)
-      ∙ ap (λ names. names ++ devices ++ fluents ++ actions) (sorts-named theory.sorts)
-      ∙ ap (λ names. flat_map draft_sort_names theory.sorts ++ devices ++ names ++ actions) (fluents-named theory.fluents)
-      ∙ ap (λ names. flat_map draft_sort_names theory.sorts ++ devices ++ drafts ++ names) (actions-named theory.actions)
+  module _ (none : refusals (map (proc_in (names_of theory program)) program.procs) ≡ []) where
+    named : declared_names agent ≡ theory_names theory ++ proc_names program.procs
+    named =
+        let devices = map (λ (device : DraftDevice). device.name) theory.devices in
+        let fluents = map (λ (i : FluentItem). i.name) (map fluent_item theory.fluents) in
+        let actions = map (λ (i : ActionItem). i.name) (map action_item theory.actions) in
+        let drafts = map (λ (item : DraftFluent). item.name) theory.fluents in
+        ap (λ names. flat_map sort_names (map sort_item theory.sorts) ++ devices ++ fluents ++ actions ++ names)
+        (procs-named (names_of theory program) program.procs none)
+        ∙ ap (λ names. names ++ devices ++ fluents ++ actions ++ proc_names program.procs) (sorts-named theory.sorts)
+        ∙ ap (λ names. flat_map draft_sort_names theory.sorts ++ devices ++ names ++ actions ++ proc_names program.procs) (fluents-named theory.fluents)
+        ∙ ap (λ names. flat_map draft_sort_names theory.sorts ++ devices ++ drafts ++ names ++ proc_names program.procs) (actions-named theory.actions)
 
-  pub names : NamesFit agent
-  names = record {
-    words = subst (λ (xs : List Text). All IsWord xs) (sym named) keeps.names.words;
-    free = subst (λ (xs : List Text). IsTrue (list_all (λ name. not (is_keyword name)) xs)) (sym named) keeps.names.free;
-    once = subst (λ (xs : List Text). IsDistinct same_text xs) (sym named) keeps.names.once;
-  }
+    pub names : NamesFit agent
+    names = record {
+      words = subst (λ (xs : List Text). All IsWord xs) (sym named) also.names.words;
+      free = subst (λ (xs : List Text). IsTrue (list_all (λ name. not (is_keyword name)) xs)) (sym named) also.names.free;
+      once = subst (λ (xs : List Text). IsDistinct same_text xs) (sym named) also.names.once;
+    }
 
   pub small : IsSmall agent
   small = record {
@@ -95,7 +99,10 @@ module _ (theory : DraftTheory) (program : DraftProgram) (keeps : TheoryKeeps th
         let few = given-few (map (cause_in (names_of theory program)) theory.causes) in
         let same = length-map theory.causes (cause_in (names_of theory program)) in
         omega (arith, few, same, keeps.few.causes);
-    procs = omega arith;
+    procs =
+        let few = given-few (map (proc_in (names_of theory program)) program.procs) in
+        let same = length-map program.procs (proc_in (names_of theory program)) in
+        omega (arith, few, same, also.few);
   }
 
   pub sorts : IsTrue (list_all sort_fits agent.sorts)

@@ -1,13 +1,17 @@
 -- The agent that a draft makes: its start values and its program.
-use Rattle.std.proofs.Common.{◌≡◌, ℕ, suc, ◌+◌, ◌≤◌, Bool, true, false, not, ◌&&◌, ◌||◌, List, [], ◌∷◌, ◌++◌, map, Option, Result, Ok, Err, Some, None, refl, sym, ap, subst, ◌∙◌, arith}
+use Rattle.std.proofs.Common.{◌≡◌, ℕ, suc, ◌+◌, ◌≤◌, Bool, true, false, not, ◌&&◌, ◌||◌, List, [], ◌∷◌, ◌++◌, length, map, Option, Result, Ok, Err, Some, None, refl, sym, ap, subst, ◌∙◌, arith}
 use Rattle.std.specs.Prelude.{All, ◌==◌, nat_eq, nat_lt, nat_le, slice_get, if◌then◌else◌, option_map, option_and_then, unwrap_or}
-use Rattle.std.specs.List.{list_all, enumerate_from}
+use Rattle.std.specs.List.{list_all, enumerate_from, flat_map}
 use Rattle.std.specs.Cmp.Lexicographic.{pointwise}
 use Rattle.std.proofs.lemmas.Bool.{eqb-true, eq-eqb}
 use Rattle.std.proofs.lemmas.Bool.Decides.{nat_tests}
 use Rattle.std.proofs.lemmas.List.{length-map}
 use Rattle.golog_tree.specs.declared.agent.Agent.{Agent}
 use Rattle.golog_tree.specs.declared.agent.FluentItem.{FluentItem}
+use Rattle.golog_tree.specs.declared.agent.ProcItem.{ProcItem}
+use Rattle.golog_tree.specs.declared.draft.DraftParam.{DraftParam}
+use Rattle.golog_tree.specs.declared.draft.DraftProc.{DraftProc}
+use Rattle.golog_tree.specs.declared.draft_prog.DraftProg.{DraftProg}
 use Rattle.golog_tree.specs.declared.cond.Arg.{Arg}
 use Rattle.golog_tree.specs.declared.cond.Arg.TheVariants.{Const, Var}
 use Rattle.golog_tree.specs.declared.prog.Prog.{Prog}
@@ -18,35 +22,43 @@ use Rattle.golog_tree.specs.declared.draft.DraftStart.TheVariants.{Each, One}
 use Rattle.golog_tree.specs.declared.draft_cond.DraftArg.{DraftArg}
 use Rattle.golog_tree.specs.Nest.{nest}
 use Rattle.golog_tree.specs.Ground.{Ground, sort_size, ground_fluents}
+use Rattle.golog_semantics.specs.DraftPlaces.{arg_place}
 use Rattle.golog_semantics.specs.Reading.{Reading, gives, ◌>>=◌}
 use Rattle.golog_semantics.specs.Truth.{unknown}
-use Rattle.golog_semantics.specs.Fits.{nothing_bound}
+use Rattle.golog_semantics.specs.Fits.{bound_from, nothing_bound}
 use Rattle.golog_semantics.specs.ProgFits.{outermost, prog_fits}
 use Rattle.golog_semantics.specs.Written.{is_written_prog}
 use Rattle.golog_semantics.specs.BlockFree.{block_at, proc_blocks}
-use Rattle.golog_semantics.specs.Guarded.{IsGuarded, proc_fronts}
-use Rattle.golog_semantics.specs.FrontCalls.{front_nests}
-use Rattle.golog_semantics.specs.Drafts.{TheoryKeeps, ProgramKeeps}
-use Rattle.golog_semantics.specs.WellFormed.{StartsFit, ProgramsFit, start_fits}
+use Rattle.golog_semantics.specs.Drafts.{TheoryKeeps, ProgramKeeps, draft_args_keep, draft_proc_keeps, is_draft_sort, param_words, prog_keeps}
+use Rattle.golog_semantics.specs.WellFormed.{StartsFit, ProgramsFit, proc_fits, start_fits}
 use Rattle.golog_semantics.proofs.Tests.{and_both, and_cases, or_first, or_second}
 use Rattle.golog_check.specs.declared.starts.Start.{Start}
 use Rattle.golog_check.specs.declared.starts.Start.TheVariants as start
 use Rattle.golog_check.specs.DeclaredItems.{Declared, declared_by, param_sorts}
-use Rattle.golog_check.specs.Least.{CodeAt, refusal_of, refusals}
-use Rattle.golog_check.specs.Terms.{arg_place, arg_in, args_in}
+use Rattle.golog_check.specs.Least.{CodeAt, refusal_of}
+use Rattle.golog_check.specs.Terms.{arg_in, args_in}
 use Rattle.golog_check.specs.Starts.{constant, constant_in, own_sort, value_in, one_in, start_in, own_after, own_value, one_after, one_value, start_value}
 use Rattle.golog_check.specs.Sorts.{fluent_sorts}
 use Rattle.golog_check.specs.Programs.{prog_in}
 use Rattle.golog_check.specs.DraftNest.{draft_nest}
 use Rattle.golog_check.specs.ProgramLaws.{HasPrograms}
-use Rattle.golog_check.specs.Check.{IsPlain, main_in, main_of, starts_of, names_of, all_refusals, agent_of}
+use Rattle.golog_check.specs.Check.{main_in, main_of, starts_of, names_of, all_refusals, agent_of}
 use Rattle.golog_check.proofs.Readings.{both, past, ok-same, found-it}
 use Rattle.golog_check.proofs.ArgLaws.{arg-fits, some-same}
 use Rattle.golog_check.proofs.ProgLaws.{progs-fit}
-use Rattle.golog_check.proofs.PartLaws.{none-behind}
-use Rattle.golog_check.proofs.Nests.{nests-same, plain-free}
+use Rattle.golog_check.specs.ProgramLaws.{blocks_keep}
+use Rattle.golog_check.specs.Procs.{params_of, proc_in}
+use Rattle.golog_check.specs.Shapes.{shapes}
+use Rattle.golog_check.specs.DraftBlocks.{block_refusals}
+use Rattle.golog_check.proofs.PartLaws.{NoneRefused, none-before, none-behind, none-refused}
+use Rattle.golog_check.proofs.Nests.{nests-same}
+use Rattle.golog_check.proofs.BlockLaws.{blocks-kept}
+use Rattle.golog_check.proofs.Transfer.{AllAlike, same-blocks}
+use Rattle.golog_check.proofs.ShapeLaws.{proc-is, procs-alike, procs-params}
+use Rattle.golog_check.proofs.MadeFronts.{guarded, nests}
+use Rattle.golog_check.proofs.MadeItems.{args-in}
 use Rattle.golog_check.proofs.Given.{given-all}
-use Rattle.golog_check.proofs.MadeActions.{has-items}
+use Rattle.golog_check.proofs.MadeActions.{bound-at, scope-bound, has-items}
 
 -- what holds of each thing with its number
 pub numbered-all : {A : Type 0} (p : ℕ × ℕ → Bool) (f : A → ℕ) (first : ℕ) (xs : List A)
@@ -69,11 +81,14 @@ ok-one (Err refusal) h = absurd (cc)
 le-of : (n : ℕ) → nat_le n 3072 ≡ true → n ≤ 3072
 le-of n h = grind (arith, nat_tests)
 
+le-three : (n : ℕ) → nat_le n 3 ≡ true → n ≤ 3
+le-three n h = grind (arith, nat_tests)
+
 not-not : (b : Bool) → not b ≡ false → b ≡ true
 not-not true h = refl
 not-not false h = absurd (cc)
 
-module _ (theory : DraftTheory) (program : DraftProgram) (keeps : TheoryKeeps theory) (plain : IsPlain program) where
+module _ (theory : DraftTheory) (program : DraftProgram) (keeps : TheoryKeeps theory) (also : ProgramKeeps theory program) where
   abbrev agent : Agent
   agent = agent_of theory program
 
@@ -101,7 +116,7 @@ module _ (theory : DraftTheory) (program : DraftProgram) (keeps : TheoryKeeps th
       let found = found-it _ (arg_place arg) (constant_in (arg_in names [] (own_sort names fluent) arg).outcome) c h in
       let is = const-in (arg_in names [] (own_sort names fluent) arg).outcome c found in
       or_first (nat_lt c (sort_size agent (own_sort names fluent))) (c == unknown)
-      (arg-fits agent names (has-items theory program keeps plain) nothing_bound [] tt (omega arith) (own_sort names fluent) arg (Const c) is)
+      (arg-fits agent names (has-items theory program keeps also) nothing_bound [] tt (omega arith) (own_sort names fluent) arg (Const c) is)
 
   start-ok : (item : DraftStart) (y : Start) → (start_in names item).outcome ≡ Ok y → start_ok y ≡ true
   unfolding one_in
@@ -160,9 +175,10 @@ module _ (theory : DraftTheory) (program : DraftProgram) (keeps : TheoryKeeps th
         ∙ value);
   }
 
-  module _ (kept : ProgramKeeps theory program) (none : all_refusals theory program ≡ []) where
+  -- the refusals of the program, none of which is there
+  module _ (none : all_refusals theory program ≡ []) where
     main-one : (p : Prog) × ((main_in (names_of theory program) program.main).outcome ≡ Ok p)
-    main-one = ok-one (main_in names program.main).outcome (none-behind _ (refusals (main_in names program.main ∷ [])) none)
+    main-one = ok-one (main_in names program.main).outcome (none-refused theory program none).main
 
     record IsMain (p : Prog) : Type 0 where
       deep : nat_le (draft_nest program.main.body) 3072 ≡ true
@@ -176,18 +192,68 @@ module _ (theory : DraftTheory) (program : DraftProgram) (keeps : TheoryKeeps th
 
     has-programs : HasPrograms (agent_of theory program) (declared_by theory program.procs)
     has-programs = record {
-      items = has-items theory program keeps plain;
+      items = has-items theory program keeps also;
       actions = refl;
-      params = sym (ap (λ ps. map param_sorts ps) plain.procs);
+      params = procs-params names program.procs (none-refused theory program none).procs;
     }
 
-    guarded : IsGuarded (agent_of theory program)
-    unfolding proc_fronts
-    guarded = record { settled = refl }
+    alike : AllAlike agent.procs (shapes program.procs).procs
+    alike = procs-alike names program.procs (none-refused theory program none).procs
 
-    no-nests : All (λ n. n ≤ 1024) (front_nests (agent_of theory program))
-    unfolding front_nests
-    no-nests = λ k d l. absurd (omega (arith, l))
+    blocks : proc_blocks agent ≡ proc_blocks (shapes program.procs)
+    blocks = same-blocks agent (shapes program.procs) alike
+
+    keeps-blocks : (d : DraftProg) → block_refusals (proc_blocks (shapes program.procs)) d ≡ []
+        → blocks_keep (block_at (proc_blocks (agent_of theory program))) d false ≡ true
+    keeps-blocks d h =
+        ap (λ bs. blocks_keep (block_at bs) d false) blocks ∙ blocks-kept (proc_blocks (shapes program.procs)) d h
+
+    abbrev refused_in : DraftProc → List CodeAt
+    refused_in item = block_refusals (proc_blocks (shapes program.procs)) item.body
+
+    procs-blocks : flat_map refused_in program.procs ≡ []
+    procs-blocks = none-before (flat_map refused_in program.procs) (block_refusals (proc_blocks (shapes program.procs)) program.main.body) (none-refused theory program none).blocks
+
+    main-blocks : block_refusals (proc_blocks (shapes program.procs)) program.main.body ≡ []
+    main-blocks = none-behind (flat_map refused_in program.procs) (block_refusals (proc_blocks (shapes program.procs)) program.main.body) (none-refused theory program none).blocks
+
+    -- a procedure is kept, and so are its blocks
+    abbrev is_kept : DraftProc → Bool
+    is_kept item = draft_proc_keeps theory program.procs item && blocks_keep (block_at (proc_blocks (agent_of theory program))) item.body false
+
+    all-kept : (items : List DraftProc) → list_all (draft_proc_keeps theory program.procs) items ≡ true → flat_map refused_in items ≡ []
+        → list_all is_kept items ≡ true
+    all-kept [] h k = refl
+    all-kept (item ∷ items) h k =
+        let t = and_cases (draft_proc_keeps theory program.procs item) (list_all (draft_proc_keeps theory program.procs) items) h in
+        and_both (is_kept item) (list_all is_kept items)
+        (and_both (draft_proc_keeps theory program.procs item) (blocks_keep (block_at (proc_blocks agent)) item.body false) t.0
+        (keeps-blocks item.body (none-before (refused_in item) (flat_map refused_in items) k)))
+        (all-kept items t.1 (none-behind (refused_in item) (flat_map refused_in items) k))
+
+    params-long : (item : DraftProc) → length (param_sorts item) ≡ length item.params
+    params-long item = length-map item.params (λ (param : DraftParam). param.sort)
+
+    words-long : (item : DraftProc) → length (param_words item) ≡ length item.params
+    words-long item = length-map item.params (λ (param : DraftParam). param.var)
+
+    proc-fit : (item : DraftProc) → is_kept item ≡ true → (made : ProcItem) → (proc_in names item).outcome ≡ Ok made → proc_fits agent made ≡ true
+    proc-fit item h made e =
+        let sorts = param_sorts item in
+        let p = proc-is names item made e in
+        let t = and_cases (draft_proc_keeps theory program.procs item) (blocks_keep (block_at (proc_blocks agent)) item.body false) h in
+        let u = and_cases (draft_args_keep theory sorts) (prog_keeps theory program.procs item.body (length item.params)) t.0 in
+        let v = and_cases (nat_le (length sorts) 3) (list_all (is_draft_sort theory) sorts) u.0 in
+        let are = args-in theory program keeps also sorts u.0 in
+        let scope = scope-bound agent (bound_from 0 sorts) 0 sorts (param_words item) [] refl (words-long item ∙ sym (params-long item)) (bound-at 0 sorts) are tt in
+        let long : length (params_of item) ≡ length item.params = scope.long ∙ (let w = words-long item in omega (arith, w)) in
+        let short = le-three (length sorts) v.0 in
+        let few : length (params_of item) ≤ 32 = let w = params-long item in omega (arith, long, short, w) in
+        let fit = progs-fit agent theory program.procs has-programs item.body false (bound_from 0 sorts) (params_of item) scope.binds few
+        (ap (λ n. prog_keeps theory program.procs item.body n) long ∙ u.1) t.1 p.body p.read in
+        ap (proc_fits agent) (sym p.is)
+        ∙ and_both _ _ (and_both _ _ (and_both _ _ are v.0) fit.fits)
+        (ap (λ n. is_written_prog agent p.body n) (params-long item ∙ sym long) ∙ fit.written)
 
     pub programs : ProgramsFit (agent_of theory program)
     programs =
@@ -195,13 +261,14 @@ module _ (theory : DraftTheory) (program : DraftProgram) (keeps : TheoryKeeps th
         let m = main-read p main-one.1 in
         let is : agent.main ≡ p = ap (λ o. main_of o) main-one.1 in
         let fit = progs-fit agent theory program.procs has-programs program.main.body false nothing_bound [] tt (omega arith)
-        kept.main (plain-free (block_at (proc_blocks agent)) program.main.body false plain.main) p m.read in
+        also.main (keeps-blocks program.main.body main-blocks) p m.read in
         let same = nests-same names program.main.body [] p m.read in
+        let fronts = (none-refused theory program none).fronts in
         record {
-          procs = refl;
+          procs = given-all (proc_in names) (proc_fits agent) is_kept proc-fit program.procs (all-kept program.procs also.procs procs-blocks);
           main = ap (λ q. prog_fits agent q outermost) is ∙ fit.fits;
           main_written = ap (λ q. is_written_prog agent q 0) is ∙ fit.written;
-          guarded = guarded;
-          front_nests = no-nests;
+          guarded = guarded program.procs fronts agent alike;
+          front_nests = nests program.procs fronts agent alike;
           main_nest = subst (λ (q : Prog). nest q ≤ 3072) (sym is) (subst (λ n. n ≤ 3072) (sym same) (le-of (draft_nest program.main.body) m.deep));
         }

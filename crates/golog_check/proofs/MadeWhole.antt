@@ -30,11 +30,11 @@ use Rattle.golog_check.specs.Conditions.{cond_in}
 use Rattle.golog_check.specs.Heads.{head_from}
 use Rattle.golog_check.specs.Effects.{head_within, cause_in}
 use Rattle.golog_check.specs.declared.fault.CheckFault.{CheckFault}
-use Rattle.golog_check.specs.Check.{IsPlain, names_of, all_refusals, agent_of, Checks}
+use Rattle.golog_check.specs.Check.{names_of, all_refusals, agent_of, Checks}
 use Rattle.golog_check.proofs.Readings.{both, ok-same}
 use Rattle.golog_check.proofs.TermLaws.{terms-fit}
 use Rattle.golog_check.proofs.CondLaws.{conds-fit}
-use Rattle.golog_check.proofs.PartLaws.{sums-fit}
+use Rattle.golog_check.proofs.PartLaws.{none-refused}
 use Rattle.golog_check.proofs.Given.{given-all}
 use Rattle.golog_check.proofs.Vars.{words_of, words-long, head-vars, vars-append}
 use Rattle.golog_check.proofs.MadeCauses.{found_of, found-long, head-fits, scope-binds}
@@ -43,7 +43,7 @@ use Rattle.golog_check.proofs.MadeItems as items
 use Rattle.golog_check.proofs.MadeActions as acts
 use Rattle.golog_check.proofs.MadePrograms as progs
 
-module _ (theory : DraftTheory) (program : DraftProgram) (keeps : TheoryKeeps theory) (plain : IsPlain program) where
+module _ (theory : DraftTheory) (program : DraftProgram) (keeps : TheoryKeeps theory) (also : ProgramKeeps theory program) where
   abbrev agent : Agent
   agent = agent_of theory program
 
@@ -93,22 +93,22 @@ module _ (theory : DraftTheory) (program : DraftProgram) (keeps : TheoryKeeps th
       → cond_keeps (signature theory) item.cond (length (cause_vars theory item)) ≡ true
       → IsCause item y → cause_fits agent y ≡ true
   cause-at item action fluent y e f l m akept fkept tkept ckept s =
-      let has = acts.has-items theory program keeps plain in
-      let get = acts.action-get theory program keeps plain item.action action e in
-      let got = acts.fluent-get theory program keeps plain item.fluent fluent f in
+      let has = acts.has-items theory program keeps also in
+      let get = acts.action-get theory program keeps also item.action action e in
+      let got = acts.fluent-get theory program keeps also item.fluent fluent f in
       let asorts : action_sorts names item.action ≡ action.args = ap (λ (o : Option ActionItem). option_map_or (λ (i : ActionItem). i.args) o []) get in
       let fsorts : fluent_sorts names item.fluent ≡ fluent.args = ap (λ (o : Option FluentItem). option_map_or (λ (i : FluentItem). i.args) o []) got in
       let own : unwrap_or (fluent_sort names item.fluent) 0 ≡ fluent.sort = ap (λ (o : Option FluentItem). unwrap_or (option_map (λ (i : FluentItem). i.sort) o) 0) got in
-      let few-a = acts.args-few theory program keeps plain action.args akept in
-      let few-f = acts.args-few theory program keeps plain fluent.args fkept in
+      let few-a = acts.args-few theory program keeps also action.args akept in
+      let few-f = acts.args-few theory program keeps also fluent.args fkept in
       let read-a : (head_from names (head_within []) action.args item.action_args).outcome ≡ Ok s.action =
       subst (λ ss. (head_from names (head_within []) ss item.action_args).outcome ≡ Ok s.action) asorts s.action_read in
       let read-f : (head_from names (head_within s.action.scope) fluent.args item.fluent_args).outcome ≡ Ok s.fluent =
       subst (λ ss. (head_from names (head_within s.action.scope) ss item.fluent_args).outcome ≡ Ok s.fluent) fsorts s.fluent_read in
       let one = head-fits agent names has action.args item.action_args (head_within []) s.action (sym l)
-      (items.args-in theory program keeps plain action.args akept) refl (omega (arith, few-a)) read-a in
+      (items.args-in theory program keeps also action.args akept) refl (omega (arith, few-a)) read-a in
       let two = head-fits agent names has fluent.args item.fluent_args (head_within s.action.scope) s.fluent (sym m)
-      (items.args-in theory program keeps plain fluent.args fkept) one.sorted (omega (arith, one.long, few-a, few-f)) read-f in
+      (items.args-in theory program keeps also fluent.args fkept) one.sorted (omega (arith, one.long, few-a, few-f)) read-f in
       let vars = found_of s.fluent.scope in
       let few : length s.fluent.scope ≤ 32 = omega (arith, one.long, two.long, few-a, few-f) in
       let words : words_of s.fluent.scope ≡ cause_vars theory item =
@@ -118,10 +118,10 @@ module _ (theory : DraftTheory) (program : DraftProgram) (keeps : TheoryKeeps th
       let long : length s.fluent.scope ≡ length (cause_vars theory item) = sym (words-long s.fluent.scope) ∙ ap length words in
       let binds = scope-binds agent names has s.fluent.scope two.sorted in
       let term = terms-fit agent names has (bound_from 0 vars) s.fluent.scope binds few item.term
-      (ap (λ g. term_keeps g item.term) (acts.same-signature theory program keeps plain) ∙ tkept) fluent.sort s.term
+      (ap (λ g. term_keeps g item.term) (acts.same-signature theory program keeps also) ∙ tkept) fluent.sort s.term
       (subst (λ n. (term_in names s.fluent.scope n item.term).outcome ≡ Ok s.term) own s.term_read) in
       let cond = conds-fit agent names has item.cond (bound_from 0 vars) s.fluent.scope binds few
-      (ap (λ g. cond_keeps g item.cond (length s.fluent.scope)) (acts.same-signature theory program keeps plain)
+      (ap (λ g. cond_keeps g item.cond (length s.fluent.scope)) (acts.same-signature theory program keeps also)
       ∙ ap (λ n. cond_keeps (signature theory) item.cond n) long ∙ ckept) s.cond s.cond_read in
       let made : CauseItem = record { action = item.action; action_args = s.action.args; fluent = item.fluent; fluent_args = s.fluent.args; term = s.term; cond = s.cond } in
       let heads : head_sorts agent (action.args ++ fluent.args) (s.action.args ++ s.fluent.args) [] ≡ Some vars =
@@ -158,10 +158,10 @@ module _ (theory : DraftTheory) (program : DraftProgram) (keeps : TheoryKeeps th
   cause-by item y None e h k tk ck s = absurd (cc)
   cause-by item y (Some action) e h k tk ck s =
       let t = and_cases (length action.args == length item.action_args) true h in
-      let f = acts.fluent-some theory program keeps plain item.fluent (length item.fluent_args) (slice_get theory.fluents item.fluent) refl k in
+      let f = acts.fluent-some theory program keeps also item.fluent (length item.fluent_args) (slice_get theory.fluents item.fluent) refl k in
       cause-at item action f.0 y e f.1 (eqb-true (length action.args) (length item.action_args) t.0)
-      (acts.fluent-long theory program keeps plain item.fluent f.0 (length item.fluent_args) f.1 k)
-      (acts.action-kept theory program keeps plain theory.actions keeps.actions item.action action e)
+      (acts.fluent-long theory program keeps also item.fluent f.0 (length item.fluent_args) f.1 k)
+      (acts.action-kept theory program keeps also theory.actions keeps.actions item.action action e)
       (fluent-kept theory.fluents keeps.fluents item.fluent f.0 f.1) tk ck s
 
   causes : list_all (cause_fits agent) (agent_of theory program).causes ≡ true
@@ -172,30 +172,29 @@ module _ (theory : DraftTheory) (program : DraftProgram) (keeps : TheoryKeeps th
       cause-by item y (slice_get theory.actions item.action) refl v.0 v.1 u.1 t.1 (cause-is item y e))
       theory.causes keeps.causes
 
-  pub whole : ProgramKeeps theory program → all_refusals theory program ≡ [] → WellFormed (agent_of theory program)
-  whole kept none =
-      let fit = sums-fit names theory program.main none in
+  pub whole : all_refusals theory program ≡ [] → WellFormed (agent_of theory program)
+  whole none =
+      let fit = none-refused theory program none in
       record {
         built_in = built-in theory program keeps;
-        names = items.names theory program keeps plain;
-        small = items.small theory program keeps plain;
-        sorts = items.sorts theory program keeps plain;
-        countable = items.numbered theory program keeps plain fit.fluents fit.actions;
-        fluents = items.fluents theory program keeps plain;
-        actions = items.actions theory program keeps plain;
+        names = items.names theory program keeps also fit.procs;
+        small = items.small theory program keeps also;
+        sorts = items.sorts theory program keeps also;
+        countable = items.numbered theory program keeps also fit.fluents fit.actions;
+        fluents = items.fluents theory program keeps also;
+        actions = items.actions theory program keeps also;
         actions_fit = record {
-          poss = acts.poss theory program keeps plain;
-          poss_once = acts.poss-once theory program keeps plain;
+          poss = acts.poss theory program keeps also;
+          poss_once = acts.poss-once theory program keeps also;
           causes = causes;
-          senses = acts.senses theory program keeps plain;
-          senses_once = acts.senses-distinct theory program keeps plain;
+          senses = acts.senses theory program keeps also;
+          senses_once = acts.senses-distinct theory program keeps also;
         };
-        starts = progs.starts theory program keeps plain;
-        programs = progs.programs theory program keeps plain kept none;
+        starts = progs.starts theory program keeps also;
+        programs = progs.programs theory program keeps also none;
       }
 
   -- an agent that a check answers is well formed
-  pub well-formed : ProgramKeeps theory program → (result : Result Agent CheckFault) → Checks result theory program
-      → IfOk result WellFormed
-  well-formed kept (Ok made) h = subst WellFormed (sym h.1) (whole kept h.0)
-  well-formed kept (Err fault) h = tt
+  pub well-formed : (result : Result Agent CheckFault) → Checks result theory program → IfOk result WellFormed
+  well-formed (Ok made) h = subst WellFormed (sym h.1) (whole h.0)
+  well-formed (Err fault) h = tt

@@ -1,7 +1,6 @@
--- How deep the program of a draft nests, and that a plain one has no blocks to keep.
-use Rattle.std.proofs.Common.{◌≡◌, ℕ, ◌+◌, Bool, true, List, [], ◌∷◌, ◌++◌, map, Ok, refl, sym, ap, subst, ◌∙◌, append_assoc}
+-- How deep the program of a draft nests.
+use Rattle.std.proofs.Common.{◌≡◌, ℕ, ◌+◌, List, [], ◌∷◌, ◌++◌, map, Ok, refl, sym, ap, subst, ◌∙◌, append_assoc}
 use Rattle.std.specs.Prelude.{max}
-use Rattle.std.specs.List.{list_all}
 use Rattle.std.proofs.lemmas.List.{append-nil, map-append}
 use Rattle.golog_tree.specs.declared.draft_prog.DraftProg.{DraftProg}
 use Rattle.golog_tree.specs.declared.draft_prog.DraftProg.TheOpen as draft
@@ -13,7 +12,6 @@ use Rattle.golog_tree.specs.declared.prog.Prog.TheVariants as prog
 use Rattle.golog_tree.specs.Ground.{to_count}
 use Rattle.golog_tree.specs.Nest.{nest}
 use Rattle.golog_semantics.specs.Reading.{Reading, gives, ◌>>=◌, each}
-use Rattle.golog_semantics.proofs.Tests.{and_both, and_cases}
 use Rattle.golog_semantics.proofs.Computed.{nest-Nil, nest-Act, nest-Test, nest-Seq, nest-Choice, nest-Pick, nest-Star, nest-If, nest-While, nest-Conc, nest-Prio, nest-Cstar, nest-Call, nest-Search}
 use Rattle.golog_check.specs.declared.programs.Join.{Join}
 use Rattle.golog_check.specs.declared.programs.Join.TheVariants.{Seq as InSeq, Choice as InChoice, Conc as InConc, Prio as InPrio}
@@ -23,9 +21,7 @@ use Rattle.golog_check.specs.Scope.{Scope, variable_no, within}
 use Rattle.golog_check.specs.Terms.{args_in}
 use Rattle.golog_check.specs.Conditions.{cond_in}
 use Rattle.golog_check.specs.Programs.{InScope, joined, nested, progs_in, parts_in, prog_step, prog_in}
-use Rattle.golog_check.specs.ProgramLaws.{blocks_step, blocks_keep}
 use Rattle.golog_check.specs.DraftNest.{parts_nest, draft_nest_step, draft_nest}
-use Rattle.golog_check.specs.Check.{plain_step, is_plain}
 use Rattle.golog_check.proofs.Readings.{both, ok-same}
 
 joined-nest : (join : Join) (p q : Prog) → nest (joined join p q) ≡ 1 + max (nest p) (nest q)
@@ -123,48 +119,3 @@ module _ (names : Declared) where
   -- a program nests as its draft does
   pub nests-same : (d : DraftProg) (scope : Scope) (p : Prog) → (prog_in names d scope).outcome ≡ Ok p → nest p ≡ draft_nest d
   nests-same = ind-DraftProg Kept (λ x y is. subst (λ l. Kept (roll-DraftProg l)) is (kept-layer y))
-
-module _ (has_block : ℕ → Bool) where
-  abbrev Free : DraftProg → Type 0
-  Free d = (inside : Bool) → is_plain d ≡ true → blocks_keep has_block d inside ≡ true
-
-  abbrev FreeDraft : Type 0
-  FreeDraft = (d : DraftProg) × Free d
-
-  abbrev frees_of : DraftProg-F FreeDraft → DraftProg-F DraftProg
-  frees_of y = map-DraftProg FreeDraft DraftProg (λ d. d.0) y
-
-  all-free : (inside : Bool) (ds : List FreeDraft) → list_all (λ b. b) (map is_plain (map (λ d. d.0) ds)) ≡ true
-      → list_all (λ p. p inside) (map (blocks_keep has_block) (map (λ d. d.0) ds)) ≡ true
-  all-free inside [] h = refl
-  all-free inside (d ∷ ds) h =
-      let t = and_cases (is_plain d.0) (list_all (λ b. b) (map is_plain (map (λ d. d.0) ds))) h in
-      and_both (blocks_keep has_block d.0 inside) _ (d.1 inside t.0) (all-free inside ds t.1)
-
-  free-step : (inside : Bool) (y : DraftProg-F FreeDraft) → plain_step (map-DraftProg DraftProg Bool is_plain (frees_of y)) ≡ true
-      → blocks_step has_block (map-DraftProg DraftProg (Bool → Bool) (blocks_keep has_block) (frees_of y)) inside ≡ true
-  free-step inside (draft.Nil at) h = refl
-  free-step inside (draft.Act action args at) h = refl
-  free-step inside (draft.Test c at) h = refl
-  free-step inside (draft.Seq ds at) h = all-free inside ds h
-  free-step inside (draft.Choice ds at) h = all-free inside ds h
-  free-step inside (draft.Pick word sort d at) h = d.1 inside h
-  free-step inside (draft.Star d at) h = d.1 inside h
-  free-step inside (draft.If c d e at) h =
-      let t = and_cases (is_plain d.0) (is_plain e.0) h in
-      and_both (blocks_keep has_block d.0 inside) (blocks_keep has_block e.0 inside) (d.1 inside t.0) (e.1 inside t.1)
-  free-step inside (draft.While c d at) h = d.1 inside h
-  free-step inside (draft.Conc ds at) h = all-free inside ds h
-  free-step inside (draft.Prio ds at) h = all-free inside ds h
-  free-step inside (draft.Cstar d at) h = d.1 inside h
-  free-step inside (draft.Call item args at) h = absurd (cc)
-  free-step inside (draft.Search depth fuel d at) h = absurd (cc)
-
-  free-layer : (y : DraftProg-F FreeDraft) → Free (roll-DraftProg (frees_of y))
-  free-layer y inside h =
-      ap (λ g. g inside) (fold-roll-DraftProg (Bool → Bool) (blocks_step has_block) (frees_of y))
-      ∙ free-step inside y (sym (fold-roll-DraftProg Bool plain_step (frees_of y)) ∙ h)
-
-  -- a plain program has no block
-  pub plain-free : (d : DraftProg) (inside : Bool) → is_plain d ≡ true → blocks_keep has_block d inside ≡ true
-  plain-free = ind-DraftProg Free (λ x y is. subst (λ l. Free (roll-DraftProg l)) is (free-layer y))

@@ -11,7 +11,6 @@ use Rattle.golog_tree.specs.declared.agent.CauseItem.{CauseItem}
 use Rattle.golog_tree.specs.declared.agent.SenseItem.{SenseItem}
 use Rattle.golog_tree.specs.declared.draft.DraftTheory.{DraftTheory}
 use Rattle.golog_tree.specs.declared.draft.DraftProgram.{DraftProgram}
-use Rattle.golog_tree.specs.declared.draft.DraftMain.{DraftMain}
 use Rattle.golog_tree.specs.Ground.{ground_fluents}
 use Rattle.golog_check.specs.declared.least.Refusal.{Refusal}
 use Rattle.golog_check.specs.declared.starts.Start.{Start}
@@ -20,6 +19,10 @@ use Rattle.golog_check.specs.DeclaredItems.{Declared, sort_item, sort_place, flu
 use Rattle.golog_check.specs.Sums.{fluent_sum, action_sum}
 use Rattle.golog_check.specs.Starts.{start_in, start_value}
 use Rattle.golog_check.specs.Effects.{poss_in, cause_in, senses_in}
+use Rattle.golog_tree.specs.declared.agent.ProcItem.{ProcItem}
+use Rattle.golog_check.specs.Procs.{proc_in}
+use Rattle.golog_check.specs.Unguarded.{all_front_refusals}
+use Rattle.golog_check.specs.DraftBlocks.{all_block_refusals}
 use Rattle.golog_check.specs.Check.{bare, main_in, main_of, names_of, refusals_in, agent_of}
 use Rattle.golog_check.specs.Parts.{AreParts}
 use Rattle.golog_check.specs.Least.{CodeAt, IsLeast, IsLeastOf, refusal_of, refusals, given}
@@ -32,24 +35,16 @@ sum-least None reading h = ap (λ o. refusal_of o ++ []) h
 sum-least (Some r) reading h =
     subst (λ (rs : List CodeAt). IsLeast r.code r.at rs) (sym (ap (λ o. refusal_of o ++ []) h)) (alone r.code r.at)
 
--- what a plain program's theory declares
+-- what a theory and its procedures declare
 pub names-are : (theory : DraftTheory) (program : DraftProgram) (sorts : List SortItem) (places : List ℕ)
-    (fluents : List FluentItem) (actions : List ActionItem) → sorts ≡ map sort_item theory.sorts
+    (fluents : List FluentItem) (actions : List ActionItem) (params : List (List ℕ)) → sorts ≡ map sort_item theory.sorts
     → places ≡ map sort_place theory.sorts → fluents ≡ map fluent_item theory.fluents
-    → actions ≡ map action_item theory.actions → program.procs ≡ []
-    → ◌≡◌ {A = Declared} (record { sorts = sorts; places = places; fluents = fluents; actions = actions; params = [] })
+    → actions ≡ map action_item theory.actions → params ≡ map param_sorts program.procs
+    → ◌≡◌ {A = Declared} (record { sorts = sorts; places = places; fluents = fluents; actions = actions; params = params })
     (names_of theory program)
-names-are theory program sorts places fluents actions s p f a none =
-    let made : List SortItem → List ℕ → List FluentItem → List ActionItem → List (List ℕ) → Declared =
-    λ s p f a n. record { sorts = s; places = p; fluents = f; actions = a; params = n } in
-    ap (λ s. made s places fluents actions []) s
-    ∙ ap (λ p. made (map sort_item theory.sorts) p fluents actions []) p
-    ∙ ap (λ f. made (map sort_item theory.sorts) (map sort_place theory.sorts) f actions []) f
-    ∙ ap (λ a. made (map sort_item theory.sorts) (map sort_place theory.sorts) (map fluent_item theory.fluents) a []) a
-    ∙ ap (λ n. made (map sort_item theory.sorts) (map sort_place theory.sorts) (map fluent_item theory.fluents)
-    (map action_item theory.actions) n) (sym (ap (map param_sorts) none))
+names-are theory program sorts places fluents actions params s p f a n = cc
 
-none-before : {A : Type 0} (xs ys : List A) → xs ++ ys ≡ [] → xs ≡ []
+pub none-before : {A : Type 0} (xs ys : List A) → xs ++ ys ≡ [] → xs ≡ []
 none-before [] ys h = refl
 none-before (x ∷ xs) ys h = absurd (cc)
 
@@ -61,14 +56,27 @@ sum-ok : (o : Result (Unit {0}) CodeAt) → refusal_of o ++ [] ≡ [] → o ≡ 
 sum-ok (Ok x) h = refl
 sum-ok (Err refusal) h = absurd (cc)
 
-pub record SumsFit (theory : DraftTheory) : Type 0 where
+-- the parts of a draft of which nothing is refused
+pub record NoneRefused (theory : DraftTheory) (program : DraftProgram) : Type 0 where
   pub fluents : (fluent_sum theory).outcome ≡ Ok tt
   pub actions : (action_sum theory).outcome ≡ Ok tt
+  pub procs : refusals (map (proc_in (names_of theory program)) program.procs) ≡ []
+  pub fronts : all_front_refusals program.procs ≡ []
+  pub blocks : all_block_refusals program.procs program.main.body ≡ []
+  pub main : refusals (main_in (names_of theory program) program.main ∷ []) ≡ []
 
--- where nothing is refused the sums are in their limits
-pub sums-fit : (names : Declared) (theory : DraftTheory) (main : DraftMain) → refusals_in names theory main ≡ [] → SumsFit theory
-sums-fit names theory main h =
-    let senses = none-before _ (refusals (main_in names main ∷ [])) h in
+pub none-refused : (theory : DraftTheory) (program : DraftProgram) → refusals_in (names_of theory program) theory program ≡ []
+    → NoneRefused theory program
+none-refused theory program h =
+    let names = names_of theory program in
+    let main = refusals (main_in names program.main ∷ []) in
+    let blocks = all_block_refusals program.procs program.main.body in
+    let fronts = all_front_refusals program.procs in
+    let procs = refusals (map (proc_in names) program.procs) in
+    let before_main = none-before _ main h in
+    let before_blocks = none-before _ blocks before_main in
+    let before_fronts = none-before _ fronts before_blocks in
+    let senses = none-before _ procs before_fronts in
     let causes = none-before _ (refusals (senses_in names [] theory.senses)) senses in
     let poss = none-before _ (refusals (map (cause_in names) theory.causes)) causes in
     let starts = none-before _ (refusals (map (poss_in names) theory.poss)) poss in
@@ -77,28 +85,35 @@ sums-fit names theory main h =
     record {
       fluents = sum-ok (fluent_sum theory).outcome (none-before (refusals (fluent_sum theory ∷ [])) (refusals (action_sum theory ∷ [])) sums);
       actions = sum-ok (action_sum theory).outcome (none-behind (refusals (fluent_sum theory ∷ [])) (refusals (action_sum theory ∷ [])) sums);
+      procs = none-behind _ procs before_fronts;
+      fronts = none-behind _ fronts before_blocks;
+      blocks = none-behind _ blocks before_main;
+      main = none-behind _ main h;
     }
 
 -- the agent of the parts
 pub agent-is : (theory : DraftTheory) (program : DraftProgram) (agent : Agent) (parts : Parts) → agent ≡ bare theory
-    → AreParts parts (names_of theory program) theory program.main
+    → AreParts parts (names_of theory program) theory program
     → ◌≡◌ {A = Agent} (record agent {
       poss = parts.poss.items;
       causes = parts.causes.items;
       senses = parts.senses.items;
       starts = map (start_value parts.starts.items) (ground_fluents agent);
+      procs = parts.procs.items;
       main = main_of (main_in (names_of theory program) program.main).outcome;
     }) (agent_of theory program)
 agent-is theory program agent parts is are =
     let names = names_of theory program in
     let main = main_of (main_in names program.main).outcome in
-    let made : Agent → List PossItem → List CauseItem → List SenseItem → List Start → Agent =
-    λ a p c s st. record a { poss = p; causes = c; senses = s; starts = map (start_value st) (ground_fluents a); main = main } in
+    let made : Agent → List PossItem → List CauseItem → List SenseItem → List Start → List ProcItem → Agent =
+    λ a p c s st ps. record a { poss = p; causes = c; senses = s; starts = map (start_value st) (ground_fluents a); procs = ps; main = main } in
     let poss = given (map (poss_in names) theory.poss) in
     let causes = given (map (cause_in names) theory.causes) in
     let senses = given (senses_in names [] theory.senses) in
-    ap (λ a. made a parts.poss.items parts.causes.items parts.senses.items parts.starts.items) is
-    ∙ ap (λ p. made (bare theory) p parts.causes.items parts.senses.items parts.starts.items) are.poss.items
-    ∙ ap (λ c. made (bare theory) poss c parts.senses.items parts.starts.items) are.causes.items
-    ∙ ap (λ s. made (bare theory) poss causes s parts.starts.items) are.senses.items
-    ∙ ap (λ st. made (bare theory) poss causes senses st) are.starts.items
+    let starts = given (map (start_in names) theory.starts) in
+    ap (λ a. made a parts.poss.items parts.causes.items parts.senses.items parts.starts.items parts.procs.items) is
+    ∙ ap (λ p. made (bare theory) p parts.causes.items parts.senses.items parts.starts.items parts.procs.items) are.poss.items
+    ∙ ap (λ c. made (bare theory) poss c parts.senses.items parts.starts.items parts.procs.items) are.causes.items
+    ∙ ap (λ s. made (bare theory) poss causes s parts.starts.items parts.procs.items) are.senses.items
+    ∙ ap (λ st. made (bare theory) poss causes senses st parts.procs.items) are.starts.items
+    ∙ ap (λ ps. made (bare theory) poss causes senses starts ps) are.procs.items

@@ -1,6 +1,5 @@
 -- The agent that a draft makes, and the refusals of a draft.
-use Rattle.std.specs.Prelude.{◌≡◌, not, nat_le, Bool, true, false, ◌&&◌, IsTrue, Result, Ok, Err, List, [], ◌∷◌, ◌++◌, map}
-use Rattle.std.specs.List.{list_all}
+use Rattle.std.specs.Prelude.{◌≡◌, not, nat_le, Result, Ok, Err, List, [], ◌∷◌, ◌++◌, map}
 use Rattle.golog_tree.specs.declared.agent.Agent.{Agent}
 use Rattle.golog_tree.specs.declared.prog.Prog.{Prog}
 use Rattle.golog_tree.specs.declared.prog.Prog.TheVariants as prog
@@ -8,9 +7,6 @@ use Rattle.golog_tree.specs.declared.draft.DraftTheory.{DraftTheory}
 use Rattle.golog_tree.specs.declared.draft.DraftProgram.{DraftProgram}
 use Rattle.golog_tree.specs.declared.draft.DraftDevice.{DraftDevice}
 use Rattle.golog_tree.specs.declared.draft.DraftMain.{DraftMain}
-use Rattle.golog_tree.specs.declared.draft_prog.DraftProg.{DraftProg}
-use Rattle.golog_tree.specs.declared.draft_prog.DraftProg.TheOpen.{DraftProg-F, Nil, Act, Test, Seq, Choice, Pick, Star, If, While, Conc, Prio, Cstar, Call, Search}
-use Rattle.golog_tree.specs.declared.draft_prog.DraftProg.TheFolds.{fold-DraftProg}
 use Rattle.golog_tree.specs.Ground.{ground_fluents}
 use Rattle.golog_semantics.specs.Reading.{Reading, row}
 use Rattle.golog_check.specs.declared.fault.CheckFault.{CheckFault}
@@ -25,31 +21,9 @@ use Rattle.golog_check.specs.Starts.{start_in, start_value}
 use Rattle.golog_check.specs.Effects.{poss_in, cause_in, senses_in}
 use Rattle.golog_check.specs.DraftNest.{draft_nest}
 use Rattle.golog_check.specs.Programs.{prog_in}
-
--- a program without calls and without search blocks, given its parts
-abbrev pub plain_step : DraftProg-F Bool → Bool
-plain_step (Nil at) = true
-plain_step (Act action args at) = true
-plain_step (Test c at) = true
-plain_step (Seq ps at) = list_all (λ p. p) ps
-plain_step (Choice ps at) = list_all (λ p. p) ps
-plain_step (Pick var sort p at) = p
-plain_step (Star p at) = p
-plain_step (If c p q at) = p && q
-plain_step (While c p at) = p
-plain_step (Conc ps at) = list_all (λ p. p) ps
-plain_step (Prio ps at) = list_all (λ p. p) ps
-plain_step (Cstar p at) = p
-plain_step (Call item args at) = false
-plain_step (Search depth fuel p at) = false
-
-abbrev pub is_plain : DraftProg → Bool
-is_plain = fold-DraftProg Bool plain_step
-
--- no procedure, no call and no search block
-pub record IsPlain (program : DraftProgram) : Type 0 where
-  pub procs : program.procs ≡ []
-  pub main : IsTrue (is_plain program.main.body)
+use Rattle.golog_check.specs.Procs.{proc_in}
+use Rattle.golog_check.specs.Unguarded.{all_front_refusals}
+use Rattle.golog_check.specs.DraftBlocks.{all_block_refusals}
 
 -- The program of `main`, with no variable in scope. It is refused where it nests too deep.
 unfoldable pub main_in : Declared → DraftMain → Reading Prog
@@ -76,16 +50,20 @@ module _ (theory : DraftTheory) where
   abbrev pub starts_of : Declared → List Start
   starts_of names = given (map (start_in names) theory.starts)
 
--- The refusals of a theory and a program: of each item the first row that fits, if one does.
-abbrev pub refusals_in : Declared → DraftTheory → DraftMain → List CodeAt
-refusals_in names theory main =
+-- The refusals of a theory and a program: of each item the first row that fits, if one does, and beside these
+-- each of what procedures call without a step and of search blocks.
+abbrev pub refusals_in : Declared → DraftTheory → DraftProgram → List CodeAt
+refusals_in names theory program =
     refusals (fluent_sum theory ∷ [])
     ++ refusals (action_sum theory ∷ [])
     ++ refusals (map (start_in names) theory.starts)
     ++ refusals (map (poss_in names) theory.poss)
     ++ refusals (map (cause_in names) theory.causes)
     ++ refusals (senses_in names [] theory.senses)
-    ++ refusals (main_in names main ∷ [])
+    ++ refusals (map (proc_in names) program.procs)
+    ++ all_front_refusals program.procs
+    ++ all_block_refusals program.procs program.main.body
+    ++ refusals (main_in names program.main ∷ [])
 
 abbrev pub main_of : Result Prog CodeAt → Prog
 main_of (Ok p) = p
@@ -96,7 +74,7 @@ module _ (theory : DraftTheory) (program : DraftProgram) where
   names_of = declared_by theory program.procs
 
   abbrev pub all_refusals : List CodeAt
-  all_refusals = refusals_in names_of theory program.main
+  all_refusals = refusals_in names_of theory program
 
   -- The agent: the draft without places, its words resolved, with a start value for each ground fluent.
   abbrev pub agent_of : Agent
@@ -105,6 +83,7 @@ module _ (theory : DraftTheory) (program : DraftProgram) where
     causes = given (map (cause_in names_of) theory.causes);
     senses = given (senses_in names_of [] theory.senses);
     starts = map (start_value (starts_of theory names_of)) (ground_fluents (bare theory));
+    procs = given (map (proc_in names_of) program.procs);
     main = main_of (main_in names_of program.main).outcome;
   }
 

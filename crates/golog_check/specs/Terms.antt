@@ -9,6 +9,7 @@ use Rattle.golog_tree.specs.declared.draft_cond.DraftArg.TheVariants.{Word, Numb
 use Rattle.golog_tree.specs.declared.draft_cond.DraftTerm.{DraftTerm}
 use Rattle.golog_tree.specs.declared.draft_cond.DraftTerm.TheOpen.{DraftTerm-F, Arg as ArgTerm, Fluent, Shift}
 use Rattle.golog_tree.specs.declared.draft_cond.DraftTerm.TheFolds.{fold-DraftTerm}
+use Rattle.golog_semantics.specs.DraftPlaces.{arg_place}
 use Rattle.golog_semantics.specs.Reading.{Reading, gives, row, ◌>>=◌, found, each}
 use Rattle.golog_check.specs.declared.scope.Meant.{Meant}
 use Rattle.golog_check.specs.declared.terms.Sides.{Sides}
@@ -16,10 +17,6 @@ use Rattle.golog_check.specs.declared.fault.TheConstants.{SORT_CLASH, UNBOUND}
 use Rattle.golog_check.specs.DeclaredItems.{Declared}
 use Rattle.golog_check.specs.Sorts.{number_in, is_range, fluent_sort, fluent_sorts}
 use Rattle.golog_check.specs.Scope.{Scope, meaning}
-
-abbrev pub arg_place : DraftArg → ℕ
-arg_place (Word word at) = at
-arg_place (Number number at) = at
 
 -- a sort is shown, and it is another
 abbrev pub is_other : Option ℕ → ℕ → Bool

@@ -1,12 +1,13 @@
 ghost use Rattle.std.specs.Prelude.{◌≡◌, option_map};
 ghost use Rattle.golog_tree.specs.declared.cond.Arg.TheVariants.{Const};
+ghost use Rattle.golog_semantics.specs.DraftPlaces.{arg_place};
 ghost use Rattle.golog_semantics.specs.Reading.{found};
 ghost use Rattle.golog_check.specs.declared.scope.Meant.{Meant};
 ghost use Rattle.golog_check.specs.declared.fault.TheConstants.{SORT_CLASH, UNBOUND};
 ghost use Rattle.golog_check.specs.Sorts.{number_in};
 ghost use Rattle.golog_check.specs.Scope.{meaning};
 ghost use Rattle.golog_check.specs.Faults.{Answers};
-ghost use Rattle.golog_check.specs.Terms.{arg_place, is_other, arg_sort, arg_as, arg_in, next_arg, args_in};
+ghost use Rattle.golog_check.specs.Terms.{is_other, arg_sort, arg_as, arg_in, next_arg, args_in};
 
 use crate::fault::{CheckFault, SORT_CLASH, UNBOUND, refuse_where};
 use crate::names::Names;

@@ -1,10 +1,11 @@
 ghost use Rattle.std.specs.Prelude.{◌≡◌, ◌<◌, [], ◌∷◌, List, length, map, All, IfOk};
 ghost use Rattle.golog_tree.specs.declared.draft.DraftSense.{DraftSense};
 ghost use Rattle.golog_tree.specs.declared.draft.DraftTheory.{DraftTheory};
-ghost use Rattle.golog_tree.specs.declared.draft.DraftMain.{DraftMain};
+ghost use Rattle.golog_tree.specs.declared.draft.DraftProgram.{DraftProgram};
 ghost use Rattle.golog_tree.specs.declared.prog.Prog.{Prog};
 ghost use Rattle.golog_tree.specs.Ground.{IsCountable, ground_fluents};
 ghost use Rattle.golog_semantics.specs.Drafts.{TheoryKeeps, ProgramKeeps};
+ghost use Rattle.golog_semantics.specs.DraftOrder.{TheoryInOrder, ProgramInOrder};
 ghost use Rattle.golog_semantics.specs.WellFormed.{WellFormed};
 ghost use Rattle.golog_semantics.specs.Reading.{Reading};
 ghost use Rattle.golog_check.specs.Faults.{Answers};
@@ -13,9 +14,11 @@ ghost use Rattle.golog_check.specs.DeclaredItems.{Declared, sort_item};
 ghost use Rattle.golog_check.specs.Sums.{AreSmall, HaveFewArgs, fluent_counted, action_counted};
 ghost use Rattle.golog_check.specs.Least.{IsLeastOf, given};
 ghost use Rattle.golog_check.specs.Starts.{start_value};
-ghost use Rattle.golog_check.specs.Check.{IsPlain, Checks, bare as spec_bare, main_in as spec_main_in, main_of as spec_main_of, names_of, refusals_in};
+ghost use Rattle.golog_check.specs.Check.{Checks, bare as spec_bare, main_in as spec_main_in, main_of as spec_main_of, names_of, refusals_in};
+ghost use Rattle.golog_check.specs.Order.{IsLeastRow, all_rows};
 ghost use Rattle.golog_check.specs.Parts.{AreParts};
 
+use crate::blocks::blocks_refused;
 use crate::checked::Checked;
 use crate::copies::{copy_actions, copy_devices, copy_fluents, copy_sorts, sort_places};
 use crate::effects::{cause_items_in, poss_items_in};
@@ -23,14 +26,17 @@ use crate::fault::{CheckFault, FRONT_DEEP, refuse_where};
 use crate::least::{Refusal, least_of};
 use crate::names::Names;
 use crate::nesting::{MAIN_NEST, nests_within};
+use crate::procs::{params_of_each, proc_items_in};
 use crate::programs::prog_in;
+use crate::reaching::fronts_refused;
 use crate::sensing::sense_items_in;
 use crate::start_values::initial_values;
 use crate::starts::{Start, starts_in};
 use crate::sums::{GROUND_ACTIONS, GROUND_FLUENTS, sum_passes};
 use golog_base::{List, NoMemory};
 use golog_tree::{
-    Agent, CauseItem, DraftMain, DraftProgram, DraftTheory, PossItem, Prog, SenseItem, SortItem,
+    Agent, CauseItem, DraftMain, DraftProgram, DraftTheory, PossItem, ProcItem, Prog, SenseItem,
+    SortItem,
 };
 use std::alloc::Global;
 
@@ -75,6 +81,9 @@ pub struct Parts {
     pub poss: Checked<PossItem>,
     pub causes: Checked<CauseItem>,
     pub senses: Checked<SenseItem>,
+    pub procs: Checked<ProcItem>,
+    pub fronts: Option<Refusal>,
+    pub blocks: Option<Refusal>,
     pub main: Checked<Prog>,
 }
 
@@ -96,14 +105,14 @@ fn parts_of(
     names: &Names<'_>,
     sorts: &[SortItem],
     theory: &DraftTheory,
-    main: &DraftMain,
+    program: &DraftProgram,
 ) -> Result<Parts, NoMemory>
     requires sorts { sorts.now ≡ map sort_item theory.now.sorts }
     requires small { AreSmall sorts.now }
     requires fluents { HaveFewArgs (map fluent_counted theory.now.fluents) }
     requires actions { HaveFewArgs (map action_counted theory.now.actions) }
     requires sensed { All (λ (item : DraftSense). item.action < length names.now.actions) theory.now.senses }
-    ensures { IfOk result (λ parts. AreParts parts names.now theory.now main.now) }
+    ensures { IfOk result (λ parts. AreParts parts names.now theory.now program.now) }
 {
     let fluent_sum = sum_passes(sorts, GROUND_FLUENTS, theory.fluents.as_slice());
     let action_sum = sum_passes(sorts, GROUND_ACTIONS, theory.actions.as_slice());
@@ -111,7 +120,10 @@ fn parts_of(
     let poss = poss_items_in(alloc, names, theory.poss.as_slice())?;
     let causes = cause_items_in(alloc, names, theory.causes.as_slice())?;
     let senses = sense_items_in(alloc, names, theory.senses.as_slice())?;
-    let main = main_checked(alloc, names, main)?;
+    let procs = proc_items_in(alloc, names, program.procs.as_slice())?;
+    let fronts = fronts_refused(alloc, program.procs.as_slice())?;
+    let blocks = blocks_refused(alloc, program.procs.as_slice(), &program.main.body)?;
+    let main = main_checked(alloc, names, &program.main)?;
     Ok(Parts {
         fluent_sum,
         action_sum,
@@ -119,21 +131,27 @@ fn parts_of(
         poss,
         causes,
         senses,
+        procs,
+        fronts,
+        blocks,
         main,
     })
 }
 
 /// The least refusal of all parts.
 fn least(parts: &Parts) -> Option<Refusal>
-    ensures { (names : Declared) (theory : DraftTheory) (main : DraftMain) → AreParts parts.now names theory main
-        → IsLeastOf result (refusals_in names theory main) }
+    ensures { (names : Declared) (theory : DraftTheory) (program : DraftProgram)
+        → AreParts parts.now names theory program → IsLeastOf result (refusals_in names theory program) }
 {
     let sums = least_of(parts.fluent_sum, parts.action_sum);
     let starts = least_of(sums, parts.starts.least);
     let poss = least_of(starts, parts.poss.least);
     let causes = least_of(poss, parts.causes.least);
     let senses = least_of(causes, parts.senses.least);
-    least_of(senses, parts.main.least)
+    let procs = least_of(senses, parts.procs.least);
+    let fronts = least_of(procs, parts.fronts);
+    let blocks = least_of(fronts, parts.blocks);
+    least_of(blocks, parts.main.least)
 }
 
 /// The one program that was given.
@@ -152,6 +170,7 @@ fn agent_with(agent: Agent, starts: List<u8>, parts: Parts) -> Agent
           causes = parts.causes.items;
           senses = parts.senses.items;
           starts = starts;
+          procs = parts.procs.items;
           main = spec_main_of reading.outcome;
         } }
 {
@@ -159,6 +178,7 @@ fn agent_with(agent: Agent, starts: List<u8>, parts: Parts) -> Agent
         poss,
         causes,
         senses,
+        procs,
         main,
         ..
     } = parts;
@@ -167,6 +187,7 @@ fn agent_with(agent: Agent, starts: List<u8>, parts: Parts) -> Agent
         causes: causes.items,
         senses: senses.items,
         starts,
+        procs: procs.items,
         main: main_of(main.items),
         ..agent
     }
@@ -180,20 +201,20 @@ fn parts_for(
     program: &DraftProgram,
 ) -> Result<Parts, NoMemory>
     requires keeps { TheoryKeeps theory.now }
-    requires plain { IsPlain program.now }
     requires bare { agent.now ≡ spec_bare theory.now }
-    ensures { IfOk result (λ parts. AreParts parts (names_of theory.now program.now) theory.now program.now.main) }
+    ensures { IfOk result (λ parts. AreParts parts (names_of theory.now program.now) theory.now program.now) }
 {
     let places = sort_places(alloc, theory.sorts.as_slice())?;
+    let params = params_of_each(alloc, program.procs.as_slice())?;
     let sorts = agent.sorts.as_slice();
     let names = Names::new(
         sorts,
         places.as_slice(),
         agent.fluents.as_slice(),
         agent.actions.as_slice(),
-        &[],
+        params.as_slice(),
     );
-    parts_of(alloc, &names, sorts, theory, &program.main)
+    parts_of(alloc, &names, sorts, theory, program)
 }
 
 /// The agent of what is declared and of the parts, none of which is refused.
@@ -205,6 +226,7 @@ fn with_starts(alloc: Global, agent: Agent, parts: Parts) -> Result<Agent, NoMem
           causes = parts.causes.items;
           senses = parts.senses.items;
           starts = map (start_value parts.starts.items) (ground_fluents agent);
+          procs = parts.procs.items;
           main = spec_main_of reading.outcome;
         }) }
 {
@@ -228,7 +250,7 @@ fn answer(
 ) -> Result<Agent, CheckFault>
     requires keeps { TheoryKeeps theory.now }
     requires bare { agent ≡ spec_bare theory.now }
-    requires parts { AreParts parts (names_of theory.now program.now) theory.now program.now.main }
+    requires parts { AreParts parts (names_of theory.now program.now) theory.now program.now }
     ensures { Checks result theory.now program.now }
 {
     match least(&parts) {
@@ -245,8 +267,9 @@ fn answer(
 }
 
 /// The agent that a theory and a program make, which were read from one file. It is refused where a rule of
-/// sorts, words, sums of ground things, start values, sensing or nests is broken, with the code and the place of
-/// the least refusal: that of the least place, and there the least code.
+/// sorts, words, sums of ground things, start values, sensing, guarded procedures, search blocks or nests is broken,
+/// with the code and the place of the least refusal: that of the least place, and there the least code. Where the
+/// places of the draft stand in order, as those of a draft that was read do, that is the least of all rows that fit.
 pub fn check(
     alloc: Global,
     theory: &DraftTheory,
@@ -254,8 +277,8 @@ pub fn check(
 ) -> Result<Agent, CheckFault>
     requires keeps { TheoryKeeps theory.now }
     requires program_keeps { ProgramKeeps theory.now program.now }
-    requires plain { IsPlain program.now }
     ensures answer { Checks result theory.now program.now }
+    ensures least { TheoryInOrder theory.now → ProgramInOrder program.now → IsLeastRow result (all_rows theory.now program.now) }
     ensures well_formed { IfOk result WellFormed }
 {
     let agent = bare(alloc, theory)?;

@@ -1,5 +1,7 @@
 ghost use Rattle.std.specs.Prelude.{◌≡◌, [], map, IfOk};
 ghost use Rattle.golog_semantics.specs.Drafts.{AgentCondKeeps};
+ghost use Rattle.golog_semantics.specs.DraftOrder.{IsAscending};
+ghost use Rattle.golog_semantics.specs.DraftPlaces.{cond_places};
 ghost use Rattle.golog_semantics.specs.Fits.{nothing_bound};
 ghost use Rattle.golog_semantics.specs.WellFormed.{WellFormed};
 ghost use Rattle.golog_check.specs.CheckLaws.{IsCondOf};
@@ -7,6 +9,7 @@ ghost use Rattle.golog_check.specs.DeclaredItems.{HasFewSorts, declared_in};
 ghost use Rattle.golog_check.specs.Faults.{Answers};
 ghost use Rattle.golog_check.specs.Scope.{within};
 ghost use Rattle.golog_check.specs.Conditions.{is_in, cond_in, conds_in};
+ghost use Rattle.golog_check.specs.Order.{IsLeastRow};
 
 use crate::args::{args_in, is_other};
 use crate::fault::{CheckFault, SORT_CLASH, refuse_where};
@@ -161,6 +164,7 @@ pub fn check_condition(alloc: Global, agent: &Agent, cond: &DraftCond) -> Result
     requires formed { WellFormed agent.now }
     requires kept { AgentCondKeeps agent.now cond.now }
     ensures answer { Answers result (cond_in (declared_in agent.now) cond.now []) }
+    ensures least { IsAscending (cond_places cond.now) → IsLeastRow result (cond_in (declared_in agent.now) cond.now []).rows }
     ensures fits { IfOk result (λ c. IsCondOf agent.now nothing_bound 0 c) }
 {
     cond_in(alloc, &Names::of_agent(agent), &[], cond)

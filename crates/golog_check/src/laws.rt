@@ -1,3 +1,4 @@
+ghost use Rattle.golog_check.specs.AgentLaws.{UnguardedIsReached, AgentsFit};
 ghost use Rattle.golog_check.specs.CheckLaws.{ArgsFit, TermsFit, CondsFit};
 ghost use Rattle.golog_check.specs.ProgramLaws.{ProgsFit};
 
@@ -19,4 +20,14 @@ pub fn conds_fit()
 /// A program that is not refused fits the agent where its blocks keep their limits, and can stand in its file.
 pub fn progs_fit()
     ensures { ProgsFit }
+{}
+
+/// A procedure is refused as unguarded exactly where it reaches itself without a step.
+pub fn unguarded_is_reached()
+    ensures { UnguardedIsReached }
+{}
+
+/// The agent of a draft of which nothing is refused is well formed.
+pub fn agents_fit()
+    ensures { AgentsFit }
 {}

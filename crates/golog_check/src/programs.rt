@@ -59,7 +59,7 @@ fn nested(alloc: Global, join: Join, parts: List<Prog>) -> Result<Prog, NoMemory
 }
 
 /// A depth or a fuel, where one below 0 counts as none.
-fn count_of(number: i32) -> u32
+pub fn count_of(number: i32) -> u32
     ensures { result ≡ to_count number }
 {
     if number < 0 { 0 } else { number as u32 }

@@ -1,0 +1,182 @@
+-- What looks at no condition and at no argument says the same of a program and of its shape.
+use Rattle.std.proofs.Common.{◌≡◌, ℕ, List, [], ◌∷◌, ◌++◌, map, Ok, refl, sym, ap, subst, ◌∙◌, append_assoc}
+use Rattle.std.proofs.lemmas.List.{append-nil, map-append}
+use Rattle.golog_tree.specs.declared.cond.Arg.{Arg}
+use Rattle.golog_tree.specs.declared.cond.Cond.{Cond}
+use Rattle.golog_tree.specs.declared.draft_prog.DraftProg.{DraftProg}
+use Rattle.golog_tree.specs.declared.draft_prog.DraftProg.TheOpen as draft
+use Rattle.golog_tree.specs.declared.draft_prog.DraftProg.TheOpen.{DraftProg-F}
+use Rattle.golog_tree.specs.declared.draft_prog.DraftProg.TheViews.{roll-DraftProg}
+use Rattle.golog_tree.specs.declared.draft_prog.DraftProg.TheFolds.{fold-roll-DraftProg, ind-DraftProg, map-DraftProg}
+use Rattle.golog_tree.specs.declared.prog.Prog.{Prog}
+use Rattle.golog_tree.specs.declared.prog.Way.{Way}
+use Rattle.golog_tree.specs.declared.prog.Prog.TheVariants as prog
+use Rattle.golog_tree.specs.declared.prog.Prog.TheOpen.{Prog-F, Way-F, Nil, Act, Test, Seq, Choice, Pick, Star, If, While, Conc, Prio, Cstar, Call, Search}
+use Rattle.golog_tree.specs.declared.prog.Prog.TheViews.{roll-Prog}
+use Rattle.golog_tree.specs.declared.prog.Prog.TheFolds.{fold-Prog, fold-Way, fold-roll-Prog, map-Prog}
+use Rattle.golog_tree.specs.Ground.{to_count}
+use Rattle.golog_semantics.specs.Reading.{Reading, gives, ◌>>=◌, each}
+use Rattle.golog_check.specs.declared.programs.Join.{Join}
+use Rattle.golog_check.specs.declared.programs.Join.TheVariants.{Seq as InSeq, Choice as InChoice, Conc as InConc, Prio as InPrio}
+use Rattle.golog_check.specs.DeclaredItems.{Declared}
+use Rattle.golog_check.specs.Sorts.{action_sorts, param_sorts}
+use Rattle.golog_check.specs.Scope.{Scope, variable_no, within}
+use Rattle.golog_check.specs.Terms.{args_in}
+use Rattle.golog_check.specs.Conditions.{cond_in}
+use Rattle.golog_check.specs.Programs.{InScope, joined, nested, progs_in, parts_in, prog_step, prog_in}
+use Rattle.golog_check.specs.Shapes.{no_cond, shape, shape_step}
+use Rattle.golog_check.proofs.Readings.{both, ok-same}
+
+module _ (A : Type 0) (step : Prog-F A A → A) (way : Way-F A A → A) where
+  -- it looks at no condition, no argument and no variable's number
+  pub record IsBlind : Type 0 where
+    pub act : (action : ℕ) (args : List Arg) → step (Act action args) ≡ step (Act action [])
+    pub test : (c : Cond) → step (Test c) ≡ step (Test no_cond)
+    pub pick : (x sort : ℕ) (p : A) → step (Pick x sort p) ≡ step (Pick 0 sort p)
+    pub if_of : (c : Cond) (p q : A) → step (If c p q) ≡ step (If no_cond p q)
+    pub while_of : (c : Cond) (p : A) → step (While c p) ≡ step (While no_cond p)
+    pub call : (item : ℕ) (args : List Arg) → step (Call item args) ≡ step (Call item [])
+
+  abbrev pub F : Prog → A
+  F = fold-Prog A A step way
+
+  roll : (l : Prog-F Prog Way) → F (roll-Prog l) ≡ step (map-Prog Prog Way A A F (fold-Way A A step way) l)
+  roll l = fold-roll-Prog A A step way l
+
+  pub by-layer : (l : Prog-F Prog Way) (p : Prog) → roll-Prog l ≡ p → F p ≡ step (map-Prog Prog Way A A F (fold-Way A A step way) l)
+  by-layer l p e = ap F (sym e) ∙ roll l
+
+  abbrev pub join_step : Join → A → A → A
+  join_step InSeq p q = step (Seq p q)
+  join_step InChoice p q = step (Choice p q)
+  join_step InConc p q = step (Conc p q)
+  join_step InPrio p q = step (Prio p q)
+
+  abbrev pub nest_by : Join → List A → A
+  nest_by join [] = step Nil
+  nest_by join (p ∷ []) = p
+  nest_by join (p ∷ q ∷ ps) = join_step join p (nest_by join (q ∷ ps))
+
+  joined-by : (join : Join) (p q : Prog) → F (joined join p q) ≡ join_step join (F p) (F q)
+  joined-by InSeq p q = by-layer (Seq p q) (prog.Seq p q) (prog.rolls-Seq p q)
+  joined-by InChoice p q = by-layer (Choice p q) (prog.Choice p q) (prog.rolls-Choice p q)
+  joined-by InConc p q = by-layer (Conc p q) (prog.Conc p q) (prog.rolls-Conc p q)
+  joined-by InPrio p q = by-layer (Prio p q) (prog.Prio p q) (prog.rolls-Prio p q)
+
+  pub nested-by : (join : Join) (ps : List Prog) → F (nested join ps) ≡ nest_by join (map F ps)
+  nested-by join [] = by-layer Nil prog.Nil prog.rolls-Nil
+  nested-by join (p ∷ []) = refl
+  nested-by join (p ∷ q ∷ ps) =
+      joined-by join p (nested join (q ∷ ps)) ∙ ap (λ r. join_step join (F p) r) (nested-by join (q ∷ ps))
+
+  module _ (blind : IsBlind) (names : Declared) where
+    abbrev Same : DraftProg → Type 0
+    Same d = (scope : Scope) (p : Prog) → (prog_in names d scope).outcome ≡ Ok p → F p ≡ F (shape d)
+
+    abbrev One : Type 0
+    One = (d : DraftProg) × Same d
+
+    abbrev drafts_of : DraftProg-F One → DraftProg-F DraftProg
+    drafts_of y = map-DraftProg One DraftProg (λ d. d.0) y
+
+    abbrev all_of : List One → List DraftProg
+    all_of ds = map (λ d. d.0) ds
+
+    abbrev one_in : Scope → List Prog → InScope → Reading Prog
+    one_in scope before f = f scope
+
+    each-same : (scope : Scope) (ds : List One) (done result : List Prog)
+        → (each (one_in scope) done (map (prog_in names) (all_of ds))).outcome ≡ Ok result
+        → map F result ≡ map F done ++ map F (map shape (all_of ds))
+    each-same scope [] done result h = ap (map F) (sym (ok-same done result h)) ∙ sym (append-nil (map F done))
+    each-same scope (d ∷ ds) done result h =
+        let b = both (prog_in names d.0 scope) (λ x. each (one_in scope) (done ++ x ∷ []) (map (prog_in names) (all_of ds))) result h in
+        let rest = map F (map shape (all_of ds)) in
+        each-same scope ds (done ++ b.value ∷ []) result b.other
+        ∙ ap (λ ns. ns ++ rest) (map-append F done (b.value ∷ []))
+        ∙ append_assoc (map F done) (F b.value ∷ []) rest
+        ∙ ap (λ n. map F done ++ n ∷ rest) (d.1 scope b.value b.one)
+
+    parts-same : (join : Join) (scope : Scope) (ds : List One) (p : Prog)
+        → (parts_in join scope (map (prog_in names) (all_of ds))).outcome ≡ Ok p
+        → F p ≡ F (nested join (map shape (all_of ds)))
+    parts-same join scope ds p h =
+        let b = both (progs_in scope (map (prog_in names) (all_of ds))) (λ parts. gives (nested join parts)) p h in
+        ap F (sym (ok-same (nested join b.value) p b.other)) ∙ nested-by join b.value
+        ∙ ap (nest_by join) (each-same scope ds [] b.value b.one) ∙ sym (nested-by join (map shape (all_of ds)))
+
+    layer : (scope : Scope) (y : DraftProg-F One) (p : Prog)
+        → (prog_step names (map-DraftProg DraftProg InScope (prog_in names) (drafts_of y)) scope).outcome ≡ Ok p
+        → F p ≡ F (shape_step (map-DraftProg DraftProg Prog shape (drafts_of y)))
+    layer scope (draft.Nil at) p h = ap F (sym (ok-same prog.Nil p h))
+    layer scope (draft.Act action args at) p h =
+        let b = both (args_in names scope (action_sorts names action) args) (λ args. gives (prog.Act action args)) p h in
+        ap F (sym (ok-same (prog.Act action b.value) p b.other))
+        ∙ by-layer (Act action b.value) (prog.Act action b.value) (prog.rolls-Act action b.value) ∙ blind.act action b.value
+        ∙ sym (by-layer (Act action []) (prog.Act action []) (prog.rolls-Act action []))
+    layer scope (draft.Test c at) p h =
+        let b = both (cond_in names c scope) (λ c. gives (prog.Test c)) p h in
+        ap F (sym (ok-same (prog.Test b.value) p b.other))
+        ∙ by-layer (Test b.value) (prog.Test b.value) (prog.rolls-Test b.value) ∙ blind.test b.value
+        ∙ sym (by-layer (Test no_cond) (prog.Test no_cond) (prog.rolls-Test no_cond))
+    layer scope (draft.Seq ds at) p h = parts-same InSeq scope ds p h
+    layer scope (draft.Choice ds at) p h = parts-same InChoice scope ds p h
+    layer scope (draft.Pick word sort d at) p h =
+        let b = both (prog_in names d.0 (within word sort scope)) (λ p. gives (prog.Pick (variable_no scope) sort p)) p h in
+        ap F (sym (ok-same (prog.Pick (variable_no scope) sort b.value) p b.other))
+        ∙ by-layer (Pick (variable_no scope) sort b.value) (prog.Pick (variable_no scope) sort b.value) (prog.rolls-Pick (variable_no scope) sort b.value)
+        ∙ blind.pick (variable_no scope) sort (F b.value)
+        ∙ ap (λ q. step (Pick 0 sort q)) (d.1 (within word sort scope) b.value b.one)
+        ∙ sym (by-layer (Pick 0 sort (shape d.0)) (prog.Pick 0 sort (shape d.0)) (prog.rolls-Pick 0 sort (shape d.0)))
+    layer scope (draft.Star d at) p h =
+        let b = both (prog_in names d.0 scope) (λ p. gives (prog.Star p)) p h in
+        ap F (sym (ok-same (prog.Star b.value) p b.other))
+        ∙ by-layer (Star b.value) (prog.Star b.value) (prog.rolls-Star b.value)
+        ∙ ap (λ q. step (Star q)) (d.1 scope b.value b.one)
+        ∙ sym (by-layer (Star (shape d.0)) (prog.Star (shape d.0)) (prog.rolls-Star (shape d.0)))
+    layer scope (draft.If t d e at) p h =
+        let a = both (cond_in names t scope) (λ c. prog_in names d.0 scope >>= λ p. prog_in names e.0 scope >>= λ q. gives (prog.If c p q)) p h in
+        let f = both (prog_in names d.0 scope) (λ p. prog_in names e.0 scope >>= λ q. gives (prog.If a.value p q)) p a.other in
+        let g = both (prog_in names e.0 scope) (λ q. gives (prog.If a.value f.value q)) p f.other in
+        ap F (sym (ok-same (prog.If a.value f.value g.value) p g.other))
+        ∙ by-layer (If a.value f.value g.value) (prog.If a.value f.value g.value) (prog.rolls-If a.value f.value g.value)
+        ∙ blind.if_of a.value (F f.value) (F g.value)
+        ∙ ap (λ q. step (If no_cond q (F g.value))) (d.1 scope f.value f.one)
+        ∙ ap (λ q. step (If no_cond (F (shape d.0)) q)) (e.1 scope g.value g.one)
+        ∙ sym (by-layer (If no_cond (shape d.0) (shape e.0)) (prog.If no_cond (shape d.0) (shape e.0)) (prog.rolls-If no_cond (shape d.0) (shape e.0)))
+    layer scope (draft.While t d at) p h =
+        let a = both (cond_in names t scope) (λ c. prog_in names d.0 scope >>= λ p. gives (prog.While c p)) p h in
+        let b = both (prog_in names d.0 scope) (λ p. gives (prog.While a.value p)) p a.other in
+        ap F (sym (ok-same (prog.While a.value b.value) p b.other))
+        ∙ by-layer (While a.value b.value) (prog.While a.value b.value) (prog.rolls-While a.value b.value)
+        ∙ blind.while_of a.value (F b.value)
+        ∙ ap (λ q. step (While no_cond q)) (d.1 scope b.value b.one)
+        ∙ sym (by-layer (While no_cond (shape d.0)) (prog.While no_cond (shape d.0)) (prog.rolls-While no_cond (shape d.0)))
+    layer scope (draft.Conc ds at) p h = parts-same InConc scope ds p h
+    layer scope (draft.Prio ds at) p h = parts-same InPrio scope ds p h
+    layer scope (draft.Cstar d at) p h =
+        let b = both (prog_in names d.0 scope) (λ p. gives (prog.Cstar p)) p h in
+        ap F (sym (ok-same (prog.Cstar b.value) p b.other))
+        ∙ by-layer (Cstar b.value) (prog.Cstar b.value) (prog.rolls-Cstar b.value)
+        ∙ ap (λ q. step (Cstar q)) (d.1 scope b.value b.one)
+        ∙ sym (by-layer (Cstar (shape d.0)) (prog.Cstar (shape d.0)) (prog.rolls-Cstar (shape d.0)))
+    layer scope (draft.Call item args at) p h =
+        let b = both (args_in names scope (param_sorts names item) args) (λ args. gives (prog.Call item args)) p h in
+        ap F (sym (ok-same (prog.Call item b.value) p b.other))
+        ∙ by-layer (Call item b.value) (prog.Call item b.value) (prog.rolls-Call item b.value) ∙ blind.call item b.value
+        ∙ sym (by-layer (Call item []) (prog.Call item []) (prog.rolls-Call item []))
+    layer scope (draft.Search depth fuel d at) p h =
+        let b = both (prog_in names d.0 scope) (λ p. gives (prog.Search (to_count depth) (to_count fuel) p)) p h in
+        ap F (sym (ok-same (prog.Search (to_count depth) (to_count fuel) b.value) p b.other))
+        ∙ by-layer (Search (to_count depth) (to_count fuel) b.value) (prog.Search (to_count depth) (to_count fuel) b.value) (prog.rolls-Search (to_count depth) (to_count fuel) b.value)
+        ∙ ap (λ q. step (Search (to_count depth) (to_count fuel) q)) (d.1 scope b.value b.one)
+        ∙ sym (by-layer (Search (to_count depth) (to_count fuel) (shape d.0)) (prog.Search (to_count depth) (to_count fuel) (shape d.0)) (prog.rolls-Search (to_count depth) (to_count fuel) (shape d.0)))
+
+    same-layer : (y : DraftProg-F One) → Same (roll-DraftProg (drafts_of y))
+    same-layer y scope p h =
+        layer scope y p (ap (λ (f : InScope). (f scope).outcome) (sym (fold-roll-DraftProg InScope (prog_step names) (drafts_of y))) ∙ h)
+        ∙ ap F (sym (fold-roll-DraftProg Prog shape_step (drafts_of y)))
+
+    -- the same of a program that is read and of its shape
+    pub shaped : (d : DraftProg) (scope : Scope) (p : Prog) → (prog_in names d scope).outcome ≡ Ok p → F p ≡ F (shape d)
+    shaped = ind-DraftProg Same (λ x y is. subst (λ l. Same (roll-DraftProg l)) is (same-layer y))
