@@ -1,0 +1,321 @@
+-- The ways that lists of fronts open, and the fronts of a program by those of its parts.
+use Rattle.std.proofs.Common.{◌≡◌, ℕ, ◌+◌, Bool, true, false, if◌then◌else◌, List, [], ◌∷◌, ◌++◌, map, refl, sym, ap, ◌∙◌, subst, append_assoc}
+use Rattle.std.specs.Prelude.{Result, Ok, Err, IfOk, filter}
+use Rattle.std.specs.List.{flat_map, range_with_len}
+use Rattle.golog_tree.specs.declared.agent.Agent.{Agent}
+use Rattle.golog_tree.specs.declared.cond.Arg.{Arg}
+use Rattle.golog_tree.specs.declared.cond.Cond.{Cond}
+use Rattle.golog_tree.specs.declared.cond.Cond.TheVariants as cond
+use Rattle.golog_tree.specs.declared.prog.Prog.{Prog}
+use Rattle.golog_tree.specs.declared.prog.Way.{Way}
+use Rattle.golog_tree.specs.declared.prog.Label.TheVariants.{Quiet, Do}
+use Rattle.golog_tree.specs.declared.prog.Prog.TheOpen.{Nil, Act, Test, Seq, Choice, Pick, Star, If, While, Conc, Prio, Cstar, Call, Search, Follow}
+use Rattle.golog_tree.specs.declared.prog.Prog.TheVariants as prog
+use Rattle.golog_tree.specs.Ground.{action_no, sort_size}
+use Rattle.golog_tree.specs.Tidy.{tidy_seq, tidy_conc, tidy_prio}
+use Rattle.golog_semantics.specs.declared.Mode.{Mode}
+use Rattle.golog_semantics.specs.Modes.{flip}
+use Rattle.golog_semantics.specs.Truth.{Values, arg_value, env_of}
+use Rattle.golog_semantics.specs.Program.{put_arg, body_of}
+use Rattle.golog_semantics.specs.Search.{final, plain_ways}
+use Rattle.golog_semantics.specs.Values.{is_possible}
+use Rattle.golog_semantics.specs.Ways.{is_empty, is_so, is_not}
+use Rattle.golog_semantics.specs.Guarded.{IsGuarded, front}
+use Rattle.golog_semantics.specs.Fronts.{AreFronts, Guarded, IsEnd, open_ways}
+use Rattle.golog_semantics.proofs.FrontLaws.{guard, open-append, open-guarded, open-lower}
+use Rattle.golog_semantics.proofs.Unfolded.{final-skips}
+use Rattle.golog_ways.specs.declared.front_lists.Front.{Front}
+use Rattle.golog_ways.specs.First.{way_in}
+use Rattle.golog_ways.specs.FrontLists.{AreBothFronts, AreWhereEnds, IsPrecondition, front_in, front_where, guarded, guarded_of, last_front, none_open}
+use Rattle.golog_ways.proofs.Ends.{range-more, so-not}
+use Rattle.golog_ways.proofs.FrontSteps.{ways_if, ways-by}
+
+map-map : {A B D : Type 0} (f : A → B) (g : B → D) (xs : List A) → map g (map f xs) ≡ map (λ x. g (f x)) xs
+map-map f g [] = refl
+map-map f g (x ∷ xs) = ap (λ ys. g (f x) ∷ ys) (map-map f g xs)
+
+map-id : (ws : List Way) → map (λ w. w) ws ≡ ws
+map-id [] = refl
+map-id (w ∷ ws) = ap (λ vs. w ∷ vs) (map-id ws)
+
+guarded-append : (fs hs : List Front) → guarded (fs ++ hs) ≡ guarded fs ++ guarded hs
+guarded-append [] hs = refl
+guarded-append (f ∷ fs) hs = ap (λ gs. guarded_of f ∷ gs) (guarded-append fs hs)
+
+flat-append : (f : ℕ → List Way) (cs ds : List ℕ) → flat_map f (cs ++ ds) ≡ flat_map f cs ++ flat_map f ds
+flat-append f [] ds = refl
+flat-append f (c ∷ cs) ds = ap (λ ws. f c ++ ws) (flat-append f cs ds) ∙ sym (append_assoc (f c) (flat_map f cs) (flat_map f ds))
+
+append-none : (ws : List Way) → ws ++ [] ≡ ws
+append-none [] = refl
+append-none (w ∷ ws) = ap (λ vs. w ∷ vs) (append-none ws)
+
+flat-more : (f : ℕ → List Way) (i : ℕ) → flat_map f (range_with_len 0 (i + 1)) ≡ flat_map f (range_with_len 0 i) ++ f i
+flat-more f i =
+    ap (flat_map f) (range-more i) ∙ flat-append f (range_with_len 0 i) (i ∷ [])
+    ∙ ap (λ ws. flat_map f (range_with_len 0 i) ++ ws) (append-none (f i))
+
+-- one more way where the test holds
+abbrev more_if : Bool → Way → List Way → List Way
+more_if b w ws = if b then w ∷ ws else ws
+
+map-more : (f : Way → Way) (b : Bool) (w : Way) (ws : List Way) → map f (more_if b w ws) ≡ more_if b (f w) (map f ws)
+map-more f true w ws = refl
+map-more f false w ws = refl
+
+take-more : (b : Bool) (g : Guarded) (gs : List Guarded) → map (λ (h : Guarded). h.way) (if b then g ∷ gs else gs) ≡ more_if b g.way (map (λ (h : Guarded). h.way) gs)
+take-more true g gs = refl
+take-more false g gs = refl
+
+more-none : (b : Bool) (w : Way) → more_if b w [] ≡ ways_if b (w ∷ [])
+more-none true w = refl
+more-none false w = refl
+
+module _ (agent : Agent) (values : Values) (m : Mode) where
+  -- the ways that these fronts open
+  abbrev pub opened : List Front → List Way
+  opened fs = open_ways agent values m (guarded fs)
+
+  pub open-cons : (f : Front) (fs : List Front) → opened (f ∷ fs) ≡ more_if (is_so agent values m f.cond) (record { label = f.label; left = f.left }) (opened fs)
+  open-cons f fs = take-more (is_so agent values m f.cond) (guarded_of f) (filter (λ (g : Guarded). is_so agent values m g.cond) (guarded fs))
+
+  pub open-in : (f : Prog → Prog) (fs : List Front) → opened (map (front_in f) fs) ≡ map (way_in f) (opened fs)
+  open-in f [] = refl
+  open-in f (x ∷ xs) =
+      open-cons (front_in f x) (map (front_in f) xs)
+      ∙ ap (more_if (is_so agent values m x.cond) (record { label = x.label; left = f x.left })) (open-in f xs)
+      ∙ sym (map-more (way_in f) (is_so agent values m x.cond) (record { label = x.label; left = x.left }) (opened xs))
+      ∙ ap (map (way_in f)) (sym (open-cons x xs))
+
+  pub open-both : (fs hs : List Front) → opened (fs ++ hs) ≡ opened fs ++ opened hs
+  open-both fs hs = ap (open_ways agent values m) (guarded-append fs hs) ∙ open-append agent values m (guarded fs) (guarded hs)
+
+  guards : (c : Cond) (fs : List Front) → guarded (map (front_where c) fs) ≡ map (guard agent values m c (λ w. w)) (guarded fs)
+  guards c [] = refl
+  guards c (f ∷ fs) = ap (λ gs. guarded_of (front_where c f) ∷ gs) (guards c fs)
+
+  kept : (b : Bool) (ws : List Way) → ways_if b (map (λ w. w) ws) ≡ ways_if b ws
+  kept b ws = ap (ways_if b) (map-id ws)
+
+  pub open-where : (c : Cond) (fs : List Front) → opened (map (front_where c) fs) ≡ ways_if (is_so agent values m c) (opened fs)
+  open-where c fs =
+      ap (open_ways agent values m) (guards c fs) ∙ open-guarded agent values m c (λ w. w) (guarded fs)
+      ∙ kept (is_so agent values m c) (opened fs)
+
+  conds-same : (fs : List Front) → map (λ (f : Front). f.cond) fs ≡ map (λ (g : Guarded). g.cond) (guarded fs)
+  conds-same fs = sym (map-map guarded_of (λ (g : Guarded). g.cond) fs)
+
+-- where the higher part has no way in the flipped mode
+pub open-unless : (agent : Agent) (values : Values) (m : Mode) (high low : List Front)
+    → opened agent values m (map (front_where (none_open high)) low) ≡ ways_if (is_empty (opened agent values (flip m) high)) (opened agent values m low)
+open-unless agent values m high low =
+    ap (λ cs. opened agent values m (map (front_where (cond.Not (cond.Or cs))) low)) (conds-same agent values m high)
+    ∙ ap (open_ways agent values m) (guards agent values m (cond.Not (cond.Or (map (λ (g : Guarded). g.cond) (guarded high)))) low)
+    ∙ open-lower agent values m (λ w. w) (guarded high) (guarded low)
+    ∙ kept agent values m (is_empty (opened agent values (flip m) high)) (opened agent values m low)
+
+module _ (agent : Agent) (g : IsGuarded agent) where
+  abbrev Are : Prog → List Front → Type 0
+  Are p fs = AreFronts agent p (guarded fs)
+
+  pub nil_fronts : Are prog.Nil []
+  nil_fronts = record { ways = λ m v. sym (ways-by agent v g m prog.Nil Nil prog.outs-Nil) }
+
+  pub search_fronts : (depth fuel : ℕ) (p : Prog) → Are (prog.Search depth fuel p) []
+  search_fronts depth fuel p = record { ways = λ m v. sym (ways-by agent v g m (prog.Search depth fuel p) (Search depth fuel p) (prog.outs-Search depth fuel p)) }
+
+  pub follow_fronts : (depth fuel : ℕ) (p : Prog) (rest : List Way) → Are (prog.Follow depth fuel p rest) []
+  follow_fronts depth fuel p rest = record { ways = λ m v. sym (ways-by agent v g m (prog.Follow depth fuel p rest) (Follow depth fuel p rest) (prog.outs-Follow depth fuel p rest)) }
+
+  pub act_fronts : (action : ℕ) (args : List Arg) (c : Cond) (number : ℕ) → number ≡ action_no agent action (map (arg_value (env_of [])) args) → IsPrecondition agent action args c
+      → Are (prog.Act action args) (last_front c (Do number) ∷ [])
+  act_fronts action args c number e h = record {
+    ways = λ m v.
+        let way : ℕ → Way = λ n. record { label = Do n; left = prog.Nil } in
+        open-cons agent v m (last_front c (Do number)) []
+        ∙ more-none (is_so agent v m c) (way number) ∙ ap (λ b. ways_if b (way number ∷ [])) (h.holds m v)
+        ∙ ap (λ n. ways_if (is_possible agent v m action (map (arg_value (env_of [])) args)) (way n ∷ [])) e
+        ∙ sym (ways-by agent v g m (prog.Act action args) (Act action args) (prog.outs-Act action args));
+  }
+
+  pub test_fronts : (c : Cond) → Are (prog.Test c) (last_front c Quiet ∷ [])
+  test_fronts c = record {
+    ways = λ m v.
+        open-cons agent v m (last_front c Quiet) []
+        ∙ more-none (is_so agent v m c) (record { label = Quiet; left = prog.Nil })
+        ∙ sym (ways-by agent v g m (prog.Test c) (Test c) (prog.outs-Test c));
+  }
+
+  -- where the first part never ends without a step, the second doesn't count
+  pub seq_fronts_barred : (p q : Prog) (fs : List Front) → (front agent p).skip ≡ false → Are p fs → Are (prog.Seq p q) (map (front_in (λ l. tidy_seq l q)) fs)
+  seq_fronts_barred p q fs s h = record {
+    ways = λ m v.
+        let e = h.ways m v in
+        open-in agent v m (λ l. tidy_seq l q) fs ∙ ap (map (way_in (λ l. tidy_seq l q))) e
+        ∙ sym (append-none (map (way_in (λ l. tidy_seq l q)) (plain_ways agent v m p)))
+        ∙ ap (λ b. map (way_in (λ l. tidy_seq l q)) (plain_ways agent v m p) ++ ways_if b (plain_ways agent v m q)) (sym (never m v (final agent v m p) refl))
+        ∙ sym (ways-by agent v g m (prog.Seq p q) (Seq p q) (prog.outs-Seq p q));
+  }
+    where
+      never : (m : Mode) (v : Values) (b : Bool) → final agent v m p ≡ b → final agent v m p ≡ false
+      never m v true e = let k = final-skips agent v g m p e in absurd (cc (k, s))
+      never m v false e = e
+
+  module _ (p q : Prog) (fs hs : List Front) (one : Are p fs) (other : Are q hs) where
+    pub seq_fronts : (c : Cond) → IsEnd agent p c → Are (prog.Seq p q) (map (front_in (λ l. tidy_seq l q)) fs ++ map (front_where c) hs)
+    seq_fronts c end = record {
+      ways = λ m v.
+          let e = open-in agent v m (λ l. tidy_seq l q) fs ∙ ap (map (way_in (λ l. tidy_seq l q))) (one.ways m v) in
+          let k = open-where agent v m c hs ∙ ap (ways_if (is_so agent v m c)) (other.ways m v) ∙ ap (λ b. ways_if b (plain_ways agent v m q)) (end.final m v) in
+          open-both agent v m (map (front_in (λ l. tidy_seq l q)) fs) (map (front_where c) hs)
+          ∙ ap (λ ws. ws ++ opened agent v m (map (front_where c) hs)) e
+          ∙ ap (λ ws. map (way_in (λ l. tidy_seq l q)) (plain_ways agent v m p) ++ ws) k
+          ∙ sym (ways-by agent v g m (prog.Seq p q) (Seq p q) (prog.outs-Seq p q));
+    }
+
+    pub choice_fronts : Are (prog.Choice p q) (fs ++ hs)
+    choice_fronts = record {
+      ways = λ m v.
+          open-both agent v m fs hs ∙ ap (λ ws. ws ++ opened agent v m hs) (one.ways m v)
+          ∙ ap (λ ws. plain_ways agent v m p ++ ws) (other.ways m v)
+          ∙ sym (ways-by agent v g m (prog.Choice p q) (Choice p q) (prog.outs-Choice p q));
+    }
+
+    pub conc_fronts : Are (prog.Conc p q) (map (front_in (λ l. tidy_conc l q)) fs ++ map (front_in (λ l. tidy_conc p l)) hs)
+    conc_fronts = record {
+      ways = λ m v.
+          let e = open-in agent v m (λ l. tidy_conc l q) fs ∙ ap (map (way_in (λ l. tidy_conc l q))) (one.ways m v) in
+          let k = open-in agent v m (λ l. tidy_conc p l) hs ∙ ap (map (way_in (λ l. tidy_conc p l))) (other.ways m v) in
+          open-both agent v m (map (front_in (λ l. tidy_conc l q)) fs) (map (front_in (λ l. tidy_conc p l)) hs)
+          ∙ ap (λ ws. ws ++ opened agent v m (map (front_in (λ l. tidy_conc p l)) hs)) e
+          ∙ ap (λ ws. map (way_in (λ l. tidy_conc l q)) (plain_ways agent v m p) ++ ws) k
+          ∙ sym (ways-by agent v g m (prog.Conc p q) (Conc p q) (prog.outs-Conc p q));
+    }
+
+    map-if : (f : Prog → Prog) (b : Bool) (ws : List Way) → map (way_in f) (ways_if b ws) ≡ ways_if b (map (way_in f) ws)
+    map-if f true ws = refl
+    map-if f false ws = refl
+
+    pub prio_fronts : Are (prog.Prio p q) (map (front_in (λ l. tidy_prio l q)) fs ++ map (front_in (λ l. tidy_prio p l)) (map (front_where (none_open fs)) hs))
+    prio_fronts = record {
+      ways = λ m v.
+          let low = map (front_where (none_open fs)) hs in
+          let e = open-in agent v m (λ l. tidy_prio l q) fs ∙ ap (map (way_in (λ l. tidy_prio l q))) (one.ways m v) in
+          let k =
+          open-in agent v m (λ l. tidy_prio p l) low ∙ ap (map (way_in (λ l. tidy_prio p l))) (open-unless agent v m fs hs)
+          ∙ map-if (λ l. tidy_prio p l) (is_empty (opened agent v (flip m) fs)) (opened agent v m hs)
+          ∙ ap (λ ws. ways_if (is_empty ws) (map (way_in (λ l. tidy_prio p l)) (opened agent v m hs))) (one.ways (flip m) v)
+          ∙ ap (λ ws. ways_if (is_empty (plain_ways agent v (flip m) p)) (map (way_in (λ l. tidy_prio p l)) ws)) (other.ways m v) in
+          open-both agent v m (map (front_in (λ l. tidy_prio l q)) fs) (map (front_in (λ l. tidy_prio p l)) low)
+          ∙ ap (λ ws. ws ++ opened agent v m (map (front_in (λ l. tidy_prio p l)) low)) e
+          ∙ ap (λ ws. map (way_in (λ l. tidy_prio l q)) (plain_ways agent v m p) ++ ws) k
+          ∙ sym (ways-by agent v g m (prog.Prio p q) (Prio p q) (prog.outs-Prio p q));
+    }
+
+    pub if_fronts : (t : Cond) → Are (prog.If t p q) (map (front_where t) fs ++ map (front_where (cond.Not t)) hs)
+    if_fronts t = record {
+      ways = λ m v.
+          let e = open-where agent v m t fs ∙ ap (ways_if (is_so agent v m t)) (one.ways m v) in
+          let k = open-where agent v m (cond.Not t) hs ∙ ap (ways_if (is_so agent v m (cond.Not t))) (other.ways m v) ∙ ap (λ b. ways_if b (plain_ways agent v m q)) (so-not agent v m t) in
+          open-both agent v m (map (front_where t) fs) (map (front_where (cond.Not t)) hs)
+          ∙ ap (λ ws. ws ++ opened agent v m (map (front_where (cond.Not t)) hs)) e
+          ∙ ap (λ ws. ways_if (is_so agent v m t) (plain_ways agent v m p) ++ ws) k
+          ∙ sym (ways-by agent v g m (prog.If t p q) (If t p q) (prog.outs-If t p q));
+    }
+
+  module _ (p : Prog) (fs : List Front) (part : Are p fs) where
+    pub star_fronts : Are (prog.Star p) (map (front_in (λ l. tidy_seq l (prog.Star p))) fs)
+    star_fronts = record {
+      ways = λ m v.
+          open-in agent v m (λ l. tidy_seq l (prog.Star p)) fs ∙ ap (map (way_in (λ l. tidy_seq l (prog.Star p)))) (part.ways m v)
+          ∙ sym (ways-by agent v g m (prog.Star p) (Star p) (prog.outs-Star p));
+    }
+
+    pub cstar_fronts : Are (prog.Cstar p) (map (front_in (λ l. tidy_conc l (prog.Cstar p))) fs)
+    cstar_fronts = record {
+      ways = λ m v.
+          open-in agent v m (λ l. tidy_conc l (prog.Cstar p)) fs ∙ ap (map (way_in (λ l. tidy_conc l (prog.Cstar p)))) (part.ways m v)
+          ∙ sym (ways-by agent v g m (prog.Cstar p) (Cstar p) (prog.outs-Cstar p));
+    }
+
+    pub while_fronts : (t : Cond) → Are (prog.While t p) (map (front_where t) (map (front_in (λ l. tidy_seq l (prog.While t p))) fs))
+    while_fronts t = record {
+      ways = λ m v.
+          open-where agent v m t (map (front_in (λ l. tidy_seq l (prog.While t p))) fs)
+          ∙ ap (ways_if (is_so agent v m t)) (open-in agent v m (λ l. tidy_seq l (prog.While t p)) fs ∙ ap (map (way_in (λ l. tidy_seq l (prog.While t p)))) (part.ways m v))
+          ∙ sym (ways-by agent v g m (prog.While t p) (While t p) (prog.outs-While t p));
+    }
+
+  pub call_fronts : (item : ℕ) (args : List Arg) (fs : List Front) → Are (body_of agent item args) fs → Are (prog.Call item args) fs
+  call_fronts item args fs h = record { ways = λ m v. h.ways m v ∙ sym (ways-by agent v g m (prog.Call item args) (Call item args) (prog.outs-Call item args)) }
+
+module _ (agent : Agent) (x sort : ℕ) (p : Prog) where
+  -- the fronts for the constants before this one
+  pub record FrontsSoFar (i : ℕ) (fs : List Front) : Type 0 where
+    pub ways : (m : Mode) (v : Values) → opened agent v m fs ≡ flat_map (λ c. plain_ways agent v m (put_arg p x c)) (range_with_len 0 i)
+
+  pub no_fronts : FrontsSoFar 0 []
+  no_fronts = record { ways = λ m v. refl }
+
+  pub more_fronts : (i : ℕ) (fs hs : List Front) → AreFronts agent (put_arg p x i) (guarded hs) → FrontsSoFar i fs → FrontsSoFar (i + 1) (fs ++ hs)
+  more_fronts i fs hs h s = record {
+    ways = λ m v.
+        open-both agent v m fs hs ∙ ap (λ ws. ws ++ opened agent v m hs) (s.ways m v)
+        ∙ ap (λ ws. flat_map (λ c. plain_ways agent v m (put_arg p x c)) (range_with_len 0 i) ++ ws) (h.ways m v)
+        ∙ sym (flat-more (λ c. plain_ways agent v m (put_arg p x c)) i);
+  }
+
+  pub pick_fronts : IsGuarded agent → (i : ℕ) (fs : List Front) → i ≡ sort_size agent sort → FrontsSoFar i fs → AreFronts agent (prog.Pick x sort p) (guarded fs)
+  pick_fronts g i fs e s = record {
+    ways = λ m v.
+        s.ways m v ∙ ap (λ n. flat_map (λ c. plain_ways agent v m (put_arg p x c)) (range_with_len 0 n)) e
+        ∙ sym (ways-by agent v g m (prog.Pick x sort p) (Pick x sort p) (prog.outs-Pick x sort p));
+  }
+
+-- what a call gives, where its result is told by an equation
+pub fronts_give : {E : Type 0} (agent : Agent) (r : Prog) (hs : List Front) (result : Result (List Front) E)
+    → IfOk result (λ fs. fs ≡ hs) → AreFronts agent r (guarded hs) → IfOk result (λ fs. AreFronts agent r (guarded fs))
+fronts_give agent r hs (Ok fs) h k = subst (λ (z : List Front). AreFronts agent r (guarded z)) (sym h) k
+fronts_give agent r hs (Err e) h k = h
+
+-- the same of the fronts of another program
+pub fronts_too : {E : Type 0} (agent : Agent) (r q : Prog) (result : Result (List Front) E) → ((fs : List Front) → AreFronts agent q (guarded fs) → AreFronts agent r (guarded fs))
+    → IfOk result (λ fs. AreFronts agent q (guarded fs)) → IfOk result (λ fs. AreFronts agent r (guarded fs))
+fronts_too agent r q (Ok fs) f h = f fs h
+fronts_too agent r q (Err e) f h = h
+
+-- the fronts of a second part, where the first may end
+pub ends_given : {E : Type 0} (agent : Agent) (p : Prog) (fs : List Front) (end : Cond) (result : Result (List Front) E) → IsEnd agent p end
+    → IfOk result (λ hs. hs ≡ map (front_where end) fs) → IfOk result (AreWhereEnds agent p fs)
+ends_given agent p fs end (Ok hs) is h = record { end = end; is = is; same = h }
+ends_given agent p fs end (Err e) is h = h
+
+-- the fronts of a sequence, each part's given by a call
+pub seq_given : {E : Type 0} (agent : Agent) → IsGuarded agent → (p q : Prog) (fs hs : List Front) → AreFronts agent p (guarded fs) → AreFronts agent q (guarded hs)
+    → (one other result : Result (List Front) E) (xs ys : List Front) → one ≡ Ok xs → other ≡ Ok ys
+    → IfOk one (λ z. z ≡ map (front_in (λ l. tidy_seq l q)) fs) → IfOk other (AreWhereEnds agent p hs) → IfOk result (λ z. z ≡ xs ++ ys)
+    → IfOk result (λ z. AreFronts agent (prog.Seq p q) (guarded z))
+seq_given {E = E} agent g p q fs hs a b one other result xs ys e k h w is =
+    let first : xs ≡ map (front_in (λ l. tidy_seq l q)) fs = subst (λ (r : Result (List Front) E). IfOk r (λ z. z ≡ map (front_in (λ l. tidy_seq l q)) fs)) e h in
+    let second : AreWhereEnds agent p hs ys = subst (λ (r : Result (List Front) E). IfOk r (AreWhereEnds agent p hs)) k w in
+    fronts_give agent (prog.Seq p q) (xs ++ ys) result is
+    (subst (λ (z : List Front). AreFronts agent (prog.Seq p q) (guarded z)) (sym (ap (λ (z : List Front). z ++ ys) first ∙ ap (λ (z : List Front). map (front_in (λ l. tidy_seq l q)) fs ++ z) second.same))
+    (seq_fronts agent g p q fs hs a b second.end second.is))
+
+-- what is said of a list of fronts, of one that equals it, and of a program that equals the other
+pub fronts_as : (agent : Agent) (r q : Prog) → r ≡ q → (fs hs : List Front) → fs ≡ hs → AreFronts agent q (guarded hs) → AreFronts agent r (guarded fs)
+fronts_as agent r q e fs hs k h = subst (λ (z : Prog). AreFronts agent z (guarded fs)) (sym e) (subst (λ (z : List Front). AreFronts agent q (guarded z)) (sym k) h)
+
+pub fronts_given_as : {E : Type 0} (agent : Agent) (r q : Prog) → r ≡ q → (result : Result (List Front) E)
+    → IfOk result (λ fs. AreFronts agent q (guarded fs)) → IfOk result (λ fs. AreFronts agent r (guarded fs))
+fronts_given_as agent r q e result h = subst (λ (z : Prog). IfOk result (λ fs. AreFronts agent z (guarded fs))) (sym e) h
+
+-- the fronts of two programs, each given by a call
+pub both_given : {E : Type 0} (agent : Agent) (p q : Prog) (one other : Result (List Front) E)
+    → IfOk one (λ fs. AreFronts agent p (guarded fs)) → IfOk other (λ fs. AreFronts agent q (guarded fs))
+    → (result : Result (List Front × List Front) E) → IfOk result (λ pair. (one ≡ Ok pair.0) × (other ≡ Ok pair.1)) → IfOk result (λ pair. AreBothFronts agent p q pair.0 pair.1)
+both_given {E = E} agent p q one other h k (Ok pair) e = record {
+  one = subst (λ (r : Result (List Front) E). IfOk r (λ fs. AreFronts agent p (guarded fs))) e.0 h;
+  other = subst (λ (r : Result (List Front) E). IfOk r (λ fs. AreFronts agent q (guarded fs))) e.1 k;
+}
+both_given agent p q one other h k (Err x) e = e

@@ -1,0 +1,85 @@
+-- A program for some constant of a sort, the constants being tried one by one.
+use Rattle.std.proofs.Common.{◌≡◌, ℕ, suc, ◌+◌, ◌-◌, ◌<◌, ◌≤◌, Bool, true, false, ◌||◌, refl, sym, ap, ◌∙◌, arith}
+use Rattle.std.specs.List.{list_any, range_with_len}
+use Rattle.golog_tree.specs.declared.agent.Agent.{Agent}
+use Rattle.golog_tree.specs.declared.cond.Truth.{Truth}
+use Rattle.golog_tree.specs.declared.cond.Truth.TheVariants.{No}
+use Rattle.golog_tree.specs.declared.prog.Prog.{Prog}
+use Rattle.golog_tree.specs.declared.prog.Prog.TheOpen.{Pick}
+use Rattle.golog_tree.specs.declared.prog.Prog.TheVariants as prog
+use Rattle.golog_tree.specs.Ground.{sort_size}
+use Rattle.golog_semantics.specs.declared.Mode.{Mode}
+use Rattle.golog_semantics.specs.Modes.{holds}
+use Rattle.golog_semantics.specs.Truth.{Values, either}
+use Rattle.golog_semantics.specs.Program.{put_arg}
+use Rattle.golog_semantics.specs.Search.{final}
+use Rattle.golog_semantics.specs.Guarded.{IsGuarded}
+use Rattle.golog_ways.specs.declared.outlook.Outlook.{Outlook}
+use Rattle.golog_ways.specs.First.{has_way}
+use Rattle.golog_ways.specs.Outlook.{IsOutlook, choice_of}
+use Rattle.golog_ways.proofs.Steps.{final-by, any-by}
+use Rattle.golog_semantics.proofs.FrontLaws.{holds-either, holds-no}
+
+-- one of the constants from this one on
+abbrev from : (ℕ → Bool) → ℕ → ℕ → Bool
+from f i n = list_any f (range_with_len i (n - i))
+
+from-next : (f : ℕ → Bool) (i n : ℕ) → i < n → from f i n ≡ (f i || from f (i + 1) n)
+from-next f i n h =
+    let e : n - i ≡ suc (n - (i + 1)) = omega arith in
+    rw e refl
+
+from-end : (f : ℕ → Bool) (i n : ℕ) → n ≤ i → from f i n ≡ false
+from-end f i n h =
+    let e : n - i ≡ 0 = omega arith in
+    rw e refl
+
+or_assoc : (a b c : Bool) → (a || (b || c)) ≡ ((a || b) || c)
+or_assoc true b c = refl
+or_assoc false b c = refl
+
+or_none : (a b : Bool) → b ≡ false → (a || b) ≡ a
+or_none true b e = refl
+or_none false b e = e
+
+-- what is found so far or still to be tried decides
+abbrev SoFar : (ℕ → Bool) → ℕ → ℕ → Bool → Type 0
+SoFar f i n found = list_any f (range_with_len 0 n) ≡ (found || from f i n)
+
+none-yet : (f : ℕ → Bool) (n : ℕ) (m : Mode) → SoFar f 0 n (holds m No)
+none-yet f n m = let e : n - 0 ≡ n = omega arith in rw (holds-no m, e) refl
+
+one-more : (f : ℕ → Bool) (i n : ℕ) (m : Mode) (a b : Truth) → i < n → holds m b ≡ f i → SoFar f i n (holds m a) → SoFar f (i + 1) n (holds m (either a b))
+one-more f i n m a b l e h =
+    h ∙ ap (λ z. holds m a || z) (from-next f i n l) ∙ or_assoc (holds m a) (f i) (from f (i + 1) n)
+    ∙ ap (λ z. z || from f (i + 1) n) (ap (λ z. holds m a || z) (sym e) ∙ sym (holds-either m a b))
+
+at-end : (f : ℕ → Bool) (i n : ℕ) (found : Bool) → n ≤ i → SoFar f i n found → found ≡ list_any f (range_with_len 0 n)
+at-end f i n found l h = sym (h ∙ or_none found (from f i n) (from-end f i n l))
+
+module _ (agent : Agent) (values : Values) (x sort : ℕ) (p : Prog) where
+  abbrev may_end : Mode → ℕ → Bool
+  may_end m c = final agent values m (put_arg p x c)
+
+  abbrev may_step : Mode → ℕ → Bool
+  may_step m c = has_way agent values m (put_arg p x c)
+
+  -- the outlook for the constants before this one
+  pub record SomeSoFar (i : ℕ) (o : Outlook) : Type 0 where
+    pub ends : (m : Mode) → SoFar (may_end m) i (sort_size agent sort) (holds m o.ends)
+    pub steps : (m : Mode) → SoFar (may_step m) i (sort_size agent sort) (holds m o.steps)
+
+  pub some_none : SomeSoFar 0 (record { ends = No; steps = No })
+  some_none = record { ends = λ m. none-yet (may_end m) (sort_size agent sort) m; steps = λ m. none-yet (may_step m) (sort_size agent sort) m }
+
+  pub some_more : (i : ℕ) (o k : Outlook) → i < sort_size agent sort → IsOutlook agent values (put_arg p x i) k → SomeSoFar i o → SomeSoFar (i + 1) (choice_of o k)
+  some_more i o k l h s = record {
+    ends = λ m. one-more (may_end m) i (sort_size agent sort) m o.ends k.ends l (h.ends m) (s.ends m);
+    steps = λ m. one-more (may_step m) i (sort_size agent sort) m o.steps k.steps l (h.steps m) (s.steps m);
+  }
+
+  pub pick_is : IsGuarded agent → (i : ℕ) (o : Outlook) → sort_size agent sort ≤ i → SomeSoFar i o → IsOutlook agent values (prog.Pick x sort p) o
+  pick_is g i o l s = record {
+    ends = λ m. at-end (may_end m) i (sort_size agent sort) (holds m o.ends) l (s.ends m) ∙ sym (final-by agent values g m (prog.Pick x sort p) (Pick x sort p) (prog.outs-Pick x sort p));
+    steps = λ m. at-end (may_step m) i (sort_size agent sort) (holds m o.steps) l (s.steps m) ∙ sym (any-by agent values g m (prog.Pick x sort p) (Pick x sort p) (prog.outs-Pick x sort p));
+  }

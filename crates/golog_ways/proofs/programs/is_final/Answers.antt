@@ -1,0 +1,13 @@
+use Rattle.std.proofs.Common.{◌≡◌, ℕ, List, IfOk, length, ap, ◌∙◌, subst}
+use Rattle.golog_semantics.specs.Search.{final}
+use Rattle.golog_ways.proofs.WellFormedFits.{well_formed_fits}
+use Rattle.golog_ways.proofs.programs.is_final.Goals as goal
+
+pub can_end-requires-clause-fit : goal.can_end-requires-clause-fit
+can_end-requires-clause-fit c = well_formed_fits c.args.agent.now c.requires.agent
+
+pub can_end-requires-clause-whole : goal.can_end-requires-clause-whole
+can_end-requires-clause-whole c = ap length c.values.ensures ∙ c.requires.sorts.whole
+
+pub returns : goal.returns
+returns c = subst (λ (v : List ℕ). IfOk c.can_end.result (λ b. b ≡ final c.args.agent.now v c.args.mode c.args.prog.now)) c.values.ensures c.can_end.ensures

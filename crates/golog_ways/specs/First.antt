@@ -1,0 +1,37 @@
+-- The first certain step of a program, and whether it has a step in a mode.
+use Rattle.std.specs.Prelude.{ℕ, Bool, not, Option, Some, None, List, [], ◌∷◌}
+use Rattle.std.specs.Option.{option_or, option_map}
+use Rattle.golog_tree.specs.declared.agent.Agent.{Agent}
+use Rattle.golog_tree.specs.declared.prog.Prog.{Prog}
+use Rattle.golog_tree.specs.declared.prog.Way.{Way}
+use Rattle.golog_semantics.specs.declared.Mode.{Mode}
+use Rattle.golog_semantics.specs.declared.Mode.TheVariants.{Must}
+use Rattle.golog_semantics.specs.Truth.{Values}
+use Rattle.golog_semantics.specs.Ways.{is_empty}
+use Rattle.golog_semantics.specs.Search.{plain_ways}
+
+-- the first item, where there is one
+abbrev pub head_of : {A : Type 0} → List A → Option A
+head_of [] = None
+head_of (x ∷ xs) = Some x
+
+-- the first of the certain steps
+unfoldable pub first_way : Agent → Values → Prog → Option Way
+first_way agent values p = head_of (plain_ways agent values Must p)
+
+-- whether the program has a step in a mode
+unfoldable pub has_way : Agent → Values → Mode → Prog → Bool
+has_way agent values m p = not (is_empty (plain_ways agent values m p))
+
+-- a step with its left put into a context
+abbrev pub way_in : (Prog → Prog) → Way → Way
+way_in context w = record { label = w.label; left = context w.left }
+
+-- the same, where there is a step
+abbrev pub first_in : (Prog → Prog) → Option Way → Option Way
+first_in context w = option_map (way_in context) w
+
+-- the first that is there for these constants
+abbrev pub first_among : (ℕ → Option Way) → List ℕ → Option Way
+first_among f [] = None
+first_among f (c ∷ cs) = option_or (f c) (first_among f cs)

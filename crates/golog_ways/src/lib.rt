@@ -1,0 +1,27 @@
+//! When a program may end, and its steps.
+#![tactic(auto)]
+
+mod blocks;
+mod bodies;
+mod combining;
+mod conditions;
+mod context;
+mod ending;
+mod front_lists;
+mod laws;
+mod laying;
+mod looking;
+mod modes;
+mod opening;
+mod outlook;
+mod programs;
+mod single;
+mod step;
+
+pub use blocks::has_front_block;
+pub use ending::end_cond;
+pub use front_lists::Front;
+pub use laws::well_formed_is_fit;
+pub use modes::{flip, holds};
+pub use opening::fronts;
+pub use programs::{any, first, is_final};

@@ -1,0 +1,65 @@
+ghost use Rattle.std.specs.Prelude.{◌≡◌, IfOk};
+ghost use Rattle.golog_semantics.specs.Search.{final};
+ghost use Rattle.golog_semantics.specs.SortLaws.{AreInSorts};
+ghost use Rattle.golog_semantics.specs.WellFormed.{WellFormed};
+ghost use Rattle.golog_ways.specs.Closed.{IsClosed};
+ghost use Rattle.golog_ways.specs.First.{first_way, has_way};
+
+use crate::looking::{can_end, can_step};
+use crate::step::first_step;
+use golog_base::NoMemory;
+use golog_progress::State;
+use golog_semantics::Mode;
+use golog_tree::{Agent, Prog, Way};
+use std::alloc::Global;
+
+/// Whether a program may end in a state, in the mode. `NoMemory` where none is left for the bodies of
+/// picks and calls, with constants put in.
+pub fn is_final(
+    alloc: Global,
+    agent: &Agent,
+    mode: Mode,
+    prog: &Prog,
+    state: &State,
+) -> Result<bool, NoMemory>
+    requires agent { WellFormed agent.now }
+    requires program { IsClosed agent.now prog.now }
+    requires sorts { AreInSorts agent.now state.now }
+    ensures { IfOk result (λ b. b ≡ final agent.now state.now mode prog.now) }
+{
+    can_end(alloc, agent, mode, prog, state.values())
+}
+
+/// The first certain step of a program in a state, found without listing the others: `None` exactly where
+/// no step is certain. `NoMemory` where none is left for the bodies of picks and calls, or for what the step
+/// leaves.
+pub fn first(
+    alloc: Global,
+    agent: &Agent,
+    prog: &Prog,
+    state: &State,
+) -> Result<Option<Way>, NoMemory>
+    requires agent { WellFormed agent.now }
+    requires program { IsClosed agent.now prog.now }
+    requires sorts { AreInSorts agent.now state.now }
+    ensures way { IfOk result (λ w. w ≡ first_way agent.now state.now prog.now) }
+{
+    first_step(alloc, agent, prog, state.values())
+}
+
+/// Whether a program has a step in a state, in the mode. `NoMemory` where none is left for the bodies of
+/// picks and calls, with constants put in.
+pub fn any(
+    alloc: Global,
+    agent: &Agent,
+    mode: Mode,
+    prog: &Prog,
+    state: &State,
+) -> Result<bool, NoMemory>
+    requires agent { WellFormed agent.now }
+    requires program { IsClosed agent.now prog.now }
+    requires sorts { AreInSorts agent.now state.now }
+    ensures way { IfOk result (λ b. b ≡ has_way agent.now state.now mode prog.now) }
+{
+    can_step(alloc, agent, mode, prog, state.values())
+}
