@@ -1,0 +1,5 @@
+pub mod Blockless
+pub mod Runless
+pub mod LeftBlockless
+pub mod Answering
+pub mod Choosing

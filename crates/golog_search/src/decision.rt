@@ -1,0 +1,27 @@
+use golog_semantics::Move;
+
+/// What a program does next.
+#[derive(Drop)]
+pub enum Decision {
+    /// It ends: that it may end is certain.
+    Final,
+    /// It takes this step.
+    Step(Move),
+    /// It has no certain step or end.
+    Blocked(Blocked),
+    /// A search block needs more fuel than it has.
+    Fuel,
+    /// What its step leaves nests too deep.
+    Deep,
+}
+
+/// Why a program has no certain step or end.
+#[derive(Clone, Copy, Debug, PartialEq, Eq)]
+pub enum Blocked {
+    /// It might step or end, were more known.
+    Unknown,
+    /// A step is possible only beyond what the searches looked at.
+    Depth,
+    /// No step and no end is possible.
+    Stuck,
+}
