@@ -1,7 +1,6 @@
 -- Bytes that spell an agent are not refused.
-use Rattle.std.proofs.Common.{◌≡◌, ℕ, ◌+◌, ◌≤◌, ◌<◌, ◌^◌, ◌⊎◌, Bool, true, false, ◌||◌, List, [], length, refl, sym, ap, ◌∙◌, subst, arith, inl, inr, Option, Some, None, Result, Ok, Err, get_or}
-use Rattle.std.specs.Prelude.{is_none, unwrap_or, Contains}
-use Rattle.std.specs.List.{list_any}
+use Rattle.std.proofs.Common.{◌≡◌, ℕ, zero, suc, ◌+◌, ◌≤◌, ◌<◌, ◌^◌, ◌⊎◌, Bool, true, false, ◌||◌, List, [], ◌∷◌, length, refl, sym, ap, ◌∙◌, subst, arith, inl, inr, Option, Some, None, Result, Ok, Err, get_or}
+use Rattle.std.specs.List.{list_all}
 use Rattle.golog_form.specs.declared.form.Form.{Form}
 use Rattle.golog_form.specs.declared.fault.FormFault.TheVariants.{Refused as FormRefused}
 use Rattle.golog_form.specs.Gives.{Fault}
@@ -14,13 +13,14 @@ use Rattle.golog_form.proofs.Only.{only}
 use Rattle.golog_tree.specs.declared.agent.Agent.{Agent}
 use Rattle.golog_tree.specs.declared.draft.DraftTheory.{DraftTheory}
 use Rattle.golog_tree.specs.declared.draft.DraftProgram.{DraftProgram}
-use Rattle.golog_tree.specs.declared.draft_prog.DraftProg.TheVariants.{Nil}
-use Rattle.golog_theory.specs.Heads.{arguments}
+use Rattle.golog_semantics.specs.Reading.{Row, first, refusal_in, Reading}
 use Rattle.golog_theory.specs.Items.{theory_of}
-use Rattle.golog_check.specs.Least.{CodeAt, IsLeast}
-use Rattle.golog_check.specs.Check.{all_refusals}
-use Rattle.golog_agent.specs.Main.{alone, is_later, program_in, is_unbuilt, checked_program}
-use Rattle.golog_agent.specs.Spelled.{ItemsSpell, ItemsRefuse, of_check, of_stage, FormSpells, FormRefuses, of_theory, of_items, SpellsForm, SpellsAgent, IsFirstRefusal, of_bytes, of_form}
+use Rattle.golog_theory.specs.Order.{IsLeast}
+use Rattle.golog_theory.proofs.Chain.{none-fits}
+use Rattle.golog_prog.specs.Items.{program_of}
+use Rattle.golog_check.specs.Order.{all_rows, fits_not}
+use Rattle.golog_agent.specs.Built.{is_unbuilt}
+use Rattle.golog_agent.specs.Spelled.{DraftSpells, DraftRefuses, of_check, of_stage, FormSpells, FormRefuses, of_theory, of_program, of_draft, SpellsForm, SpellsAgent, IsFirstRefusal, of_bytes, of_form}
 
 -- ---- forms
 
@@ -40,32 +40,40 @@ one-form bytes one other s t = let e : Ok one ≡ Ok other = sym (parsed bytes o
 unfit : (bytes : List ℕ) (form : Form) → SpellsForm bytes form → (at why : ℕ) → Fits bytes at why → ⊥
 unfit bytes form s = (answer bytes (Ok form) s.small (parsed bytes form s.spelled)).1
 
--- ---- items
+-- ---- the stages of a form that is read
 
-no-least : (code at : ℕ) (refusals : List CodeAt) → refusals ≡ [] → IsLeast code at refusals → ⊥
-no-least code at refusals e h =
-    let place = h.among in
-    let k = ap length e in
-    absurd (omega arith)
+-- where rows were read to a value, none fits
+unfit-rows : {A : Type 0} (reading : Reading A) (x : A) → reading.outcome ≡ Ok x → (code at : ℕ) → IsLeast reading.rows code at → ⊥
+unfit-rows reading x e code at h =
+    let c = h.fits in
+    none-fits reading.rows (reading.agrees ∙ ap refusal_in e) code at c.0 c.1 c.2
 
-module _ (theory : DraftTheory) (items : List Form) (agent : Agent) (s : ItemsSpell theory items agent) where
-  checked-is : checked_program theory items ≡ s.program
-  checked-is = ap (λ p. unwrap_or p (alone (Nil 0) 0)) s.main
+none-checked : (rows : List Row) → list_all fits_not rows ≡ true → (code at k : ℕ) → k < length rows → get_or rows k (true, code, at) ≡ (true, code, at) → ⊥
+none-checked [] h code at k lt is = omega arith
+none-checked ((true, code', at') ∷ rows) h code at k lt is = cc
+none-checked ((false, code', at') ∷ rows) h code at zero lt is = let wrong : false ≡ true = ap (λ (r : Row). r.0) is in cc
+none-checked ((false, code', at') ∷ rows) h code at (suc k) lt is = none-checked rows h code at k (omega arith) is
 
-  is-built : is_unbuilt theory items ≡ false
-  unfolding is_unbuilt
-  is-built = ap (λ b. b || is_none (program_in theory items)) s.built ∙ ap (λ (o : Option DraftProgram). is_none o) s.main
+draft-excluded : (theory : DraftTheory) (program : DraftProgram) (agent : Agent) → DraftSpells theory program agent → (code at : ℕ) → DraftRefuses theory program code at → ⊥
+draft-excluded theory program agent s _ _ (of_check code at least) = let c = least.0 in none-checked (all_rows theory program) s.unrefused code at c.0 c.1 c.2
+draft-excluded theory program agent s _ _ (of_stage none unbuilt) = let k : false ≡ true = sym s.built ∙ ap is_unbuilt s.is ∙ unbuilt in cc
 
-  items-excluded : (code at : ℕ) → ItemsRefuse theory items code at → ⊥
-  items-excluded _ _ (of_check code at least) = no-least code at (all_refusals theory (checked_program theory items)) (ap (all_refusals theory) checked-is ∙ s.unrefused) least
-  items-excluded _ _ (of_stage none unbuilt) = let k : false ≡ true = sym is-built ∙ unbuilt in cc
+theory-same : (form : Form) (one other : DraftTheory) → (theory_of form).outcome ≡ Ok one → (theory_of form).outcome ≡ Ok other → one ≡ other
+theory-same form one other e h = let k : Ok one ≡ Ok other = sym e ∙ h in cc
+
+program-same : (form : Form) (theory : DraftTheory) (one other : DraftProgram) → (program_of theory form).outcome ≡ Ok one → (program_of theory form).outcome ≡ Ok other → one ≡ other
+program-same form theory one other e h = let k : Ok one ≡ Ok other = sym e ∙ h in cc
 
 form-excluded : (form : Form) (agent : Agent) → FormSpells form agent → (code at : ℕ) → FormRefuses form code at → ⊥
-form-excluded form agent s _ _ (of_theory code at e) = let k : Ok s.theory ≡ Err (code, at) = sym s.read ∙ e in cc
-form-excluded form agent s _ _ (of_items code at theory e refuses) =
-    let k : Ok s.theory ≡ Ok theory = sym s.read ∙ e in
-    let same : s.theory ≡ theory = cc in
-    items-excluded theory (arguments form) agent (subst (λ t. ItemsSpell t (arguments form) agent) same s.items) code at refuses
+form-excluded form agent s _ _ (of_theory code at h) = unfit-rows (theory_of form) s.theory s.read.theory_read code at h
+form-excluded form agent s _ _ (of_program code at theory e h) =
+    let same = theory-same form s.theory theory s.read.theory_read e in
+    unfit-rows (program_of theory form) s.program (subst (λ t. (program_of t form).outcome ≡ Ok s.program) same s.read.program_read) code at h
+form-excluded form agent s _ _ (of_draft code at theory program read refuses) =
+    let same = theory-same form s.theory theory s.read.theory_read read.theory_read in
+    let spells = subst (λ t. DraftSpells t s.program agent) same s.draft in
+    let one = program-same form theory s.program program (subst (λ t. (program_of t form).outcome ≡ Ok s.program) same s.read.program_read) read.program_read in
+    draft-excluded theory program agent (subst (λ p. DraftSpells theory p agent) one spells) code at refuses
 
 pub excluded : (bytes : List ℕ) (agent : Agent) → SpellsAgent bytes agent → (code at : ℕ) → IsFirstRefusal bytes code at → ⊥
 excluded bytes agent s _ _ (of_bytes code at (inl long)) = let small = s.bytes_spell.small in absurd (omega (arith, long.0, small))

@@ -1,377 +1,453 @@
--- A run of a simple program: each certain step goes on with it, and it ends where no step is left or the next is not
--- certain.
-use Rattle.std.proofs.Common.{◌≡◌, ℕ, zero, suc, ◌+◌, ◌≤◌, ◌<◌, ◌⊎◌, Bool, true, false, not, ◌&&◌, ◌||◌, List, [], ◌∷◌, ◌++◌, length, refl, sym, ap, ◌∙◌, subst, arith, inl, inr, Option, Some, None, length-append}
-use Rattle.std.specs.Prelude.{nat_le, Result, Ok, Err, IfOk, IfSome, fold}
+-- How a program under way goes on with one more step, and how it ends.
+use Rattle.std.proofs.Common.{◌≡◌, ℕ, ◌+◌, ◌≤◌, ◌<◌, ◌⊎◌, inl, inr, Bool, true, false, not, ◌&&◌, ◌||◌, if◌then◌else◌, List, [], ◌∷◌, ◌++◌, length, refl, sym, ap, ◌∙◌, subst, arith, Option, Some, None, length-append}
+use Rattle.std.specs.Prelude.{nat_le, nat_lt, Result, Ok, Err, IfOk, Contains, option_and_then, slice_get}
 use Rattle.std.specs.List.{list_any, list_all, range_with_len}
-use Rattle.std.proofs.lemmas.Bool.{le-leb}
-use Rattle.std.proofs.lemmas.List.{append-nil}
+use Rattle.std.specs.Option.{option_map_or}
+use Rattle.std.proofs.lemmas.Bool.{cases_lt, lt-ltb, le-leb, lt-leb, eq-eqb}
+use Rattle.std.proofs.lemmas.List.Sums.{sum_by-cons}
+use Rattle.std.proofs.lemmas.List.Elements.{Contains-push, Contains-append_left}
+use Rattle.std.proofs.lemmas.Option.{slice_get_within}
 use Rattle.golog_base.specs.declared.memory.NoMemory.{NoMemory}
 use Rattle.golog_tree.specs.declared.agent.Agent.{Agent}
-use Rattle.golog_tree.specs.declared.cond.Truth.{Truth}
-use Rattle.golog_tree.specs.declared.cond.Truth.TheVariants.{Yes, No, Unknown}
+use Rattle.golog_tree.specs.declared.agent.ActionItem.{ActionItem}
+use Rattle.golog_tree.specs.declared.prog.Prog.{Prog}
 use Rattle.golog_tree.specs.declared.prog.Label.{Label}
 use Rattle.golog_tree.specs.declared.prog.Label.TheVariants.{Quiet, Do as Doing}
-use Rattle.golog_tree.specs.declared.prog.Prog.{Prog}
-use Rattle.golog_tree.specs.declared.prog.Prog.TheOpen.{Nil, Seq}
-use Rattle.golog_tree.specs.declared.prog.Prog.TheVariants as prog
-use Rattle.golog_tree.specs.declared.prog.Prog.TheViews.{out-Prog}
-use Rattle.golog_tree.specs.Tidy.{Layer}
-use Rattle.golog_semantics.specs.declared.Mode.{Mode}
+use Rattle.golog_tree.specs.Ground.{Ground, ground_actions}
+use Rattle.golog_tree.specs.Nest.{nest}
 use Rattle.golog_semantics.specs.declared.Mode.TheVariants.{Must, May, Near}
+use Rattle.golog_semantics.specs.declared.search.Move.{Move}
 use Rattle.golog_semantics.specs.declared.journal.Entry.{Entry}
-use Rattle.golog_semantics.specs.declared.journal.Entry.TheVariants.{Do, Test as Tested, Exo, Sense, Rest, Close, End}
+use Rattle.golog_semantics.specs.declared.journal.Entry.TheVariants.{Do, Test, Exo, Sense, Rest, Close, End}
 use Rattle.golog_semantics.specs.declared.journal.Answer.{Answer}
 use Rattle.golog_semantics.specs.declared.journal.Answer.TheVariants as answer
 use Rattle.golog_semantics.specs.declared.journal.Report.{Report}
-use Rattle.golog_semantics.specs.Modes.{holds}
-use Rattle.golog_semantics.specs.Ways.{plain_move, only_if}
-use Rattle.golog_semantics.specs.Search.{final}
+use Rattle.golog_semantics.specs.declared.journal.Why.TheVariants as why
+use Rattle.golog_semantics.specs.Search.{final, nest_limit}
 use Rattle.golog_semantics.specs.Blocks.{moves}
-use Rattle.golog_semantics.specs.Journal.{Journal, is_open, has_end}
-use Rattle.golog_semantics.specs.Progress.{after_entry, left_at, left_after}
-use Rattle.golog_semantics.specs.Answer.{answer_at}
+use Rattle.golog_semantics.specs.BlockFree.{has_block}
+use Rattle.golog_semantics.specs.Same.{same_label, same_run}
+use Rattle.golog_semantics.specs.Ways.{is_empty}
+use Rattle.golog_semantics.specs.Journal.{Journal, action_item, count, has_end, is_close, is_counted, is_end, is_full, is_open, is_quiet, is_settled, limit}
+use Rattle.golog_semantics.specs.Progress.{after_entry, values_after, left_at, left_by, left_after}
+use Rattle.golog_semantics.specs.Answer.{answer_after, answer_at, first_that_fits, is_deep, is_unanswered}
 use Rattle.golog_semantics.specs.Text.{at_each}
-use Rattle.golog_semantics.specs.Reports.{IsReport, fits_entry, fits_label, place_limit}
-use Rattle.golog_semantics.specs.Guarded.{IsGuarded}
-use Rattle.golog_semantics.specs.ProgFits.{Position, outermost, prog_step, way_step, fits}
-use Rattle.golog_semantics.specs.SortLaws.{AreInSorts}
-use Rattle.golog_semantics.proofs.ByParts as parts
+use Rattle.golog_semantics.specs.Reports.{IsReport, fits_entry, fits_label, is_own, place_limit}
+use Rattle.golog_semantics.specs.ProgFits.{fits}
+use Rattle.golog_semantics.specs.SortLaws.{AreInSorts, ResultsFit}
 use Rattle.golog_semantics.specs.WellFormed.{WellFormed}
-use Rattle.golog_semantics.specs.OneMore.{with_runs}
-use Rattle.golog_semantics.specs.Online.{label_of, may_end, same_answer}
-use Rattle.golog_semantics.proofs.Words.{and-left, and-right}
-use Rattle.golog_semantics.proofs.Pushed.{values_after-push, left_after-push, at_each-push, online-push}
+use Rattle.golog_semantics.specs.OneMore.{with_runs, WaitsForNothing}
+use Rattle.golog_semantics.specs.Online.{IsOnlineSoFar, fault_among, fault_at, first_fault, is_first, is_whole, label_of, may_end, may_step, run_of, rules_at, same_answer}
+use Rattle.golog_semantics.proofs.BlocksFit.{moves-fit}
+use Rattle.golog_semantics.proofs.CausesKeep.{values_stay_in_sorts}
 use Rattle.golog_semantics.proofs.Grown.{entries_grow}
-use Rattle.golog_semantics.proofs.LaterRuns.{whole_is_online}
-use Rattle.golog_agent.specs.Simple.{IsSimple, is_part_layer, is_part, in_order}
-use Rattle.golog_agent.specs.Stepping.{part_truth, part_entries, answer_before}
-use Rattle.golog_agent.specs.Run.{is_step_entry, IsPlainAnswer, IsRun}
-use Rattle.golog_agent.proofs.Shapes.{one_move, IsEmptyPart, IsStepPart, BehavesAs, part-is, final-Nil, skip-empty, step-ends, step-first, nest-in_order}
-use Rattle.golog_agent.proofs.Rules.{Running, begins, all-push, values-in-sorts, label-fits, kept-step, kept-end, done-answer, stuck-answer, unknown-answer, left-so}
+use Rattle.golog_semantics.proofs.LaterRuns.{waits_for_nothing, whole_is_online}
+use Rattle.golog_semantics.proofs.LeftFits.{procs_fit, left_after-fits}
+use Rattle.golog_semantics.proofs.NoBlocks.{blockless_steps}
+use Rattle.golog_semantics.proofs.Pushed.{values_after-push, left_after-push, at_each-push, online-push}
+use Rattle.golog_semantics.proofs.StepsFit.{AllFit}
+use Rattle.golog_semantics.proofs.StepsInModes.{plain_steps-ordered}
+use Rattle.golog_semantics.proofs.Words.{and-left, and-right, and-both}
+use Rattle.golog_search.specs.declared.decision.Blocked.{Blocked}
+use Rattle.golog_search.specs.declared.decision.Decision.{Decision}
+use Rattle.golog_search.specs.declared.decision.Decision.TheVariants.{Final, Step, Blocked as Blocking, Fuel, Deep}
+use Rattle.golog_search.specs.Decided.{along, blocked, decision}
+use Rattle.golog_search.specs.Laws.{answer_of}
+use Rattle.golog_search.proofs.Answering.{decided_answered}
+use Rattle.golog_search.proofs.LeftBlockless.{left_blockless, step_blockless}
+use Rattle.golog_agent.specs.declared.running.Run.{Run}
+use Rattle.golog_agent.specs.Built.{IsBuilt}
+use Rattle.golog_agent.specs.Run.{EndsAnswered, IsPlainAnswer, IsRun, is_step_entry}
+use Rattle.golog_agent.specs.UnderWay.{EndsBy, GoesOn, IsUnderWay, entry_for}
 
--- ---- the shapes of programs
+-- ---- journals of steps
 
-seq-layers : (f q : Prog) (p : Prog) (l : Layer) → out-Prog p ≡ l → prog.Seq f q ≡ p → Seq f q ≡ l
-seq-layers f q p l o e = sym (prog.outs-Seq f q) ∙ ap out-Prog e ∙ o
+pub all-push : {A : Type 0} (test : A → Bool) (xs : List A) (x : A) → list_all test xs ≡ true → test x ≡ true → list_all test (xs ++ x ∷ []) ≡ true
+all-push test [] x h k = and-both (test x) true k refl
+all-push test (y ∷ xs) x h k =
+    and-both (test y) (list_all test (xs ++ x ∷ [])) (and-left (test y) (list_all test xs) h) (all-push test xs x (and-right (test y) (list_all test xs) h) k)
 
-seq-nil : (f q : Prog) → prog.Seq f q ≡ prog.Nil → ⊥
-seq-nil f q e = let k = seq-layers f q prog.Nil Nil prog.outs-Nil e in cc
+no_end : (j : Journal) → list_all is_step_entry j ≡ true → has_end j ≡ false
+no_end [] h = refl
+no_end (Do action ∷ j) h = no_end j h
+no_end (Test ∷ j) h = no_end j h
+no_end (Exo poster action ∷ j) h = cc
+no_end (Sense poster place fluent value ∷ j) h = cc
+no_end (Rest poster taken ∷ j) h = cc
+no_end (Close poster reason taken ∷ j) h = cc
+no_end (End answer ∷ j) h = cc
 
-seq-part : (f q x : Prog) → is_part x ≡ true → prog.Seq f q ≡ x → ⊥
-seq-part f q x h e =
-    let k : is_part_layer (Seq f q) ≡ true = ap is_part_layer (seq-layers f q x (out-Prog x) refl e) ∙ h in
-    cc
+-- each step is counted
+all-counted : (j : Journal) → list_all is_step_entry j ≡ true → count j ≡ length j
+all-counted [] h = refl
+all-counted (Do action ∷ j) h = let e = all-counted j h in let k : count (Do action ∷ j) ≡ 1 + count j = sum_by-cons (λ x. if is_counted x then 1 else 0) (Do action) j in omega arith
+all-counted (Test ∷ j) h = let e = all-counted j h in let k : count (Test ∷ j) ≡ 1 + count j = sum_by-cons (λ x. if is_counted x then 1 else 0) Test j in omega arith
+all-counted (Exo poster action ∷ j) h = cc
+all-counted (Sense poster place fluent value ∷ j) h = cc
+all-counted (Rest poster taken ∷ j) h = cc
+all-counted (Close poster reason taken ∷ j) h = cc
+all-counted (End answer ∷ j) h = cc
 
-seq-first : (f q x y : Prog) → prog.Seq f q ≡ prog.Seq x y → f ≡ x
-seq-first f q x y e = let k = seq-layers f q (prog.Seq x y) (Seq x y) (prog.outs-Seq x y) e in cc
+-- no result stands among steps
+results-fit : (agent : Agent) (j : Journal) → list_all is_step_entry j ≡ true → ResultsFit agent j
+results-fit agent [] h = tt
+results-fit agent (Do action ∷ j) h = results-fit agent j h
+results-fit agent (Test ∷ j) h = results-fit agent j h
+results-fit agent (Exo poster action ∷ j) h = cc
+results-fit agent (Sense poster place fluent value ∷ j) h = cc
+results-fit agent (Rest poster taken ∷ j) h = cc
+results-fit agent (Close poster reason taken ∷ j) h = cc
+results-fit agent (End answer ∷ j) h = cc
 
-seq-second : (f q x y : Prog) → prog.Seq f q ≡ prog.Seq x y → q ≡ y
-seq-second f q x y e = let k = seq-layers f q (prog.Seq x y) (Seq x y) (prog.outs-Seq x y) e in cc
+-- ---- the entries of steps
 
--- ---- reports
+label-same : (l : Label) → same_label l l ≡ true
+label-same Quiet = refl
+label-same (Doing a) = eq-eqb a a refl
 
-report_fits : (agent : Agent) (j : Journal) (a : Answer) → list_all (λ fits. fits) (at_each (fits_entry agent) [] j) ≡ true → length j ≤ 1000
-    → IsReport agent (with_runs [] (j ++ End a ∷ []))
-report_fits agent j a h few = record {
-  entries = ap (list_all (λ fits. fits)) (at_each-push (fits_entry agent) j (End a)) ∙ all-push (λ fits. fits) (at_each (fits_entry agent) [] j) true h refl;
-  runs = refl;
-  in_order = refl;
-  in_bounds = le-leb (length (j ++ End a ∷ [])) (place_limit + 1) (let e = length-append j (End a ∷ []) in omega arith);
+for-is-step : (l : Label) → is_step_entry (entry_for l) ≡ true
+for-is-step Quiet = refl
+for-is-step (Doing a) = refl
+
+for-fits : (agent : Agent) (j : Journal) (l : Label) → fits_label agent l ≡ true → fits_entry agent j (entry_for l) ≡ true
+for-fits agent j Quiet h = refl
+for-fits agent j (Doing a) h = h
+
+left-for : (agent : Agent) (values : List ℕ) (p : Prog) (l : Label) → left_at agent values p (entry_for l) ≡ left_by agent p (moves agent values Must p)
+left-for agent values p Quiet = refl
+left-for agent values p (Doing a) = refl
+
+-- an action of the program is one of the ground actions
+owned : (agent : Agent) (a : ℕ) (o : Option Ground) → option_map_or (λ (item : ActionItem). is_empty item.posters) (option_and_then (λ at. slice_get agent.actions at.0) o) false ≡ true
+    → (g : Ground) × (o ≡ Some g)
+owned agent a None h = absurd (cc)
+owned agent a (Some g) h = (g, refl)
+
+pub own-within : (agent : Agent) (a : ℕ) → fits_label agent (Doing a) ≡ true → a < length (ground_actions agent)
+own-within agent a h = let o = owned agent a (slice_get (ground_actions agent) a) h in slice_get_within (ground_actions agent) a o.0 o.1
+
+-- ---- the rules at one more entry
+
+kept-all : (n : ℕ) (after step run ends : Bool) → after ≡ true → step ≡ true → run ≡ true → ends ≡ true
+    → fault_among n ((why.After, after) ∷ (why.Poster, true) ∷ (why.Place, true) ∷ (why.Taken, true) ∷ (why.Step, step) ∷ (why.Run, run) ∷ (why.Answer, ends) ∷ (why.Close, true) ∷ (why.Text, true) ∷ []) ≡ None
+kept-all n true true true true a b c d = refl
+kept-all n false step run ends a b c d = cc
+kept-all n true false run ends a b c d = cc
+kept-all n true true false ends a b c d = cc
+kept-all n true true true false a b c d = cc
+
+not-above : (n k : ℕ) → nat_lt n k ≡ false → k ≤ n
+not-above n k e = go (cases_lt n k)
+  where
+    go : (n < k) ⊎ (k ≤ n) → k ≤ n
+    go (inl low) = absurd (let h = sym e ∙ lt-ltb n k low in cc)
+    go (inr high) = high
+
+-- the first certain step of a program that goes on with it
+record IsFirstStep (agent : Agent) (values : List ℕ) (p : Prog) (step : Move) : Type 0 where
+  pub not_final : final agent values Must p ≡ false
+  pub others : List Move
+  pub first : moves agent values Must p ≡ step ∷ others
+  pub nests : nest step.left ≤ nest_limit
+
+module _ (agent : Agent) (values : List ℕ) (p : Prog) where
+  step-inside : (m : Move) (b : Bool) (ms : List Move) → final agent values Must p ≡ b → moves agent values Must p ≡ ms
+      → (if b then Final else along agent values p ms) ≡ Step m → IsFirstStep agent values p m
+  step-inside m true ms f k e = absurd (cc)
+  step-inside m false [] f k e = absurd (cc)
+  step-inside m false (x ∷ ms) f k e = go (nat_lt nest_limit (nest x.left)) refl
+    where
+      go : (b : Bool) → nat_lt nest_limit (nest x.left) ≡ b → IsFirstStep agent values p m
+      go true k2 = absurd (let h = sym (ap (λ b. if b then Deep else Step x) k2) ∙ e in cc)
+      go false k2 =
+          let h : Step x ≡ Step m = sym (ap (λ b. if b then Deep else Step x) k2) ∙ e in
+          let same : x ≡ m = cc in
+          record {
+            not_final = f;
+            others = ms;
+            first = k ∙ ap (λ y. y ∷ ms) same;
+            nests = subst (λ (y : Move). nest y.left ≤ nest_limit) same (not-above nest_limit (nest x.left) k2);
+          }
+
+  first-step : (m : Move) → decision agent values p ≡ Step m → IsFirstStep agent values p m
+  unfolding decision
+  first-step m e = step-inside m (final agent values Must p) (moves agent values Must p) refl refl e
+
+-- ---- the answers of a program without search blocks
+
+-- none is that it wants fuel
+no-fuel : (a b c d e f g h i : Bool)
+    → first_that_fits
+    ((a, Some answer.Full) ∷ (b, Some answer.Unanswered) ∷ (c, None) ∷ (d, Some answer.Done) ∷ (e, Some answer.Deep) ∷ (f, None) ∷ (g, None) ∷ (h, Some answer.Unknown) ∷ (i, Some answer.Depth) ∷ [])
+    (Some answer.Stuck)
+    ≡ Some answer.Fuel → ⊥
+no-fuel true b c d e f g h i k = absurd (cc)
+no-fuel false true c d e f g h i k = absurd (cc)
+no-fuel false false true d e f g h i k = absurd (cc)
+no-fuel false false false true e f g h i k = absurd (cc)
+no-fuel false false false false true f g h i k = absurd (cc)
+no-fuel false false false false false true g h i k = absurd (cc)
+no-fuel false false false false false false true h i k = absurd (cc)
+no-fuel false false false false false false false true i k = absurd (cc)
+no-fuel false false false false false false false false true k = absurd (cc)
+no-fuel false false false false false false false false false k = absurd (cc)
+
+-- where no result is awaited, and a step that is possible is near, these are left
+plain-of : (full settled ends deep steps quiet near may : Bool) → (near ≡ false → may ≡ false) → (a : Answer)
+    → first_that_fits
+    ((full, Some answer.Full) ∷ (false, Some answer.Unanswered) ∷ (settled, None) ∷ (ends, Some answer.Done) ∷ (deep, Some answer.Deep) ∷ (steps, None) ∷ (quiet, None)
+    ∷ (near, Some answer.Unknown) ∷ (may, Some answer.Depth) ∷ [])
+    (Some answer.Stuck)
+    ≡ Some a
+    → IsPlainAnswer a
+plain-of true settled ends deep steps quiet near may h a k = let e : answer.Full ≡ a = cc in inr (inr (inr (inl (sym e))))
+plain-of false true ends deep steps quiet near may h a k = absurd (cc)
+plain-of false false true deep steps quiet near may h a k = let e : answer.Done ≡ a = cc in inl (sym e)
+plain-of false false false true steps quiet near may h a k = let e : answer.Deep ≡ a = cc in inr (inr (inr (inr (sym e))))
+plain-of false false false false true quiet near may h a k = absurd (cc)
+plain-of false false false false false true near may h a k = absurd (cc)
+plain-of false false false false false false true may h a k = let e : answer.Unknown ≡ a = cc in inr (inr (inl (sym e)))
+plain-of false false false false false false false true h a k = absurd (let e = h refl in cc)
+plain-of false false false false false false false false h a k = let e : answer.Stuck ≡ a = cc in inr (inl (sym e))
+
+neither-near : (steps ends : Bool) → (not steps || ends) ≡ false → steps ≡ true
+neither-near true ends h = refl
+neither-near false ends h = absurd (cc)
+
+module _ (agent : Agent) (j : Journal) (values : List ℕ) (p : Prog) where
+  -- without search blocks, a step that is possible is near
+  all-near : not (has_block agent p) ≡ true → (not (is_empty (moves agent values Near p)) || final agent values Near p) ≡ false → not (is_empty (moves agent values May p)) ≡ false
+  all-near free h =
+      ap (λ ms. not (is_empty ms)) (blockless_steps agent values May p free ∙ sym (plain_steps-ordered agent values p).near_are_possible ∙ sym (blockless_steps agent values Near p free))
+      ∙ ap not (neither-near (is_empty (moves agent values Near p)) (final agent values Near p) h)
+
+  plain-answer : not (has_block agent p) ≡ true → is_unanswered agent j ≡ false → (a : Answer) → answer_at agent j values p ≡ Some a → IsPlainAnswer a
+  plain-answer free u a e =
+      let N = not (is_empty (moves agent values Near p)) || final agent values Near p in
+      let Y = not (is_empty (moves agent values May p)) in
+      plain-of (is_full j) (not (is_settled agent j)) (final agent values Must p) (is_deep (moves agent values Must p)) (not (is_empty (moves agent values Must p))) (not (is_quiet agent j)) N Y
+      (all-near free) a
+      (ap
+      (λ b. first_that_fits
+      ((is_full j, Some answer.Full)
+      ∷ (b, Some answer.Unanswered)
+      ∷ (not (is_settled agent j), None)
+      ∷ (final agent values Must p, Some answer.Done)
+      ∷ (is_deep (moves agent values Must p), Some answer.Deep)
+      ∷ (not (is_empty (moves agent values Must p)), None)
+      ∷ (not (is_quiet agent j), None)
+      ∷ (N, Some answer.Unknown)
+      ∷ (Y, Some answer.Depth)
+      ∷ [])
+      (Some answer.Stuck)) (sym u) ∙ e)
+
+  -- a program may end with its answer
+  may-end : (a : Answer) → answer_at agent j values p ≡ Some a → may_end agent j values p a ≡ true
+  may-end answer.Done e = ap (λ o. same_answer o answer.Done) e
+  may-end answer.Stuck e = ap (λ o. same_answer o answer.Stuck) e
+  may-end answer.Unknown e = ap (λ o. same_answer o answer.Unknown) e
+  may-end answer.Depth e = ap (λ o. same_answer o answer.Depth) e
+  may-end answer.Fuel e =
+      absurd (no-fuel (is_full j) (is_unanswered agent j) (not (is_settled agent j)) (final agent values Must p) (is_deep (moves agent values Must p)) (not (is_empty (moves agent values Must p)))
+      (not (is_quiet agent j)) (not (is_empty (moves agent values Near p)) || final agent values Near p) (not (is_empty (moves agent values May p))) e)
+  may-end answer.Unanswered e = ap (λ o. same_answer o answer.Unanswered) e
+  may-end answer.Full e = ap (λ o. same_answer o answer.Full) e
+  may-end answer.Deep e = ap (λ o. same_answer o answer.Deep) e
+  may-end answer.Memory e = refl
+
+-- ---- runs
+
+pub begins : (agent : Agent) (run : Run) → run.state ≡ agent.starts → run.left ≡ agent.main → run.entries ≡ [] → IsUnderWay agent run
+unfolding IsOnlineSoFar first_fault
+begins agent run v l e = record {
+  online = ap (λ j. first_fault agent None (with_runs [] j)) e;
+  fits = ap (λ j. list_all (λ fits. fits) (at_each (fits_entry agent) [] j)) e;
+  steps = ap (list_all is_step_entry) e;
+  values = v ∙ sym (ap (values_after agent) e);
+  left = l ∙ sym (ap (left_after agent) e);
 }
 
 or-true : (b : Bool) → (b || true) ≡ true
 or-true true = refl
 or-true false = refl
 
-both-so : (a b : Bool) → a ≡ true → b ≡ false → (a && not b) ≡ true
-both-so true false h k = refl
-both-so true true h k = cc
-both-so false b h k = cc
+module _ (agent : Agent) (run : Run) (u : IsUnderWay agent run) where
+  module _ (w : WellFormed agent) where
+    -- each value is of its fluent's sort
+    pub in-sorts : AreInSorts agent run.state
+    in-sorts = subst (AreInSorts agent) (sym u.values) (values_stay_in_sorts agent w run.entries (results-fit agent run.entries u.steps))
 
--- ---- entries and truths
+    -- the program left is the agent's
+    pub left-fits : fits agent run.left ≡ true
+    left-fits = ap (fits agent) u.left ∙ left_after-fits agent w run.entries
 
--- the step of an entry has a label
-one-label : (d : Entry) (q : Prog) → is_step_entry d ≡ true → (l : Label) × (one_move (label_of d) q ≡ plain_move l q ∷ []) × (label_of d ≡ Some l)
-one-label (Do a) q h = (Doing a, refl, refl)
-one-label Tested q h = (Quiet, refl, refl)
-one-label (Exo poster action) q h = cc
-one-label (Sense poster place fluent value) q h = cc
-one-label (Rest poster taken) q h = cc
-one-label (Close poster reason taken) q h = cc
-one-label (End a) q h = cc
+    -- its first certain step is one of the agent's
+    pub label-fits : (step : Move) → decision agent run.state run.left ≡ Step step → fits_label agent step.label ≡ true
+    label-fits step d =
+        let first = first-step agent run.state run.left step d in
+        (subst (AllFit agent false) first.first (moves-fit agent (procs_fit agent w) run.state Must run.left left-fits)).0.label_fits
 
-entry-fits : (agent : Agent) (j : Journal) (d : Entry) (l : Label) → is_step_entry d ≡ true → label_of d ≡ Some l → fits_label agent l ≡ true → fits_entry agent j d ≡ true
-entry-fits agent j (Do a) l h k f = let same : l ≡ Doing a = cc in subst (λ x. fits_label agent x ≡ true) same f
-entry-fits agent j Tested l h k f = refl
-entry-fits agent j (Exo poster action) l h k f = cc
-entry-fits agent j (Sense poster place fluent value) l h k f = cc
-entry-fits agent j (Rest poster taken) l h k f = cc
-entry-fits agent j (Close poster reason taken) l h k f = cc
-entry-fits agent j (End a) l h k f = cc
+  -- it has no search blocks
+  pub left-free : not (has_block agent agent.main) ≡ true → not (has_block agent run.left) ≡ true
+  left-free free = ap (λ p. not (has_block agent p)) u.left ∙ left_blockless agent free run.entries
 
-is-certain : (t : Truth) → answer_before t ≡ None → t ≡ Yes
-is-certain Yes k = refl
-is-certain No k = cc
-is-certain Unknown k = cc
+  rules-so : (e : Entry) → fault_among (length run.entries) (rules_at agent run.entries [] None run.state run.left e) ≡ None → fault_at agent None [] run.entries e ≡ None
+  rules-so e h =
+      ap (λ v. fault_among (length run.entries) (rules_at agent run.entries [] None v (left_after agent run.entries) e)) (sym u.values)
+      ∙ ap (λ q. fault_among (length run.entries) (rules_at agent run.entries [] None run.state q e)) (sym u.left)
+      ∙ h
 
--- ---- programs that fit
+  after-so : (e : Entry) → (not (has_end run.entries) || is_close e) ≡ true
+  after-so e = ap (λ b. not b || is_close e) (no_end run.entries u.steps)
 
-abbrev Fits : Type 0
-Fits = Position → Bool
+  -- the answer of the entries is that at these values and the program left
+  answered-so : (o : Option Answer) → answer_at agent run.entries run.state run.left ≡ o → answer_after agent run.entries ≡ o
+  unfolding answer_after
+  answered-so o e =
+      ap (λ v. answer_at agent run.entries v (left_after agent run.entries)) (sym u.values) ∙ ap (answer_at agent run.entries run.state) (sym u.left) ∙ e
 
-nil-fits : (agent : Agent) → fits agent prog.Nil ≡ true
-nil-fits agent = ap (λ (f : Fits). f outermost) (parts.fold-nil Fits Fits (prog_step agent) (way_step agent))
+  answered-at : (o : Option Answer) → answer_after agent run.entries ≡ o → answer_at agent run.entries run.state run.left ≡ o
+  unfolding answer_after
+  answered-at o e =
+      ap (λ v. answer_at agent run.entries v run.left) u.values ∙ ap (answer_at agent run.entries (values_after agent run.entries)) u.left ∙ e
 
-seq-fits : (agent : Agent) (p q : Prog) → fits agent (prog.Seq p q) ≡ true → (fits agent p && fits agent q) ≡ true
-seq-fits agent p q h = sym (ap (λ (f : Fits). f outermost) (parts.fold-seq Fits Fits (prog_step agent) (way_step agent) p q)) ∙ h
+  -- where the journal is full, that is the answer
+  pub full-answer : limit ≤ length run.entries → answer_after agent run.entries ≡ Some answer.Full
+  full-answer h =
+      answered-so (Some answer.Full)
+      (ap
+      (λ b. first_that_fits
+      ((b, Some answer.Full)
+      ∷ (is_unanswered agent run.entries, Some answer.Unanswered)
+      ∷ (not (is_settled agent run.entries), None)
+      ∷ (final agent run.state Must run.left, Some answer.Done)
+      ∷ (is_deep (moves agent run.state Must run.left), Some answer.Deep)
+      ∷ (not (is_empty (moves agent run.state Must run.left)), None)
+      ∷ (not (is_quiet agent run.entries), None)
+      ∷ (not (is_empty (moves agent run.state Near run.left)) || final agent run.state Near run.left, Some answer.Unknown)
+      ∷ (not (is_empty (moves agent run.state May run.left)), Some answer.Depth)
+      ∷ [])
+      (Some answer.Stuck))
+      (le-leb limit (count run.entries) (let e = all-counted run.entries u.steps in omega arith)))
 
-others-fit : (agent : Agent) (p : Prog) (ps : List Prog) → fits agent (in_order (p ∷ ps)) ≡ true → fits agent (in_order ps) ≡ true
-others-fit agent p [] h = nil-fits agent
-others-fit agent p (q ∷ ps) h = and-right (fits agent p) (fits agent (in_order (q ∷ ps))) (seq-fits agent p (in_order (q ∷ ps)) h)
+  module _ (alone : agent.devices ≡ []) where
+    waits : WaitsForNothing agent run.entries
+    waits = waits_for_nothing agent (ap length alone) run.entries
 
--- ---- runs
-
--- a journal of steps after which these are the values, and the program left behaves as this sequence
-pub record At (agent : Agent) (j : Journal) (values : List ℕ) (p : Prog) : Type 0 where
-  pub left : Prog
-  pub running : Running agent j values left
-  pub same : BehavesAs agent values left p
-  pub ahead : List Prog
-  pub is : p ≡ in_order ahead
-  pub each : list_all is_part ahead ≡ true
-  pub few : length j + length ahead ≤ 1000
-  pub theirs : fits agent p ≡ true
-
-module _ (agent : Agent) (w : WellFormed agent) (s : IsSimple agent) where
-  no_device : (j : Journal) → list_any (λ d. is_open d j) (range_with_len 0 (length agent.devices)) ≡ false
-  no_device j = ap (λ ds. list_any (λ d. is_open d j) (range_with_len 0 (length ds))) s.no_devices
-
-  abbrev g : IsGuarded agent
-  g = w.programs.guarded
-
-  pub at-first : At agent [] agent.starts agent.main
-  at-first = record {
-    left = agent.main;
-    running = begins agent;
-    same = record { ends = λ m. refl; steps = λ m. refl };
-    ahead = s.main.parts;
-    is = s.main.is;
-    each = s.main.each;
-    few = let e = s.main.few in omega arith;
-    theirs = w.programs.main;
-  }
-
-  -- the same in other words
-  pub same_at : (j j' : Journal) (values values' : List ℕ) (p p' : Prog) → At agent j values p → j' ≡ j → values' ≡ values → p' ≡ p → At agent j' values' p'
-  same_at j j' values values' p p' r a b c =
-      subst (λ k. At agent k values' p') (sym a) (subst (λ v. At agent j v p') (sym b) (subst (At agent j values) (sym c) r))
-
-  module _ (j : Journal) (values : List ℕ) (p : Prog) (r : At agent j values p) where
-    pub values-sorted : AreInSorts agent values
-    values-sorted = values-in-sorts agent w j values r.left r.running
-
-    -- the first part of a sequence fits
-    pub first-fits : (f q : Prog) → p ≡ prog.Seq f q → fits agent f ≡ true
-    first-fits f q sq = and-left (fits agent f) (fits agent q) (seq-fits agent f q (subst (λ k. fits agent k ≡ true) sq r.theirs))
-
-    abbrev EndsWith : Answer → Type 0
-    EndsWith a = IsRun agent (with_runs [] (j ++ End a ∷ []))
-
-    -- what is so once this part is taken and these are left
-    abbrev GoesOn : Prog → Prog → Type 0
-    GoesOn part q = At agent (j ++ part_entries agent part) (fold (after_entry agent) values (part_entries agent part)) q
-
-    ends : (a : Answer) → IsPlainAnswer a → may_end agent j values r.left a ≡ true → EndsWith a
-    ends a plain h = record {
-      online = (whole_is_online agent (with_runs [] (j ++ End a ∷ []))).whole (online-push agent [] j (End a) r.running.online (kept-end agent s j values r.left r.running a h))
-          (both-so (has_end (j ++ End a ∷ [])) _ ((entries_grow j (End a)).end ∙ or-true (has_end j)) (no_device (j ++ End a ∷ [])));
-      fits = report_fits agent j a r.running.fits r.running.few;
-      runs = refl;
-      ended = record { before = j; answer = a; is = refl; steps = r.running.steps; plain = plain };
-    }
-
-    -- no part is left
-    pub ends_done : p ≡ prog.Nil → EndsWith answer.Done
-    ends_done e =
-        ends answer.Done (inl refl)
-        (ap (λ o. same_answer o answer.Done)
-        (done-answer agent s j values r.left r.running (r.same.ends Must ∙ ap (final agent values Must) e ∙ final-Nil agent g values Must)))
-
-    module _ (part : Prog) (others : List Prog) (e : p ≡ in_order (part ∷ others)) (each : list_all is_part (part ∷ others) ≡ true)
-        (few : length j + length (part ∷ others) ≤ 1000) where
-      rest-each : list_all is_part others ≡ true
-      rest-each = and-right (is_part part) (list_all is_part others) each
-
-      rest-theirs : fits agent (in_order others) ≡ true
-      rest-theirs = others-fit agent part others (subst (λ k. fits agent k ≡ true) e r.theirs)
-
-      -- the empty program is passed over
-      passes : IsEmptyPart agent g values part → GoesOn part (in_order others)
-      passes h =
-          let skip = skip-empty agent g values part others h in
-          same_at j _ values _ (in_order others) (in_order others)
-          (record {
-            left = r.left;
-            running = r.running;
-            same = record {
-              ends = λ m. r.same.ends m ∙ ap (final agent values m) e ∙ skip.ends m;
-              steps = λ m. r.same.steps m ∙ ap (moves agent values m) e ∙ skip.steps m;
-            };
-            ahead = others;
+    -- a report with the end
+    pub ends : not (has_block agent agent.main) ≡ true → (a : Answer) → answer_after agent run.entries ≡ Some a → length run.entries ≤ limit → IsRun agent (with_runs [] (run.entries ++ End a ∷ []))
+    ends free a e few =
+        let j = run.entries in
+        record {
+          online = (whole_is_online agent (with_runs [] (j ++ End a ∷ []))).whole
+              (online-push agent [] j (End a) u.online
+              (rules-so (End a) (kept-all (length j) _ _ _ _ (after-so (End a)) refl refl (may-end agent j run.state run.left a (answered-at (Some a) e)))))
+              (and-both (has_end (j ++ End a ∷ [])) _ ((entries_grow j (End a)).end ∙ or-true (has_end j))
+              (ap (λ ds. not (list_any (λ d. is_open d (j ++ End a ∷ [])) (range_with_len 0 (length ds)))) alone));
+          fits = record {
+            entries = ap (list_all (λ fits. fits)) (at_each-push (fits_entry agent) j (End a))
+                ∙ all-push (λ fits. fits) (at_each (fits_entry agent) [] j) true u.fits refl;
+            runs = refl;
+            in_order = refl;
+            in_bounds = le-leb (length (j ++ End a ∷ [])) (place_limit + 1) (let e = length-append j (End a ∷ []) in omega arith);
+          };
+          runs = refl;
+          ended = record {
+            before = j;
+            answer = a;
             is = refl;
-            each = rest-each;
-            few = omega arith;
-            theirs = rest-theirs;
-          })
-          (ap (λ es. j ++ es) h.entries ∙ append-nil j) (ap (fold (after_entry agent) values) h.entries) refl
+            steps = u.steps;
+            answered = e;
+            plain = plain-answer agent j run.state run.left (left-free free) waits.answered a (answered-at (Some a) e);
+          };
+        }
 
-      module _ (h : IsStepPart agent g values part) where
-        final-so : (m : Mode) → final agent values m r.left ≡ false
-        final-so m = r.same.ends m ∙ ap (final agent values m) e ∙ step-ends agent g values part others h m
+    module _ (room : length run.entries < limit) where
+      not-full : is_full run.entries ≡ false
+      not-full = lt-leb limit (count run.entries) (let e = all-counted run.entries u.steps in omega arith)
 
-        moves-so : (m : Mode) (t : Truth) → part_truth agent values part ≡ t
-            → moves agent values m r.left ≡ only_if (holds m t) (one_move (label_of h.entry) (in_order others))
-        moves-so m t k =
-            r.same.steps m ∙ ap (moves agent values m) e ∙ step-first agent g values part others h m
-            ∙ ap (λ u. only_if (holds m u) (one_move (label_of h.entry) (in_order others))) k
+      -- the answer is that of what the program does next
+      pub answered : (d : Decision) → decision agent run.state run.left ≡ d → answer_after agent run.entries ≡ answer_of true d
+      answered d e =
+          answered-so (answer_of true d)
+          (decided_answered agent run.entries run.state run.left not-full waits.answered waits.settled
+          ∙ ap (λ b. answer_of b (decision agent run.state run.left)) waits.quiet ∙ ap (answer_of true) e)
 
-        stuck-here : part_truth agent values part ≡ No → EndsWith answer.Stuck
-        stuck-here k =
-            ends answer.Stuck (inr (inl refl))
-            (ap (λ o. same_answer o answer.Stuck)
-            (stuck-answer agent s j values r.left r.running final-so (moves-so Must No k) (moves-so Near No k) (moves-so May No k)))
+      module _ (w : WellFormed agent) (free : not (has_block agent agent.main) ≡ true) (step : Move) (d : decision agent run.state run.left ≡ Step step) where
+        first : IsFirstStep agent run.state run.left step
+        first = first-step agent run.state run.left step d
 
-        unknown-here : part_truth agent values part ≡ Unknown → EndsWith answer.Unknown
-        unknown-here k =
-            let l = one-label h.entry (in_order others) h.is_step in
-            ends answer.Unknown (inr (inr refl))
-            (ap (λ o. same_answer o answer.Unknown)
-            (unknown-answer agent s j values r.left r.running final-so (moves-so Must Unknown k) l.0 (in_order others) (moves-so Near Unknown k ∙ l.1)))
+        runless : step.run ≡ None
+        runless = (step_blockless agent run.state Must run.left (left-free free) step
+            (subst (λ ms. Contains ms step) (sym first.first) (Contains-append_left (step ∷ []) first.others step (Contains-push [] step)))).no_run
 
-        takes : part_truth agent values part ≡ Yes → GoesOn part (in_order others)
-        takes k =
-            let d = h.entry in
-            let q = in_order others in
-            let ms : moves agent values Must r.left ≡ one_move (label_of d) q = moves-so Must Yes k in
-            let l = one-label d q h.is_step in
-            let n = length-append j (d ∷ []) in
-            same_at (j ++ d ∷ []) _ (after_entry agent values d) _ q q
-            (record {
-              left = q;
-              running = record {
-                values_is = values_after-push agent j d ∙ ap (λ v. after_entry agent v d) r.running.values_is;
-                left_is = left_after-push agent j d ∙ ap (λ v. left_at agent v (left_after agent j) d) r.running.values_is
-                    ∙ ap (λ x. left_at agent values x d) r.running.left_is ∙ left-so agent s j values r.left r.running d q h.is_step ms;
-                online = online-push agent [] j d r.running.online
-                    (kept-step agent s j values r.left r.running d q h.is_step (final-so Must) ms (let b = nest-in_order others rest-each in omega arith));
-                steps = all-push is_step_entry j d r.running.steps h.is_step;
-                fits = ap (list_all (λ fits. fits)) (at_each-push (fits_entry agent) j d)
-                    ∙ all-push (λ fits. fits) (at_each (fits_entry agent) [] j) (fits_entry agent j d) r.running.fits
-                    (entry-fits agent j d l.0 h.is_step l.2 (label-fits agent w j values r.left r.running l.0 q (ms ∙ l.1)));
-                few = omega arith;
-              };
-              same = record { ends = λ m. refl; steps = λ m. refl };
-              ahead = others;
-              is = refl;
-              each = rest-each;
-              few = omega arith;
-              theirs = rest-theirs;
-            })
-            (ap (λ es. j ++ es) h.entries) (ap (fold (after_entry agent) values) h.entries) refl
+        may-step : may_step agent run.entries run.state run.left step.label ≡ true
+        may-step =
+            and-both (is_settled agent run.entries && not (final agent run.state Must run.left) && nat_lt (count run.entries) limit)
+            (is_first agent run.entries step.label (moves agent run.state Must run.left))
+            (and-both (is_settled agent run.entries && not (final agent run.state Must run.left)) (nat_lt (count run.entries) limit)
+            (and-both (is_settled agent run.entries) (not (final agent run.state Must run.left)) waits.settled (ap not first.not_final))
+            (lt-ltb (count run.entries) limit (let e = all-counted run.entries u.steps in omega arith)))
+            (ap (is_first agent run.entries step.label) first.first
+            ∙ and-both (same_label step.label step.label) (nat_le (nest step.left) nest_limit) (label-same step.label) (le-leb (nest step.left) nest_limit first.nests))
 
-        ends-before : (t : Truth) (a : Answer) → part_truth agent values part ≡ t → answer_before t ≡ Some a → EndsWith a
-        ends-before Yes a k o = cc
-        ends-before No a k o = let same : answer.Stuck ≡ a = cc in subst EndsWith same (stuck-here k)
-        ends-before Unknown a k o = let same : answer.Unknown ≡ a = cc in subst EndsWith same (unknown-here k)
+        begins-none : same_run None (run_of agent run.entries (moves agent run.state Must run.left)) ≡ true
+        begins-none = ap (λ ms. same_run None (run_of agent run.entries ms)) first.first ∙ ap (same_run None) runless
 
-      goes_on : answer_before (part_truth agent values part) ≡ None → GoesOn part (in_order others)
-      goes_on o = go (part-is agent g values part (and-left (is_part part) (list_all is_part others) each))
-        where
-          go : IsEmptyPart agent g values part ⊎ IsStepPart agent g values part → GoesOn part (in_order others)
-          go (inl h) = passes h
-          go (inr h) = takes h (is-certain (part_truth agent values part) o)
+        kept : (l : Label) → step.label ≡ l → fault_at agent None [] run.entries (entry_for l) ≡ None
+        kept Quiet e =
+            rules-so Test
+            (kept-all (length run.entries) _ _ _ _ (after-so Test) (subst (λ l. may_step agent run.entries run.state run.left l ≡ true) e may-step) begins-none refl)
+        kept (Doing a) e =
+            rules-so (Do a)
+            (kept-all (length run.entries) _ _ _ _ (after-so (Do a)) (subst (λ l. may_step agent run.entries run.state run.left l ≡ true) e may-step) begins-none refl)
 
-      ends_here : (a : Answer) → answer_before (part_truth agent values part) ≡ Some a → EndsWith a
-      ends_here a o = go (part-is agent g values part (and-left (is_part part) (list_all is_part others) each))
-        where
-          go : IsEmptyPart agent g values part ⊎ IsStepPart agent g values part → EndsWith a
-          go (inl h) = let k : answer_before Yes ≡ Some a = sym (ap answer_before h.truth) ∙ o in cc
-          go (inr h) = ends-before h (part_truth agent values part) a refl o
+        -- it goes on with the step
+        pub goes : (new : Run) → new.entries ≡ run.entries ++ entry_for step.label ∷ [] → new.state ≡ after_entry agent run.state (entry_for step.label) → new.left ≡ step.left
+            → GoesOn agent run new None
+        goes new es vs ls =
+            let e = entry_for step.label in
+            let grown = length-append run.entries (e ∷ []) in (
+              record {
+                online = subst (λ j. IsOnlineSoFar agent (with_runs [] j)) (sym es) (online-push agent [] run.entries e u.online (kept step.label refl));
+                fits = ap (λ j. list_all (λ fits. fits) (at_each (fits_entry agent) [] j)) es
+                    ∙ ap (list_all (λ fits. fits)) (at_each-push (fits_entry agent) run.entries e)
+                    ∙ all-push (λ fits. fits) (at_each (fits_entry agent) [] run.entries) (fits_entry agent run.entries e) u.fits
+                    (for-fits agent run.entries step.label (label-fits w step d));
+                steps = ap (list_all is_step_entry) es ∙ all-push is_step_entry run.entries e u.steps (for-is-step step.label);
+                values = vs ∙ ap (λ v. after_entry agent v e) u.values ∙ sym (values_after-push agent run.entries e) ∙ sym (ap (values_after agent) es);
+                left = ls ∙ sym (ap (left_by agent run.left) first.first) ∙ sym (left-for agent run.state run.left step.label)
+                    ∙ ap (λ v. left_at agent v run.left e) u.values ∙ ap (λ p. left_at agent (values_after agent run.entries) p e) u.left
+                    ∙ sym (left_after-push agent run.entries e) ∙ sym (ap (left_after agent) es);
+              },
+              ap length es ∙ grown,
+            )
 
-    -- the first of a sequence is not certain
-    pub seq_ends : (f q : Prog) (a : Answer) → p ≡ prog.Seq f q → answer_before (part_truth agent values f) ≡ Some a → EndsWith a
-    seq_ends f q a sq o = go r.ahead r.is r.each r.few
-      where
-        go : (ahead : List Prog) → p ≡ in_order ahead → list_all is_part ahead ≡ true → length j + length ahead ≤ 1000 → EndsWith a
-        go [] is each few = absurd (seq-nil f q (sym sq ∙ is))
-        go (x ∷ []) is each few = absurd (seq-part f q x (and-left (is_part x) true each) (sym sq ∙ is))
-        go (x ∷ y ∷ ys) is each few =
-            ends_here x (y ∷ ys) is each few a (subst (λ k. answer_before (part_truth agent values k) ≡ Some a) (seq-first f q x (in_order (y ∷ ys)) (sym sq ∙ is)) o)
+-- ---- whole runs
 
-    -- it is taken, and the others are left
-    pub seq_goes_on : (f q : Prog) → p ≡ prog.Seq f q → answer_before (part_truth agent values f) ≡ None → GoesOn f q
-    seq_goes_on f q sq o = go r.ahead r.is r.each r.few
-      where
-        go : (ahead : List Prog) → p ≡ in_order ahead → list_all is_part ahead ≡ true → length j + length ahead ≤ 1000 → GoesOn f q
-        go [] is each few = absurd (seq-nil f q (sym sq ∙ is))
-        go (x ∷ []) is each few = absurd (seq-part f q x (and-left (is_part x) true each) (sym sq ∙ is))
-        go (x ∷ y ∷ ys) is each few =
-            let first : f ≡ x = seq-first f q x (in_order (y ∷ ys)) (sym sq ∙ is) in
-            let second : q ≡ in_order (y ∷ ys) = seq-second f q x (in_order (y ∷ ys)) (sym sq ∙ is) in
-            subst (GoesOn f) (sym second) (subst (λ k. GoesOn k (in_order (y ∷ ys))) (sym first)
-            (goes_on x (y ∷ ys) is each few (subst (λ k. answer_before (part_truth agent values k) ≡ None) first o)))
+-- the program ended: the entries stayed
+pub ended : (agent : Agent) (b : IsBuilt agent) (old new : Run) (given : Option Answer) (a : Answer)
+    → GoesOn agent old new given → given ≡ Some a → IsUnderWay agent old → length old.entries < limit → EndsBy agent new.entries a
+ended agent b old new None a g k u few = cc
+ended agent b old new (Some x) a g k u few =
+    let same : x ≡ a = cc in
+    subst (λ j. EndsBy agent j a) (sym g.0) (ends agent old u b.devices b.main a (g.1 ∙ ap (λ y. Some y) same) (omega (arith, few)))
 
-    nil-goes_on : p ≡ prog.Nil → GoesOn p prog.Nil
-    nil-goes_on is = go (part-is agent g values prog.Nil (ap is_part_layer prog.outs-Nil))
-      where
-        go : IsEmptyPart agent g values prog.Nil ⊎ IsStepPart agent g values prog.Nil → GoesOn p prog.Nil
-        go (inl h) =
-            same_at j _ values _ p prog.Nil r
-            (ap (λ k. j ++ part_entries agent k) is ∙ ap (λ es. j ++ es) h.entries ∙ append-nil j)
-            (ap (λ k. fold (after_entry agent) values (part_entries agent k)) is ∙ ap (fold (after_entry agent) values) h.entries)
-            (sym is)
-        go (inr h) = let k : true ≡ false = sym (final-Nil agent g values Must) ∙ h.goes_on Must in cc
+-- the journal is full
+pub filled : (agent : Agent) (b : IsBuilt agent) (run : Run) → IsUnderWay agent run → length run.entries ≡ limit → EndsBy agent run.entries answer.Full
+filled agent b run u full = ends agent run u b.devices b.main answer.Full (full-answer agent run u (omega (arith, full))) (omega (arith, full))
 
-    nil-ends : (a : Answer) → p ≡ prog.Nil → answer_before (part_truth agent values p) ≡ Some a → EndsWith a
-    nil-ends a is o = go (part-is agent g values prog.Nil (ap is_part_layer prog.outs-Nil))
-      where
-        go : IsEmptyPart agent g values prog.Nil ⊎ IsStepPart agent g values prog.Nil → EndsWith a
-        go (inl h) = let k : answer_before Yes ≡ Some a = sym (ap answer_before (ap (part_truth agent values) is ∙ h.truth)) ∙ o in cc
-        go (inr h) = let k : true ≡ false = sym (final-Nil agent g values Must) ∙ h.goes_on Must in cc
+-- one more turn
+pub goes-on : (agent : Agent) (old new : Run) (given : Option Answer) (turns : ℕ) → GoesOn agent old new given → given ≡ None → length old.entries ≡ turns
+    → IsUnderWay agent new × (length new.entries ≡ turns + 1)
+goes-on agent old new None turns g k e = (g.0, g.1 ∙ ap (λ n. n + 1) e)
+goes-on agent old new (Some a) turns g k e = cc
 
-    -- a program that is no sequence is the last part
-    module _ (not_seq : (f q : Prog) → p ≡ prog.Seq f q → ⊥) where
-      pub last_ends : (a : Answer) → answer_before (part_truth agent values p) ≡ Some a → EndsWith a
-      last_ends a o = go r.ahead r.is r.each r.few
-        where
-          go : (ahead : List Prog) → p ≡ in_order ahead → list_all is_part ahead ≡ true → length j + length ahead ≤ 1000 → EndsWith a
-          go [] is each few = nil-ends a is o
-          go (x ∷ []) is each few = ends_here x [] is each few a (subst (λ k. answer_before (part_truth agent values k) ≡ Some a) is o)
-          go (x ∷ y ∷ ys) is each few = absurd (not_seq x (in_order (y ∷ ys)) is)
-
-      pub last_goes_on : answer_before (part_truth agent values p) ≡ None → GoesOn p prog.Nil
-      last_goes_on o = go r.ahead r.is r.each r.few
-        where
-          go : (ahead : List Prog) → p ≡ in_order ahead → list_all is_part ahead ≡ true → length j + length ahead ≤ 1000 → GoesOn p prog.Nil
-          go [] is each few = nil-goes_on is
-          go (x ∷ []) is each few =
-              subst (λ k. GoesOn k prog.Nil) (sym is) (goes_on x [] is each few (subst (λ k. answer_before (part_truth agent values k) ≡ None) is o))
-          go (x ∷ y ∷ ys) is each few = absurd (not_seq x (in_order (y ∷ ys)) is)
-
--- a report of what stood when the answer was given
-pub ended : (agent : Agent) (result : Result Report NoMemory) (old new : Journal) (given : Option Answer) (a : Answer)
-    → IfOk result (λ report. report ≡ with_runs [] (new ++ End a ∷ [])) → IfSome given (λ _. new ≡ old) → given ≡ Some a
-    → IsRun agent (with_runs [] (old ++ End a ∷ [])) → IfOk result (IsRun agent)
-ended agent (Err fault) old new given a e k h run = tt
-ended agent (Ok report) old new None a e k h run = cc
-ended agent (Ok report) old new (Some b) a e k h run = subst (IsRun agent) (sym (e ∙ ap (λ j. with_runs [] (j ++ End a ∷ [])) k)) run
-
--- the answer before a part, as it was given
-pub taken_so : (agent : Agent) (values : List ℕ) (given wanted : Option Answer) (lent part : Prog)
-    → given ≡ answer_before (part_truth agent values lent) → lent ≡ part → given ≡ wanted → answer_before (part_truth agent values part) ≡ wanted
-taken_so agent values given wanted lent part e k h = ap (λ p. answer_before (part_truth agent values p)) (sym k) ∙ sym e ∙ h
-
-pub done : (agent : Agent) (result : Result Report NoMemory) (j : Journal) → IfOk result (λ report. report ≡ with_runs [] (j ++ End answer.Done ∷ []))
-    → IsRun agent (with_runs [] (j ++ End answer.Done ∷ [])) → IfOk result (IsRun agent)
-done agent (Err fault) j e run = tt
-done agent (Ok report) j e run = subst (IsRun agent) (sym e) run
+-- the report of a whole run
+pub reported : (agent : Agent) (result : Result Report NoMemory) (j kept : Journal) (given : Result Answer NoMemory) (a : Answer)
+    → IfOk given (EndsBy agent j) → given ≡ Ok a → kept ≡ j → IfOk result (λ report. report ≡ with_runs [] (kept ++ End a ∷ [])) → IfOk result (IsRun agent)
+reported agent (Err fault) j kept given a run k same e = tt
+reported agent (Ok report) j kept (Err fault) a run k same e = cc
+reported agent (Ok report) j kept (Ok b) a run k same e =
+    let is : b ≡ a = cc in
+    subst (IsRun agent) (sym (e ∙ ap (λ es. with_runs [] (es ++ End a ∷ [])) same)) (subst (EndsBy agent j) is run)

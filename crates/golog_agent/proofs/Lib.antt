@@ -1,11 +1,4 @@
-pub mod Shapes
-pub mod Rules
 pub mod Going
-pub mod Parts
-pub mod Devices
-pub mod Sequence
-pub mod Mains
-pub mod Checked
+pub mod Unblocked
 pub mod Answers
 pub mod Excluded
-pub mod ProgramKept

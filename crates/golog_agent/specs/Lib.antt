@@ -1,6 +1,6 @@
-pub mod Simple
-pub mod Stepping
+pub mod Built
 pub mod Run
-pub mod Main
+pub mod UnderWay
 pub mod Faults
 pub mod Spelled
+pub mod Laws

@@ -1,9 +1,8 @@
 -- The agent that the bytes of a file spell, and the first refusal of bytes that spell none.
 --
--- A file is read in stages: the form, the theory, the check of the theory and the program, and then whether
--- all that stands in it is built.
-use Rattle.std.specs.Prelude.{◌≡◌, ◌≤◌, ◌^◌, ℕ, IsTrue, IsFalse, List, [], length, Some, Result, Ok, Err}
-use Rattle.std.specs.List.{list_any}
+-- A file is read in stages: the form, the theory, the program, the check of both, and then whether all that
+-- stands in the file can be run.
+use Rattle.std.specs.Prelude.{◌≡◌, ◌≤◌, ◌^◌, ℕ, IsTrue, IsFalse, List, length, Result, Ok, Err}
 use Rattle.golog_form.specs.declared.form.Form.{Form}
 use Rattle.golog_form.specs.declared.fault.FormFault.TheVariants.{Refused as FormRefused}
 use Rattle.golog_form.specs.Spelling.{Spells}
@@ -11,48 +10,60 @@ use Rattle.golog_form.specs.Faults.{IsAnswer}
 use Rattle.golog_tree.specs.declared.agent.Agent.{Agent}
 use Rattle.golog_tree.specs.declared.draft.DraftTheory.{DraftTheory}
 use Rattle.golog_tree.specs.declared.draft.DraftProgram.{DraftProgram}
-use Rattle.golog_theory.specs.Heads.{arguments}
 use Rattle.golog_theory.specs.Items.{theory_of}
-use Rattle.golog_check.specs.Least.{IsLeast}
-use Rattle.golog_check.specs.Check.{all_refusals, agent_of}
+use Rattle.golog_theory.specs.Order.{IsLeast}
+use Rattle.golog_prog.specs.Items.{program_of}
+use Rattle.golog_check.specs.declared.fault.CheckFault.TheVariants.{Refused as CheckRefused}
+use Rattle.golog_check.specs.Check.{agent_of}
+use Rattle.golog_check.specs.Order.{all_rows, IsLeastRow}
 use Rattle.golog_agent.specs.declared.fault.AgentFault.{AgentFault}
 use Rattle.golog_agent.specs.declared.fault.AgentFault.TheVariants.{Refused, Memory}
 use Rattle.golog_agent.specs.declared.fault.TheConstants.{UNBUILT}
-use Rattle.golog_agent.specs.Main.{is_later, program_in, is_unbuilt, checked_program}
+use Rattle.golog_agent.specs.Built.{is_unbuilt}
 
-module _ (theory : DraftTheory) (items : List Form) where
-  -- over their theory, the items spell the agent
-  pub record ItemsSpell (agent : Agent) : Type 0 where
-    pub program : DraftProgram
-    pub main : program_in theory items ≡ Some program
-    pub built : IsFalse (list_any is_later items)
-    pub unrefused : all_refusals theory program ≡ []
+module _ (theory : DraftTheory) (program : DraftProgram) where
+  -- no row of the check fits
+  abbrev pub IsUnrefused : Type 0
+  IsUnrefused = IsLeastRow {A = Agent} (Ok (agent_of theory program)) (all_rows theory program)
+
+  -- the theory and the program make the agent
+  pub record DraftSpells (agent : Agent) : Type 0 where
+    pub unrefused : IsUnrefused
+    pub built : IsFalse (is_unbuilt agent)
     pub is : agent ≡ agent_of theory program
 
-  -- the first refusal of the items: that of the check, and else that something is not built
-  pub data ItemsRefuse : ℕ → ℕ → Type 0 where
-    of_check : (code at : ℕ) → IsLeast code at (all_refusals theory (checked_program theory items))
-        → ItemsRefuse code at
-    of_stage : all_refusals theory (checked_program theory items) ≡ [] → IsTrue (is_unbuilt theory items)
-        → ItemsRefuse UNBUILT 0
+  -- their first refusal: the least row of the check that fits, and else that something can't be run
+  pub data DraftRefuses : ℕ → ℕ → Type 0 where
+    of_check : (code at : ℕ) → IsLeastRow {A = Agent} (Err (CheckRefused code at)) (all_rows theory program)
+        → DraftRefuses code at
+    of_stage : IsUnrefused → IsTrue (is_unbuilt (agent_of theory program)) → DraftRefuses UNBUILT 0
 
   -- the agent, or the first refusal, unless memory ran out
-  abbrev pub ItemsAnswer : Result Agent AgentFault → Type 0
-  ItemsAnswer (Ok agent) = ItemsSpell agent
-  ItemsAnswer (Err (Refused code at)) = ItemsRefuse code at
-  ItemsAnswer (Err Memory) = Unit {0}
+  abbrev pub DraftAnswers : Result Agent AgentFault → Type 0
+  DraftAnswers (Ok agent) = DraftSpells agent
+  DraftAnswers (Err (Refused code at)) = DraftRefuses code at
+  DraftAnswers (Err Memory) = Unit {0}
+
+-- the form spells the theory and the program
+pub record SpellsDraft (form : Form) (theory : DraftTheory) (program : DraftProgram) : Type 0 where
+  pub theory_read : (theory_of form).outcome ≡ Ok theory
+  pub program_read : (program_of theory form).outcome ≡ Ok program
 
 -- the form spells the agent
 pub record FormSpells (form : Form) (agent : Agent) : Type 0 where
   pub theory : DraftTheory
-  pub read : (theory_of form).outcome ≡ Ok theory
-  pub items : ItemsSpell theory (arguments form) agent
+  pub program : DraftProgram
+  pub read : SpellsDraft form theory program
+  pub draft : DraftSpells theory program agent
 
--- the code and the place of the first refusal of a form, in the order of the stages
+-- The code and the place of the first refusal of a form, in the order of the stages: of each stage the least
+-- row that fits.
 pub data FormRefuses (form : Form) : ℕ → ℕ → Type 0 where
-  of_theory : (code at : ℕ) → (theory_of form).outcome ≡ Err (code, at) → FormRefuses form code at
-  of_items : (code at : ℕ) (theory : DraftTheory) → (theory_of form).outcome ≡ Ok theory
-      → ItemsRefuse theory (arguments form) code at → FormRefuses form code at
+  of_theory : (code at : ℕ) → IsLeast (theory_of form).rows code at → FormRefuses form code at
+  of_program : (code at : ℕ) (theory : DraftTheory) → (theory_of form).outcome ≡ Ok theory
+      → IsLeast (program_of theory form).rows code at → FormRefuses form code at
+  of_draft : (code at : ℕ) (theory : DraftTheory) (program : DraftProgram) → SpellsDraft form theory program
+      → DraftRefuses theory program code at → FormRefuses form code at
 
 -- the bytes are within the limit and spell the form
 pub record SpellsForm (bytes : List ℕ) (form : Form) : Type 0 where

@@ -1,12 +1,13 @@
 //! Agents, and the online execution of their programs.
 #![tactic(auto)]
 
+mod built;
 mod fault;
-mod program;
+mod laws;
 mod reading;
 mod running;
-mod stepping;
 
 pub use fault::{AgentFault, UNBUILT};
+pub use laws::{all_is_built, spelled_is_unrefused};
 pub use reading::read_agent;
-pub use running::run_agent;
+pub use running::{LIMIT, run_agent};

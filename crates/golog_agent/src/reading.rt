@@ -1,26 +1,24 @@
-ghost use Rattle.std.specs.Prelude.{◌≡◌, List, Some, None, Err, IfOk};
+ghost use Rattle.std.specs.Prelude.{◌≡◌, IfOk, Ok};
 ghost use Rattle.golog_form.specs.declared.form.Form.{Form};
 ghost use Rattle.golog_form.specs.Places.{IsInOrder};
-ghost use Rattle.golog_semantics.specs.Drafts.{TheoryKeeps};
+ghost use Rattle.golog_semantics.specs.DraftOrder.{TheoryInOrder, ProgramInOrder};
+ghost use Rattle.golog_semantics.specs.Drafts.{TheoryKeeps, ProgramKeeps};
 ghost use Rattle.golog_semantics.specs.WellFormed.{WellFormed};
+ghost use Rattle.golog_theory.specs.Items.{theory_of as spec_theory_of};
 ghost use Rattle.golog_agent.specs.declared.fault.AgentFault.TheVariants.{Refused};
-ghost use Rattle.golog_tree.specs.declared.draft.DraftTheory.{DraftTheory};
-ghost use Rattle.golog_tree.specs.declared.draft_prog.DraftProg.TheVariants.{Nil};
-ghost use Rattle.golog_check.specs.Check.{Checks};
-ghost use Rattle.golog_agent.specs.Main.{alone, program_in};
-ghost use Rattle.golog_agent.specs.Simple.{IsSimple};
-ghost use Rattle.golog_agent.specs.Spelled.{FormAnswers, ItemsAnswer, Reads};
+ghost use Rattle.golog_agent.specs.Built.{IsBuilt};
+ghost use Rattle.golog_agent.specs.Spelled.{DraftAnswers, FormAnswers, Reads};
 
+use crate::built::is_unbuilt;
 use crate::fault::{AgentFault, UNBUILT};
-use crate::program::{has_later, nil, program_in};
-use golog_check::{CheckFault, check};
+use golog_check::check;
 use golog_form::{Form, read_form};
-use golog_theory::heads::arguments;
+use golog_prog::program_of;
 use golog_theory::theory_of;
 use golog_tree::{Agent, DraftProgram, DraftTheory};
 use std::alloc::Global;
 
-/// The refusal of a file in which something is not built yet.
+/// The refusal of a file in which something can't be run yet.
 fn unbuilt() -> AgentFault
     ensures { result ≡ Refused UNBUILT 0 }
 {
@@ -30,21 +28,23 @@ fn unbuilt() -> AgentFault
     }
 }
 
-/// The agent that items spell over their theory with this program of `main`.
-fn agent_with(
+/// The agent that a theory and a program make, which were read from one file.
+fn agent_of(
     alloc: Global,
     theory: &DraftTheory,
-    items: &[Form],
     program: &DraftProgram,
 ) -> Result<Agent, AgentFault>
     requires keeps { TheoryKeeps theory.now }
-    requires main { program_in theory.now items.now ≡ Some program.now }
-    ensures answer { ItemsAnswer theory.now items.now result }
+    requires program_keeps { ProgramKeeps theory.now program.now }
+    requires in_order { TheoryInOrder theory.now }
+    requires program_in_order { ProgramInOrder program.now }
+    ensures answer { DraftAnswers theory.now program.now result }
     ensures formed { IfOk result WellFormed }
+    ensures built { IfOk result IsBuilt }
 {
     match check(alloc, theory, program) {
         Ok(agent) => {
-            if has_later(items) {
+            if is_unbuilt(&agent) {
                 drop(agent);
                 Err(unbuilt())
             } else {
@@ -55,46 +55,22 @@ fn agent_with(
     }
 }
 
-/// The refusal of items that spell no program, by what the check of their theory answers: its refusal, or
-/// that the program is not built.
-fn refusal_by(answer: Result<Agent, CheckFault>) -> AgentFault
-    ensures { (theory : DraftTheory) (items : List Form) → program_in theory items ≡ None
-        → Checks answer theory (alone (Nil 0) 0) → ItemsAnswer theory items (Err result) }
-{
-    match answer {
-        Ok(agent) => {
-            drop(agent);
-            unbuilt()
-        }
-        Err(fault) => AgentFault::from(fault),
-    }
-}
-
-/// The refusal of items that spell no program.
-fn refusal_of(alloc: Global, theory: &DraftTheory) -> AgentFault
-    requires { TheoryKeeps theory.now }
-    ensures { (items : List Form) → program_in theory.now items ≡ None
-        → ItemsAnswer theory.now items (Err result) }
-{
-    let program = nil(alloc);
-    let answer = check(alloc, theory, &program);
-    drop(program);
-    refusal_by(answer)
-}
-
-/// The agent that items spell over their theory.
-fn agent_over(alloc: Global, theory: &DraftTheory, items: &[Form]) -> Result<Agent, AgentFault>
-    requires { TheoryKeeps theory.now }
-    ensures answer { ItemsAnswer theory.now items.now result }
+/// The agent that a form spells, over its theory.
+fn agent_over(alloc: Global, theory: &DraftTheory, form: &Form) -> Result<Agent, AgentFault>
+    requires placed { IsInOrder form.now }
+    requires read { (spec_theory_of form.now).outcome ≡ Ok theory.now }
+    requires keeps { TheoryKeeps theory.now }
+    requires in_order { TheoryInOrder theory.now }
+    ensures answer { FormAnswers result form.now }
     ensures formed { IfOk result WellFormed }
+    ensures built { IfOk result IsBuilt }
 {
-    match program_in(alloc, theory, items) {
-        Ok(Some(program)) => {
-            let answer = agent_with(alloc, theory, items, &program);
+    match program_of(alloc, theory, form) {
+        Ok(program) => {
+            let answer = agent_of(alloc, theory, &program);
             drop(program);
             answer
         }
-        Ok(None) => Err(refusal_of(alloc, theory)),
         Err(fault) => Err(AgentFault::from(fault)),
     }
 }
@@ -104,10 +80,11 @@ fn agent_in(alloc: Global, form: &Form) -> Result<Agent, AgentFault>
     requires { IsInOrder form.now }
     ensures answer { FormAnswers result form.now }
     ensures formed { IfOk result WellFormed }
+    ensures built { IfOk result IsBuilt }
 {
     match theory_of(alloc, form) {
         Ok(theory) => {
-            let answer = agent_over(alloc, &theory, arguments(form));
+            let answer = agent_over(alloc, &theory, form);
             drop(theory);
             answer
         }
@@ -116,15 +93,15 @@ fn agent_in(alloc: Global, form: &Form) -> Result<Agent, AgentFault>
 }
 
 /// The agent that the bytes of a file spell, or the first refusal, with its code and its place. It is looked
-/// for in stages: 1 to 6, the bytes spell no form; 20 to 26, the form spells no theory; 30 to 36 and 38, the
-/// theory or the program of `main` is not well-formed; and 29 at 0, the file has a `device`, an `exo` or a
-/// `proc` item, or has not exactly one `main`, which is `nil`, an `act`, a `test` or a `seq` of at most 1,000
-/// of these. `Memory` where memory runs out.
+/// for in stages, and in each the least place counts, and there the least code: 1 to 6, the bytes spell no
+/// form; 20 to 26, the form spells no theory; 20 to 27, it spells no program over the theory; 30 to 38, the
+/// theory and the program are not well-formed; and 29 at 0, the file has a `device` or `exo` item or a
+/// `search` form, which can't be run yet. `Memory` where memory runs out.
 pub fn read_agent(alloc: Global, bytes: &[u8]) -> Result<Agent, AgentFault>
     ensures answer { Reads result bytes.now }
     // What a run asks of its agent.
     ensures formed { IfOk result WellFormed }
-    ensures simple { IfOk result IsSimple }
+    ensures built { IfOk result IsBuilt }
 {
     match read_form(alloc, bytes) {
         Ok(form) => {

@@ -1,6 +1,6 @@
 use Rattle.std.proofs.Common.{Err, sym, subst}
 use Rattle.golog_agent.specs.Spelled.{Reads}
-use Rattle.golog_agent.proofs.Answers.{bytes-read, form-refused, read-simple}
+use Rattle.golog_agent.proofs.Answers.{bytes-read, form-refused}
 use Rattle.golog_agent.proofs.reading.read_agent.Goals as goal
 
 pub returns-in-Ok-clause-answer : goal.returns-in-Ok-clause-answer
@@ -10,8 +10,3 @@ returns-in-Ok-clause-answer c =
 pub returns-in-Err-clause-answer : goal.returns-in-Err-clause-answer
 returns-in-Err-clause-answer c =
     subst (λ fault. Reads (Err fault) c.args.bytes.now) (sym c.from.ensures) (form-refused c.args.bytes.now c.in-Err.fault c.in-Err.ensures.codes)
-
-pub returns-in-Ok-clause-simple : goal.returns-in-Ok-clause-simple
-returns-in-Ok-clause-simple c =
-    read-simple c.args.bytes.now c.agent_in-answer.result
-    (bytes-read c.args.bytes.now c.in-Ok.form c.agent_in-answer.result c.in-Ok.ensures.found c.in-Ok.ensures.codes c.agent_in-answer.ensures.answer)
