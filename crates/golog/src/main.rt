@@ -4,15 +4,31 @@
 use golog_base::{FileFiles, OutSink};
 use golog_main::{NO_MEMORY, golog};
 use std::alloc::AllocError;
-use std::env;
 use std::io::ErrorKind;
 use std::process::ExitCode;
+use std::thread::{Builder, Threads};
+use std::{env, io};
+
+/// How many bytes of stack the work has. The longest agent file holds programs that nest about 262,000 deep before
+/// they are refused, and a recursion over them takes at most some hundred bytes for each level.
+const STACK: usize = 1 << 30;
 
 fn main(rt: HostRuntime) -> ExitCode {
-    match status(&rt) {
-        Ok(status) => ExitCode::from(status),
+    match rt.clone() {
+        Ok(own) => match status_on_thread(&rt, own) {
+            Ok(status) => ExitCode::from(status),
+            Err(_) => ExitCode::from(NO_MEMORY),
+        },
         Err(_) => ExitCode::from(NO_MEMORY),
     }
+}
+
+// Does what the words say, on a thread with a large stack.
+fn status_on_thread(rt: &impl Threads, own: HostRuntime) -> io::Result<u8> {
+    let worker = Builder::new()
+        .stack_size(STACK)
+        .spawn(rt, move || status(&own))?;
+    Ok(worker.join(rt)?)
 }
 
 // Does what the words say, over real files and standard output.

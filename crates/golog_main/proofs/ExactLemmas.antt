@@ -1,12 +1,11 @@
 -- The causes exclude one another, and each outcome has one status.
-use Rattle.std.proofs.Common.{◌≡◌, ℕ, List, Option, Some, None, ◌⊎◌, inl, inr, arith, sym, ◌∙◌, ap, refl, IsSome}
+use Rattle.std.proofs.Common.{◌≡◌, ℕ, ◌<◌, List, Option, Some, None, ◌⊎◌, inl, inr, arith, sym, ◌∙◌, ap, refl, subst, IsSome}
 use Rattle.golog_base.specs.Faults.{Rose}
 use Rattle.golog_base.specs.Files.{HasNone, FileHas, bytes_of}
 use Rattle.golog_base.specs.declared.mem_files.HeldFile.{HeldFile}
 use Rattle.golog_tree.specs.declared.agent.Agent.{Agent}
 use Rattle.golog_semantics.specs.Text.{Text}
 use Rattle.golog_semantics.specs.declared.journal.Answer.{Answer}
-use Rattle.golog_semantics.specs.declared.journal.Answer.TheVariants.{Done, Stuck, Unknown}
 use Rattle.golog_semantics.specs.Execution.{status_of as answer_status}
 use Rattle.golog_agent.specs.Run.{IsPlainAnswer}
 use Rattle.golog_agent.specs.Spelled.{SpellsAgent, IsFirstRefusal}
@@ -14,7 +13,7 @@ use Rattle.golog_agent.proofs.Excluded.{excluded}
 use Rattle.golog_main.specs.declared.outcome.Outcome.{Outcome}
 use Rattle.golog_main.specs.declared.outcome.Outcome.TheVariants.{WordsRefused, ReadFault, AgentRefused, Ran}
 use Rattle.golog_main.specs.Outcome.{Outside, RefusesBytes, RunsBytes, RunsFile, Comes, Reports, text_of, status_of}
-use Rattle.golog_main.specs.Exact.{Names, Wrote, WroteRefusal, SaysItsCause, IsStopped, Answers, IsRead, FollowsItsCause, StatusesAreExact}
+use Rattle.golog_main.specs.Exact.{Names, Wrote, WroteRefusal, SaysItsCause, IsStopped, Answers, IsRead, FollowsItsCause, IsRunStatus, StatusesAreExact}
 
 -- ---- the status of a report
 
@@ -25,16 +24,23 @@ stopped_or : (status : ℕ) (outcome : Outcome) (before after : Outside)
 stopped_or status outcome before after (inl written) = inl written.0
 stopped_or status outcome before after (inr failed) = inr (inl (failed.0, failed.2))
 
--- no status is two numbers
-neither : {P : Type 0} (status k : ℕ) → status ≡ k → (k ≡ 0 → ⊥) → (k ≡ 10 → ⊥) → (k ≡ 11 → ⊥) → (status ≡ 0) ⊎ (status ≡ 10) ⊎ (status ≡ 11) → P
-neither status k is no_zero no_ten no_eleven (inl zero) = absurd (no_zero (sym is ∙ zero))
-neither status k is no_zero no_ten no_eleven (inr (inl ten)) = absurd (no_ten (sym is ∙ ten))
-neither status k is no_zero no_ten no_eleven (inr (inr eleven)) = absurd (no_eleven (sym is ∙ eleven))
+-- no refusal and no fault has the status of a run
+low : (k : ℕ) → 0 < k → k < 10 → IsRunStatus k → ⊥
+low k some few (inl e) = omega arith
+low k some few (inr (inl e)) = omega arith
+low k some few (inr (inr (inl e))) = omega arith
+low k some few (inr (inr (inr (inl e)))) = omega arith
+low k some few (inr (inr (inr (inr e)))) = omega arith
 
-plain_status : (answer : Answer) → IsPlainAnswer answer → (answer_status answer ≡ 0) ⊎ (answer_status answer ≡ 10) ⊎ (answer_status answer ≡ 11)
+neither : {P : Type 0} (status k : ℕ) → status ≡ k → 0 < k → k < 10 → IsRunStatus status → P
+neither status k is some few run = absurd (low k some few (subst IsRunStatus is run))
+
+plain_status : (answer : Answer) → IsPlainAnswer answer → IsRunStatus (answer_status answer)
 plain_status answer (inl done) = inl (ap answer_status done)
 plain_status answer (inr (inl stuck)) = inr (inl (ap answer_status stuck))
-plain_status answer (inr (inr unknown)) = inr (inr (ap answer_status unknown))
+plain_status answer (inr (inr (inl unknown))) = inr (inr (inl (ap answer_status unknown)))
+plain_status answer (inr (inr (inr (inl full)))) = inr (inr (inr (inl (ap answer_status full))))
+plain_status answer (inr (inr (inr (inr deep)))) = inr (inr (inr (inr (ap answer_status deep))))
 
 -- ---- what is read
 
@@ -65,7 +71,7 @@ module _ (status : ℕ) (named : Option Text) (before after : Outside) where
     agent_refused = λ three. absurd (omega arith);
     read_fault = λ four. absurd (omega arith);
     write_fault = λ five. rose;
-    ran = neither status 5 is (λ e. omega arith) (λ e. omega arith) (λ e. omega arith);
+    ran = neither status 5 is (omega arith) (omega arith);
   }
 
   starved_says : status ≡ 6 → SaysItsCause status named before after
@@ -74,7 +80,7 @@ module _ (status : ℕ) (named : Option Text) (before after : Outside) where
     agent_refused = λ three. absurd (omega arith);
     read_fault = λ four. absurd (omega arith);
     write_fault = λ five. absurd (omega arith);
-    ran = neither status 6 is (λ e. omega arith) (λ e. omega arith) (λ e. omega arith);
+    ran = neither status 6 is (omega arith) (omega arith);
   }
 
   refused_says : status ≡ 3 → Names named (WroteRefusal before after) → SaysItsCause status named before after
@@ -83,7 +89,7 @@ module _ (status : ℕ) (named : Option Text) (before after : Outside) where
     agent_refused = λ three. cause;
     read_fault = λ four. absurd (omega arith);
     write_fault = λ five. absurd (omega arith);
-    ran = neither status 3 is (λ e. omega arith) (λ e. omega arith) (λ e. omega arith);
+    ran = neither status 3 is (omega arith) (omega arith);
   }
 
   fault_says : status ≡ 4 → Names named (λ name. HasNone before.held name ⊎ Rose before.file_faults after.file_faults)
@@ -93,7 +99,7 @@ module _ (status : ℕ) (named : Option Text) (before after : Outside) where
     agent_refused = λ three. absurd (omega arith);
     read_fault = λ four. cause;
     write_fault = λ five. absurd (omega arith);
-    ran = neither status 4 is (λ e. omega arith) (λ e. omega arith) (λ e. omega arith);
+    ran = neither status 4 is (omega arith) (omega arith);
   }
 
   words_say : status ≡ 2 → named ≡ None → SaysItsCause status named before after
@@ -102,22 +108,16 @@ module _ (status : ℕ) (named : Option Text) (before after : Outside) where
     agent_refused = λ three. absurd (omega arith);
     read_fault = λ four. absurd (omega arith);
     write_fault = λ five. absurd (omega arith);
-    ran = neither status 2 is (λ e. omega arith) (λ e. omega arith) (λ e. omega arith);
+    ran = neither status 2 is (omega arith) (omega arith);
   }
 
-  abbrev IsRunStatus : Type 0
-  IsRunStatus = (status ≡ 0) ⊎ (status ≡ 10) ⊎ (status ≡ 11)
-
-  never : {P : Type 0} (k : ℕ) → IsRunStatus → status ≡ k → (0 ≡ k → ⊥) → (10 ≡ k → ⊥) → (11 ≡ k → ⊥) → P
-  never k plain is no_zero no_ten no_eleven = neither status k is (λ e. no_zero (sym e)) (λ e. no_ten (sym e)) (λ e. no_eleven (sym e)) plain
-
-  run_says : IsRunStatus → Names named (λ name. Wrote status before after (RunsFile before.held name))
+  run_says : IsRunStatus status → Names named (λ name. Wrote status before after (RunsFile before.held name))
       → SaysItsCause status named before after
-  run_says plain cause = record {
-    words_refused = λ e. never 2 plain e (λ f. omega arith) (λ f. omega arith) (λ f. omega arith);
-    agent_refused = λ e. never 3 plain e (λ f. omega arith) (λ f. omega arith) (λ f. omega arith);
-    read_fault = λ e. never 4 plain e (λ f. omega arith) (λ f. omega arith) (λ f. omega arith);
-    write_fault = λ e. never 5 plain e (λ f. omega arith) (λ f. omega arith) (λ f. omega arith);
+  run_says run cause = record {
+    words_refused = λ e. neither status 2 e (omega arith) (omega arith) run;
+    agent_refused = λ e. neither status 3 e (omega arith) (omega arith) run;
+    read_fault = λ e. neither status 4 e (omega arith) (omega arith) run;
+    write_fault = λ e. neither status 5 e (omega arith) (omega arith) run;
     ran = λ e. cause;
   }
 

@@ -31,6 +31,10 @@ pub record WroteRefusal (before after : Outside) (name : Text) : Type 0 where
 
 -- ---- a status only where its cause is
 
+-- the status of a run: it is done, stuck or unknown, or its journal is full, or what is left nests too deep
+abbrev pub IsRunStatus : ℕ → Type 0
+IsRunStatus status = (status ≡ 0) ⊎ (status ≡ 10) ⊎ (status ≡ 11) ⊎ (status ≡ 15) ⊎ (status ≡ 16)
+
 -- what each status says
 pub record SaysItsCause (status : ℕ) (named : Option Text) (before after : Outside) : Type 0 where
   pub words_refused : status ≡ 2 → named ≡ None
@@ -38,7 +42,7 @@ pub record SaysItsCause (status : ℕ) (named : Option Text) (before after : Out
   pub read_fault : status ≡ 4
       → Names named (λ name. HasNone before.held name ⊎ Rose before.file_faults after.file_faults)
   pub write_fault : status ≡ 5 → Rose before.sink_faults after.sink_faults
-  pub ran : (status ≡ 0) ⊎ (status ≡ 10) ⊎ (status ≡ 11)
+  pub ran : IsRunStatus status
       → Names named (λ name. Wrote status before after (RunsFile before.held name))
 
 -- ---- and wherever its cause is

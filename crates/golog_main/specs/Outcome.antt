@@ -38,12 +38,12 @@ status_of (Ran text answer) = answer_status answer
 
 -- ---- the causes
 
--- the text is that of an online execution of the agent's program, which is done, stuck or unknown
+-- the text is that of an online execution of the agent's program, which is done, stuck, unknown, full or deep
 pub record IsRunOf (agent : Agent) (text : Text) (answer : Answer) : Type 0 where
   pub online : IsOnlineRun agent text (answer_status answer)
   pub plain : IsPlainAnswer answer
 
--- the last entry ends the program, as done, stuck or unknown
+-- the last entry ends the program, as done, stuck, unknown, full or deep
 pub record EndsInAnswer (entries : Journal) : Type 0 where
   pub before : Journal
   pub answer : Answer

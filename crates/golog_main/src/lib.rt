@@ -11,4 +11,6 @@ pub use outcome::Outcome;
 pub use top::{NO_MEMORY, golog};
 
 #[cfg(test)]
+mod construct_tests;
+#[cfg(test)]
 mod tests;

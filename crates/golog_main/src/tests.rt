@@ -104,7 +104,12 @@ fn effects_stand_until_others_change_them(rt: HostRuntime) -> Result<(), Fail> {
 }
 
 /// Whether a run of a file of these bytes writes this journal and has this status.
-fn runs_to(alloc: Global, bytes: &[u8], journal: &str, status: u8) -> Result<bool, NoMemory> {
+pub(crate) fn runs_to(
+    alloc: Global,
+    bytes: &[u8],
+    journal: &str,
+    status: u8,
+) -> Result<bool, NoMemory> {
     let call = ran(alloc, bytes)?;
     Ok(call.status == status && call.out.bytes() == journal.as_bytes())
 }
@@ -248,28 +253,31 @@ fn forms_that_spell_no_theory_are_refused(rt: HostRuntime) -> Result<(), Fail> {
 fn theories_that_are_not_well_formed_are_refused(rt: HostRuntime) -> Result<(), Fail> {
     let files: [(&[u8], &str); 7] = [
         (
-            b"(agent (action a ()) (poss (a) (= 1 1)))",
+            b"(agent (action a ()) (poss (a) (= 1 1)) (main nil))",
             "refused agent 30 at 34\n",
         ),
         (
-            b"(agent (action a ()) (poss (a) (= (interrupts_running) x)))",
+            b"(agent (action a ()) (poss (a) (= (interrupts_running) x)) (main nil))",
             "refused agent 31 at 55\n",
         ),
         (
-            b"(agent (sort s 1 64) (fluent p (s s) bool))",
+            b"(agent (sort s 1 64) (fluent p (s s) bool) (main nil))",
             "refused agent 34 at 21\n",
         ),
         (
-            b"(agent (sort s 1 41) (action a (s s s)))",
+            b"(agent (sort s 1 41) (action a (s s s)) (main nil))",
             "refused agent 34 at 21\n",
         ),
-        (b"(agent (fluent p () bool 1))", "refused agent 35 at 25\n"),
         (
-            b"(agent (senses (start_interrupts) (interrupts_running)))",
+            b"(agent (fluent p () bool 1) (main nil))",
+            "refused agent 35 at 25\n",
+        ),
+        (
+            b"(agent (senses (start_interrupts) (interrupts_running)) (main nil))",
             "refused agent 36 at 7\n",
         ),
         (
-            b"(agent (action a ()) (poss (a) (interrupts_running)) (senses (a) (interrupts_running)))",
+            b"(agent (action a ()) (poss (a) (interrupts_running)) (senses (a) (interrupts_running)) (main nil))",
             "refused agent 36 at 53\n",
         ),
     ];
@@ -294,19 +302,19 @@ fn the_least_refusal_of_a_stage_is_told(rt: HostRuntime) -> Result<(), Fail> {
             "refused agent 22 at 18\n",
         ),
         (
-            b"(agent (fluent p () bool 1) (senses (start_interrupts) (interrupts_running)))",
+            b"(agent (fluent p () bool 1) (senses (start_interrupts) (interrupts_running)) (main nil))",
             "refused agent 35 at 25\n",
         ),
         (
-            b"(agent (senses (start_interrupts) (interrupts_running)) (fluent p () bool 1))",
+            b"(agent (senses (start_interrupts) (interrupts_running)) (fluent p () bool 1) (main nil))",
             "refused agent 36 at 7\n",
         ),
         (
-            b"(agent (sort s 1 64) (start (interrupts_running) 1) (fluent p (s s) bool))",
+            b"(agent (sort s 1 64) (start (interrupts_running) 1) (fluent p (s s) bool) (main nil))",
             "refused agent 35 at 49\n",
         ),
         (
-            b"(agent (action a ()) (poss (a) (= x 1)))",
+            b"(agent (action a ()) (poss (a) (= x 1)) (main nil))",
             "refused agent 30 at 34\n",
         ),
     ];
@@ -317,25 +325,36 @@ fn the_least_refusal_of_a_stage_is_told(rt: HostRuntime) -> Result<(), Fail> {
 }
 
 #[test]
-fn programs_that_are_not_built_are_refused(rt: HostRuntime) -> Result<(), Fail> {
-    let files: [(&[u8], &str); 12] = [
-        (b"(agent)", "refused agent 29 at 0\n"),
-        (b"(agent (main nil) (main nil))", "refused agent 29 at 0\n"),
-        (b"(agent (main))", "refused agent 29 at 0\n"),
-        (b"(agent (main (star nil)))", "refused agent 29 at 0\n"),
-        (b"(agent (main (seq (seq nil))))", "refused agent 29 at 0\n"),
-        (b"(agent (main (act a)))", "refused agent 29 at 0\n"),
-        (
-            b"(agent (main (act a)) (action a ()))",
-            "refused agent 29 at 0\n",
-        ),
+fn programs_that_may_not_be_are_refused(rt: HostRuntime) -> Result<(), Fail> {
+    let files: [(&[u8], &str); 15] = [
+        (b"(agent (main))", "refused agent 20 at 7\n"),
+        (b"(agent (main (choice nil)))", "refused agent 20 at 13\n"),
         (
             b"(agent (fluent p () bool true) (main (test p)))",
-            "refused agent 29 at 0\n",
+            "refused agent 20 at 43\n",
+        ),
+        (b"(agent (main nil) (main nil))", "refused agent 21 at 18\n"),
+        (b"(agent (main (act a)))", "refused agent 23 at 18\n"),
+        (
+            b"(agent (main (act a)) (action a ()))",
+            "refused agent 23 at 18\n",
         ),
         (
             b"(agent (action a ()) (main (act a b)))",
-            "refused agent 29 at 0\n",
+            "refused agent 24 at 27\n",
+        ),
+        (b"(agent)", "refused agent 27 at 0\n"),
+        (
+            b"(agent (proc p () (call p)) (main nil))",
+            "refused agent 32 at 7\n",
+        ),
+        (
+            b"(agent (main (search 1 1 (search 1 1 nil))))",
+            "refused agent 33 at 13\n",
+        ),
+        (
+            b"(agent (main (search 0 1 nil)))",
+            "refused agent 37 at 13\n",
         ),
         (b"(agent (device d) (main nil))", "refused agent 29 at 0\n"),
         (
@@ -343,7 +362,11 @@ fn programs_that_are_not_built_are_refused(rt: HostRuntime) -> Result<(), Fail> 
             "refused agent 29 at 0\n",
         ),
         (
-            b"(agent (proc p () nil) (main nil))",
+            b"(agent (main (search 1 1 nil)))",
+            "refused agent 29 at 0\n",
+        ),
+        (
+            b"(agent (proc p () (search 1 1 nil)) (main nil))",
             "refused agent 29 at 0\n",
         ),
     ];
@@ -367,7 +390,7 @@ fn the_earlier_stage_goes_first(rt: HostRuntime) -> Result<(), Fail> {
             "refused agent 20 at 50\n",
         ),
         (
-            b"(agent (device d) (sort level 1 4) (fluent floor () level 9))",
+            b"(agent (device d) (sort level 1 4) (fluent floor () level 9) (main nil))",
             "refused agent 35 at 58\n",
         ),
     ];

@@ -1,7 +1,7 @@
 // The top call.
 ghost use Rattle.std.specs.Prelude.{◌≡◌, ◌⊎◌, map, string_bytes, IsSome, IfOk, OnErr, Contains};
+ghost use Rattle.golog_agent.specs.Built.{IsBuilt};
 ghost use Rattle.golog_agent.specs.Run.{IsPlainAnswer};
-ghost use Rattle.golog_agent.specs.Simple.{IsSimple};
 ghost use Rattle.golog_semantics.specs.WellFormed.{WellFormed};
 ghost use Rattle.golog_semantics.specs.declared.journal.Entry.TheVariants.{End};
 ghost use Rattle.golog_main.specs.Outcome.{Comes, ComesOf, Ends, EndsInAnswer, Reports, RunOf, outside, refusal_text, text_of, status_of};
@@ -38,7 +38,8 @@ pub const NO_MEMORY: u8 = 6;
 /// - 4, `read fault agent`: the file is not there, or a call of `files` failed.
 /// - 3, `refused agent CODE at PLACE`: the file spells no agent; the code and the place are those of its first
 ///   refusal, in the order of the stages of `golog_agent::read_agent`.
-/// - 0, 10 or 11, the journal of an online execution of the agent's program, which ends `done`, `stuck` or `unknown`.
+/// - 0, 10, 11, 15 or 16, the journal of an online execution of the agent's program, which ends `done`, `stuck`,
+///   `unknown`, `full` or `deep`.
 ///
 /// Each line ends with a line feed. Where a write fails the answer is 5, and a prefix of the text is written.
 /// Where memory runs out the answer is 6, and nothing is written.
@@ -109,7 +110,7 @@ fn refused(alloc: Global, code: u8, at: u32) -> Result<Outcome, NoMemory>
 // What a run of the agent's program comes to.
 fn run_program(alloc: Global, agent: &Agent) -> Result<Outcome, NoMemory>
     requires formed { WellFormed agent.now }
-    requires simple { IsSimple agent.now }
+    requires built { IsBuilt agent.now }
     ensures { IfOk result (RunOf agent.now) }
 {
     let report = run_agent(alloc, agent)?;
