@@ -5,3 +5,4 @@ pub mod Constructs
 pub mod Programs
 pub mod Items
 pub mod Printing
+pub mod ReadBack

@@ -1,5 +1,6 @@
 ghost use Rattle.std.specs.Prelude.{◌≡◌, [], ◌∷◌, ◌++◌, OnOk, IfOk, codes, decimal};
 ghost use Rattle.golog_prog.specs.Printing.{in_list, args_texts, cond_text, prog_text, text_of_prog};
+ghost use Rattle.golog_prog.specs.ReadBack.{IsPrintable, ReadsBack};
 
 use crate::cond_text::{add_args, add_binder, add_cond, add_word, open_list};
 use crate::named::{action_name, action_sorts, add_count, proc_name, proc_sorts, stem_of};
@@ -162,9 +163,12 @@ fn add_prog(text: &mut Bytes, agent: &Agent, stem: &[u8], prog: &Prog) -> Result
 }
 
 /// The text of a program, as an agent's file could say it. A variable is printed under a name that is neither
-/// declared nor reserved.
+/// declared nor reserved. Where a file can say the program, the text reads back to it, limits of size and nesting
+/// aside.
+#[tactic(auto, using(crate::proofs::PrintBack::prints_back))]
 pub fn print_prog(alloc: Global, agent: &Agent, prog: &Prog) -> Result<Bytes, NoMemory>
     ensures text { IfOk result (λ text. text ≡ text_of_prog agent.now prog.now) }
+    ensures back { IfOk result (λ text. IsPrintable agent.now prog.now → ReadsBack text agent.now prog.now) }
 {
     let stem = stem_of(alloc, agent)?;
     let mut text = Bytes::new(alloc);
