@@ -1,8 +1,8 @@
-//! Runs the program of an agent file: `golog run FILE --inline`.
+//! Runs the program of an agent file: `golog run AGENT [DEVICES] --inline`.
 #![tactic(auto)]
 
 use golog_base::{FileFiles, OutSink};
-use golog_main::{NO_MEMORY, golog};
+use golog_main::{NO_MEMORY, golog, script_devices};
 use std::alloc::AllocError;
 use std::io::ErrorKind;
 use std::process::ExitCode;
@@ -31,12 +31,21 @@ fn status_on_thread(rt: &impl Threads, own: HostRuntime) -> io::Result<u8> {
     Ok(worker.join(rt)?)
 }
 
-// Does what the words say, over real files and standard output.
+// Does what the words say, over real files, standard output and devices that follow scripts.
 fn status(rt: &HostRuntime) -> Result<u8, AllocError> {
     let words = words_of(rt)?;
     let mut files = FileFiles::new(rt.clone()?);
     let mut out = OutSink::new(rt.clone()?);
-    Ok(golog(rt.alloc(), words.as_slice(), &mut files, &mut out))
+    match script_devices(rt.alloc()) {
+        Ok(mut devices) => Ok(golog(
+            rt.alloc(),
+            words.as_slice(),
+            &mut files,
+            &mut out,
+            devices.as_mut_slice(),
+        )),
+        Err(_) => Err(AllocError),
+    }
 }
 
 // The words after the program's name. Where one is not text there are none, which is no command either.

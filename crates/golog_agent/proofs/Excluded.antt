@@ -81,3 +81,17 @@ excluded bytes agent s _ _ (of_bytes code at (inr first)) = unfit bytes s.form s
 excluded bytes agent s _ _ (of_form code at form spelled refuses) =
     let same : s.form ≡ form = one-form bytes s.form form s.bytes_spell.spelled spelled.spelled in
     form-excluded form agent (subst (λ f. FormSpells f agent) same s.form_spells) code at refuses
+
+-- ---- one agent
+
+form-one : (form : Form) (one other : Agent) → FormSpells form one → FormSpells form other → one ≡ other
+form-one form one other s t =
+    let same = theory-same form s.theory t.theory s.read.theory_read t.read.theory_read in
+    let spells = subst (λ x. DraftSpells x s.program one) same s.draft in
+    let programs = program-same form t.theory s.program t.program (subst (λ x. (program_of x form).outcome ≡ Ok s.program) same s.read.program_read) t.read.program_read in
+    (subst (λ p. DraftSpells t.theory p one) programs spells).is ∙ sym t.draft.is
+
+pub one-agent : (bytes : List ℕ) (one other : Agent) → SpellsAgent bytes one → SpellsAgent bytes other → one ≡ other
+one-agent bytes one other s t =
+    let same : s.form ≡ t.form = one-form bytes s.form t.form s.bytes_spell.spelled t.bytes_spell.spelled in
+    form-one t.form one other (subst (λ f. FormSpells f one) same s.form_spells) t.form_spells

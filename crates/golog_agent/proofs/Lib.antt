@@ -1,4 +1,26 @@
-pub mod Going
 pub mod Unblocked
 pub mod Answers
 pub mod Excluded
+mod Kept
+mod Awaiting
+mod Growth
+mod Resting
+mod Planning
+mod Fueling
+mod Committing
+mod Taking
+mod Boarding
+mod Turning
+mod Copying
+mod Placing
+mod OneTurn
+mod Serving
+mod Rounding
+mod Ending
+pub mod CommandsFew
+pub mod EndLast
+pub mod Adding
+pub mod Over
+pub mod Following
+mod Leading
+mod Stepping

@@ -7,7 +7,6 @@ use Rattle.golog_tree.specs.declared.agent.ProcItem.{ProcItem}
 use Rattle.golog_tree.specs.declared.prog.Prog.{Prog}
 use Rattle.golog_tree.specs.declared.prog.Prog.TheOpen.{Prog-F, Nil, Act, Test, Seq, Choice, Pick, Star, If, While, Conc, Prio, Cstar, Call, Search, Follow}
 use Rattle.golog_semantics.specs.BlockFree.{block_at, has_block, has_block_by, has_block_step, proc_blocks, proc_blocks_to}
-use Rattle.golog_semantics.specs.Ways.{is_empty}
 use Rattle.golog_semantics.proofs.FoldsRelated.{Leaf, free, Answers, WayAnswers, folds_related, ones, twos}
 use Rattle.golog_semantics.proofs.Tests.{neither_first, neither_second}
 use Rattle.golog_agent.specs.Built.{holds_block, is_unbuilt, IsBuilt}
@@ -65,17 +64,8 @@ module _ (agent : Agent) (h : list_any (λ (item : ProcItem). holds_block item.b
       let r = rounds (length agent.procs) in
       held (proc_blocks agent) (λ item. ap (λ bs. block_at bs item) r ∙ none-at agent.procs item) p ∙ e
 
-none-left : {A : Type 0} (xs : List A) → not (is_empty xs) ≡ false → xs ≡ []
-none-left [] e = refl
-none-left (x ∷ xs) e = cc
-
 -- an agent in which nothing is unbuilt
 pub built : (agent : Agent) → is_unbuilt agent ≡ false → IsBuilt agent
 built agent e =
-    let few = not (is_empty agent.devices) in
     let procs = list_any (λ (item : ProcItem). holds_block item.body) agent.procs in
-    let both = neither_first (few || holds_block agent.main) procs e in
-    record {
-      devices = none-left agent.devices (neither_first few (holds_block agent.main) both);
-      main = let m = reached agent (neither_second (few || holds_block agent.main) procs e) agent.main (neither_second few (holds_block agent.main) both) in ap not m;
-    }
+    ap not (reached agent (neither_second (holds_block agent.main) procs e) agent.main (neither_first (holds_block agent.main) procs e))

@@ -4,3 +4,11 @@ pub mod UnderWay
 pub mod Faults
 pub mod Spelled
 pub mod Laws
+pub mod Waiting
+pub mod Turns
+pub mod Keeping
+pub mod Planned
+pub mod Deciding
+pub mod Moments
+pub mod Rounds
+pub mod Leading

@@ -29,11 +29,9 @@ fn some_holds_block(procs: &[ProcItem]) -> bool
     procs.iter().any(|item| holds_block(&item.body))
 }
 
-/// Whether something in an agent can't be run yet: a device, or a search block in one of its programs.
+/// Whether something in an agent can't be run yet: a search block in one of its programs.
 pub(crate) fn is_unbuilt(agent: &Agent) -> bool
     ensures { result ≡ spec_is_unbuilt agent.now }
 {
-    !agent.devices.is_empty()
-        || holds_block(&agent.main)
-        || some_holds_block(agent.procs.as_slice())
+    holds_block(&agent.main) || some_holds_block(agent.procs.as_slice())
 }

@@ -4,10 +4,13 @@
 mod built;
 mod fault;
 mod laws;
+mod plan;
 mod reading;
-mod running;
+mod rounds;
+mod runner;
 
 pub use fault::{AgentFault, UNBUILT};
-pub use laws::{all_is_built, spelled_is_unrefused};
+pub use laws::{all_is_built, leads_alone, one_agent_is_spelled, spelled_is_unrefused};
 pub use reading::read_agent;
-pub use running::{LIMIT, run_agent};
+pub use rounds::run_inline;
+pub use runner::{Runner, Stepped};

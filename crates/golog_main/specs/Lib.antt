@@ -1,3 +1,5 @@
 pub mod Words
+pub mod Inputs
+pub mod Runs
 pub mod Outcome
 pub mod Exact

@@ -1,107 +1,95 @@
 -- What a call of the program comes to: each outcome with its cause, its text and its status.
-use Rattle.std.specs.Prelude.{◌≡◌, ◌⊎◌, ℕ, List, [], ◌∷◌, ◌++◌, Option, None, Some, IsSome, codes, decimal}
+use Rattle.std.specs.Prelude.{◌≡◌, ◌⊎◌, ℕ, ◌++◌, List, Option, None, Some, IsSome, codes}
 use Rattle.golog_base.specs.Faults.{Rose}
-use Rattle.golog_base.specs.Files.{HasNone, FileHas}
+use Rattle.golog_base.specs.Files.{FileHas}
 use Rattle.golog_base.specs.Known.{and_then_bytes, AddsPrefix}
 use Rattle.golog_base.specs.declared.mem_files.HeldFile.{HeldFile}
 use Rattle.golog_tree.specs.declared.agent.Agent.{Agent}
-use Rattle.golog_semantics.specs.declared.journal.Answer.{Answer}
-use Rattle.golog_semantics.specs.declared.journal.Entry.TheVariants.{End}
-use Rattle.golog_semantics.specs.Journal.{Journal}
 use Rattle.golog_semantics.specs.Text.{Text}
-use Rattle.golog_semantics.specs.Execution.{IsOnlineRun, status_of as answer_status}
-use Rattle.golog_agent.specs.Run.{IsPlainAnswer}
+use Rattle.golog_semantics.specs.Execution.{status_of as answer_status}
+use Rattle.golog_device.specs.Slots.{Standing}
+use Rattle.golog_script.specs.declared.scripts.Script.{Script}
 use Rattle.golog_agent.specs.Spelled.{SpellsAgent, IsFirstRefusal}
+use Rattle.golog_main.specs.declared.outcome.Input.TheVariants.{Agent as AgentFile, Devices as DevicesFile}
 use Rattle.golog_main.specs.declared.outcome.Outcome.{Outcome}
-use Rattle.golog_main.specs.declared.outcome.Outcome.TheVariants.{WordsRefused, ReadFault, AgentRefused, Ran}
+use Rattle.golog_main.specs.declared.outcome.Outcome.TheVariants.{WordsRefused, ReadFault, Refused, Ran}
+use Rattle.golog_main.specs.Words.{Names}
+use Rattle.golog_main.specs.Inputs.{line, fault_text, scripts_for, SpellsScripts, RefusesScripts, ReadsAgent, ReadsScripts, Tells, IsUnread}
+use Rattle.golog_main.specs.Runs.{IsRunOf}
 
 -- ---- what is written, and the status
 
-abbrev pub line : Text → Text
-line text = text ++ 10 ∷ []
-
--- the refusal of an agent file, with its code and its place
-abbrev pub refusal_text : ℕ → ℕ → Text
-refusal_text code at = line (codes "refused agent " ++ decimal code ++ codes " at " ++ decimal at)
-
 abbrev pub text_of : Outcome → Text
 text_of WordsRefused = line (codes "words refused")
-text_of ReadFault = line (codes "read fault agent")
-text_of (AgentRefused text) = text
+text_of (ReadFault input) = fault_text input
+text_of (Refused input text) = text
 text_of (Ran text answer) = text
 
 abbrev pub status_of : Outcome → ℕ
 status_of WordsRefused = 2
-status_of ReadFault = 4
-status_of (AgentRefused text) = 3
+status_of (ReadFault input) = 4
+status_of (Refused input text) = 3
 status_of (Ran text answer) = answer_status answer
 
 -- ---- the causes
 
--- the text is that of an online execution of the agent's program, which is done, stuck, unknown, full or deep
-pub record IsRunOf (agent : Agent) (text : Text) (answer : Answer) : Type 0 where
-  pub online : IsOnlineRun agent text (answer_status answer)
-  pub plain : IsPlainAnswer answer
+-- What is held under names, how often a call of the files had failed before and after the call, and how the devices
+-- stood before and after it.
+module _ (held : Option (List HeldFile)) (faults_before faults_after : ℕ) (olds news : List Standing) where
+  -- the scripts of the devices are read, and the program comes to this with them
+  pub record RunsScripts (agent : Agent) (named : Option Text) (text : Text) (status : ℕ) : Type 0 where
+    pub listed : List Script
+    pub reads : ReadsScripts held agent named listed
+    pub run : IsRunOf agent (scripts_for agent listed) olds news text status
 
--- the last entry ends the program, as done, stuck, unknown, full or deep
-pub record EndsInAnswer (entries : Journal) : Type 0 where
-  pub before : Journal
-  pub answer : Answer
-  pub is : entries ≡ before ++ End answer ∷ []
-  pub plain : IsPlainAnswer answer
+  -- the cause of an outcome of an agent, for the devices file that the words name, if they name one
+  abbrev pub ComesOfAgent : Agent → Option Text → Outcome → Type 0
+  ComesOfAgent agent (Some name) (ReadFault DevicesFile) =
+      IsUnread held name faults_before faults_after × (news ≡ olds)
+  ComesOfAgent agent (Some name) (Refused DevicesFile text) =
+      FileHas held name (λ bytes. Tells DevicesFile (RefusesScripts agent bytes) text) × (news ≡ olds)
+  ComesOfAgent agent named (Ran text answer) = RunsScripts agent named text (answer_status answer)
+  ComesOfAgent agent named outcome = ⊥
 
--- an outcome of the agent's program
-abbrev pub RunOf : Agent → Outcome → Type 0
-RunOf agent (Ran text answer) = IsRunOf agent text answer
-RunOf agent _ = ⊥
+  -- the agent file spells an agent, and this is an outcome of it
+  pub record ComesBehind (names : Names) (outcome : Outcome) : Type 0 where
+    pub agent : Agent
+    pub reads : ReadsAgent held names.agent agent
+    pub comes : ComesOfAgent agent names.devices outcome
 
--- the bytes spell an agent, and its program comes to this
-pub record RunsBytes (bytes text : Text) (answer : Answer) : Type 0 where
-  pub agent : Agent
-  pub spelled : SpellsAgent bytes agent
-  pub run : IsRunOf agent text answer
-
--- the text tells the first refusal of the bytes
-pub record RefusesBytes (bytes text : Text) : Type 0 where
-  pub code : ℕ
-  pub at : ℕ
-  pub refused : IsFirstRefusal bytes code at
-  pub is : text ≡ refusal_text code at
-
--- what a file of these bytes comes to
-abbrev pub ComesOf : Outcome → Text → Type 0
-ComesOf (AgentRefused text) bytes = RefusesBytes bytes text
-ComesOf (Ran text answer) bytes = RunsBytes bytes text answer
-ComesOf _ bytes = ⊥
-
--- the file of this name has bytes that come to this; they are the bytes held, where files tell them
-pub record RunsFile (held : Option (List HeldFile)) (name text : Text) (answer : Answer) : Type 0 where
-  pub bytes : Text
-  pub has : FileHas held name (λ told. told ≡ bytes)
-  pub runs : RunsBytes bytes text answer
-
--- the cause of each outcome, for the agent file that the words name
-abbrev pub Comes : Outcome → Option Text → Option (List HeldFile) → ℕ → ℕ → Type 0
-Comes WordsRefused None held faults_before faults_after = Unit {0}
-Comes ReadFault (Some name) held faults_before faults_after =
-    HasNone held name ⊎ Rose faults_before faults_after
-Comes (AgentRefused text) (Some name) held faults_before faults_after =
-    FileHas held name (λ bytes. RefusesBytes bytes text)
-Comes (Ran text answer) (Some name) held faults_before faults_after = RunsFile held name text answer
-Comes outcome name held faults_before faults_after = ⊥
+  -- the cause of each outcome, for the files that the words name
+  abbrev pub Comes : Option Names → Outcome → Type 0
+  Comes None WordsRefused = news ≡ olds
+  Comes None outcome = ⊥
+  Comes (Some names) (ReadFault AgentFile) =
+      IsUnread held names.agent faults_before faults_after × (news ≡ olds)
+  Comes (Some names) (Refused AgentFile text) =
+      FileHas held names.agent (λ bytes. Tells AgentFile (IsFirstRefusal bytes) text) × (news ≡ olds)
+  Comes (Some names) outcome = ComesBehind names outcome
 
 -- ---- the call
 
--- what the files and the sink mean at one moment
+-- what the files, the sink and the devices mean at one moment
 pub record Outside : Type 0 where
   pub held : Option (List HeldFile)
   pub file_faults : ℕ
   pub taken : Option Text
   pub sink_faults : ℕ
+  pub devices : List Standing
 
-abbrev pub outside : Option (List HeldFile) → ℕ → Option Text → ℕ → Outside
-outside held file_faults taken sink_faults =
-    record { held = held; file_faults = file_faults; taken = taken; sink_faults = sink_faults }
+abbrev pub outside : Option (List HeldFile) → ℕ → Option Text → ℕ → List Standing → Outside
+outside held file_faults taken sink_faults devices = record {
+  held = held;
+  file_faults = file_faults;
+  taken = taken;
+  sink_faults = sink_faults;
+  devices = devices;
+}
+
+-- the outcome has its cause
+abbrev pub IsCaused : Option Names → Outside → Outside → Outcome → Type 0
+IsCaused named before after outcome =
+    Comes before.held before.file_faults after.file_faults before.devices after.devices named outcome
 
 -- the text was written whole and the status answered, or a write failed and a prefix of the text was written
 abbrev pub Reports : ℕ → Text → ℕ → Option Text → Option Text → ℕ → ℕ → Type 0
@@ -110,19 +98,43 @@ Reports answered text status old new faults_before faults_after =
     ⊎ ((answered ≡ 5) × AddsPrefix old new text × Rose faults_before faults_after)
 
 -- the outcome has its cause, and was reported
-pub record Reported (status : ℕ) (named : Option Text) (before after : Outside) : Type 0 where
+pub record Reported (status : ℕ) (named : Option Names) (before after : Outside) : Type 0 where
   pub outcome : Outcome
-  pub cause : Comes outcome named before.held before.file_faults after.file_faults
+  pub cause : IsCaused named before after outcome
   pub report : Reports status (text_of outcome) (status_of outcome)
       before.taken after.taken before.sink_faults after.sink_faults
 
 -- memory ran out while a command was done, and nothing was written
-pub record Starved (status : ℕ) (named : Option Text) (before after : Outside) : Type 0 where
+pub record Starved (status : ℕ) (named : Option Names) (before after : Outside) : Type 0 where
   pub answered : status ≡ 6
   pub command : IsSome named
   pub nothing : after.taken ≡ before.taken
 
--- how a call ends whose words name this file, or are no command: with an outcome that has its cause, or for
+-- how a call ends whose words name these files, or are no command: with an outcome that has its cause, or for
 -- want of memory
-abbrev pub Ends : ℕ → Option Text → Outside → Outside → Type 0
+abbrev pub Ends : ℕ → Option Names → Outside → Outside → Type 0
 Ends status named before after = Reported status named before after ⊎ Starved status named before after
+
+-- ---- what the parts of a call come to
+
+-- what a run of the agent with these scripts comes to
+abbrev pub RunOf : Agent → List Script → List Standing → List Standing → Outcome → Type 0
+RunOf agent listed olds news (Ran text answer) =
+    IsRunOf agent (scripts_for agent listed) olds news text (answer_status answer)
+RunOf agent listed olds news outcome = ⊥
+
+-- what a devices file of these bytes comes to
+abbrev pub ComesOfScripts : Agent → Text → List Standing → List Standing → Outcome → Type 0
+ComesOfScripts agent bytes olds news (Refused DevicesFile text) =
+    Tells DevicesFile (RefusesScripts agent bytes) text × (news ≡ olds)
+ComesOfScripts agent bytes olds news outcome =
+    (listed : List Script) × SpellsScripts agent bytes listed × RunOf agent listed olds news outcome
+
+-- what an agent file of these bytes comes to
+abbrev pub ComesOfBytes : Option (List HeldFile) → ℕ → ℕ → List Standing → List Standing → Text → Option Text
+    → Outcome → Type 0
+ComesOfBytes held faults_before faults_after olds news bytes named (Refused AgentFile text) =
+    Tells AgentFile (IsFirstRefusal bytes) text × (news ≡ olds)
+ComesOfBytes held faults_before faults_after olds news bytes named outcome =
+    (agent : Agent) × SpellsAgent bytes agent
+    × ComesOfAgent held faults_before faults_after olds news agent named outcome

@@ -1,16 +1,21 @@
 //! The top call: does what the words of a command say, and answers the exit status.
 #![tactic(auto)]
 
+mod devices;
 mod laws;
 mod outcome;
+mod run;
 mod top;
 mod words;
 
+pub use devices::script_devices;
 pub use laws::each_status_where_its_cause_is;
-pub use outcome::Outcome;
+pub use outcome::{Input, Outcome};
 pub use top::{NO_MEMORY, golog};
 
 #[cfg(test)]
 mod construct_tests;
+#[cfg(test)]
+mod device_tests;
 #[cfg(test)]
 mod tests;

@@ -1,21 +1,52 @@
 // What a call of the program comes to.
-ghost use Rattle.std.specs.Prelude.{◌≡◌, ◌⊎◌, ◌++◌, [], ◌∷◌, Contains};
-ghost use Rattle.golog_semantics.specs.declared.journal.Entry.TheVariants.{End};
+ghost use Rattle.std.specs.Prelude.{◌≡◌};
 ghost use Rattle.golog_semantics.specs.Execution.{status_of as answer_status};
+ghost use Rattle.golog_main.specs.Inputs.{input_name, fault_text};
 ghost use Rattle.golog_main.specs.Outcome.{status_of, text_of};
 
 use golog_base::Bytes;
 use golog_semantics::Answer;
+
+/// A file of a run.
+#[derive(Clone, Copy, Debug, PartialEq, Eq)]
+pub enum Input {
+    /// The agent file.
+    Agent,
+    /// The file with the scripts of its devices.
+    Devices,
+}
+
+impl Input {
+    /// What the file is called in a refusal.
+    pub fn name(self) -> &'static str
+        ensures { result.now ≡ input_name self }
+    {
+        match self {
+            Input::Agent => "agent",
+            Input::Devices => "devices",
+        }
+    }
+
+    // What is written where the file cannot be read.
+    fn fault_text(self) -> &'static [u8]
+        ensures { result.now ≡ fault_text self }
+    {
+        match self {
+            Input::Agent => b"read fault agent\n",
+            Input::Devices => b"read fault devices\n",
+        }
+    }
+}
 
 /// What a call of the program comes to, before its text is written.
 #[derive(Drop)]
 pub enum Outcome {
     /// The words are no command.
     WordsRefused,
-    /// The agent file cannot be read.
-    ReadFault,
-    /// The agent file is refused: what is said of it.
-    AgentRefused { text: Bytes },
+    /// The file cannot be read.
+    ReadFault(Input),
+    /// The file is refused: what is said of it.
+    Refused { input: Input, text: Bytes },
     /// The program ran: the text of its journal, and its answer.
     Ran { text: Bytes, answer: Answer },
 }
@@ -27,8 +58,8 @@ impl Outcome {
     {
         match self {
             Outcome::WordsRefused => b"words refused\n",
-            Outcome::ReadFault => b"read fault agent\n",
-            Outcome::AgentRefused { text } | Outcome::Ran { text, .. } => text.as_slice(),
+            Outcome::ReadFault(input) => input.fault_text(),
+            Outcome::Refused { text, .. } | Outcome::Ran { text, .. } => text.as_slice(),
         }
     }
 
@@ -38,8 +69,8 @@ impl Outcome {
     {
         match self {
             Outcome::WordsRefused => 2,
-            Outcome::ReadFault => 4,
-            Outcome::AgentRefused { .. } => 3,
+            Outcome::ReadFault(_) => 4,
+            Outcome::Refused { .. } => 3,
             Outcome::Ran { answer, .. } => exit_status(*answer),
         }
     }

@@ -1,4 +1,4 @@
-use crate::{NO_MEMORY, golog};
+use crate::{NO_MEMORY, golog, script_devices};
 use golog_base::{Bytes, HeldFile, List, MemFiles, MemSink, NoMemory, Text};
 use std::alloc::Global;
 use std::test::Fail;
@@ -17,22 +17,40 @@ const LIGHT: &[u8] = b"(agent
 
 /// One call: its status, and what it wrote.
 #[derive(Drop)]
-struct Call {
-    status: u8,
-    out: MemSink,
+pub(crate) struct Call {
+    pub status: u8,
+    pub out: MemSink,
+}
+
+/// A file of this name with these bytes.
+fn held_file(alloc: Global, name: &str, bytes: &[u8]) -> Result<HeldFile, NoMemory> {
+    Ok(HeldFile {
+        name: Text::of(alloc, name)?,
+        bytes: Bytes::copy_of(alloc, bytes)?,
+    })
 }
 
 /// Files of which one, `x.agent`, has these bytes. The calls of these numbers fail.
 fn files_of(alloc: Global, bytes: &[u8], fails: &[u32]) -> Result<MemFiles, NoMemory> {
     let mut held = List::new(alloc);
-    held.push(HeldFile {
-        name: Text::of(alloc, "x.agent")?,
-        bytes: Bytes::copy_of(alloc, bytes)?,
-    })?;
+    held.push(held_file(alloc, "x.agent", bytes)?)?;
     Ok(MemFiles::new(held, List::copy_of(alloc, fails)?))
 }
 
-fn words_of(alloc: Global, of: &[&str]) -> Result<Vec<String>, NoMemory> {
+/// Files of which two, `x.agent` and `x.devices`, have these bytes. The calls of these numbers fail.
+pub(crate) fn files_of_two(
+    alloc: Global,
+    agent: &[u8],
+    devices: &[u8],
+    fails: &[u32],
+) -> Result<MemFiles, NoMemory> {
+    let mut held = List::new(alloc);
+    held.push(held_file(alloc, "x.agent", agent)?)?;
+    held.push(held_file(alloc, "x.devices", devices)?)?;
+    Ok(MemFiles::new(held, List::copy_of(alloc, fails)?))
+}
+
+pub(crate) fn words_of(alloc: Global, of: &[&str]) -> Result<Vec<String>, NoMemory> {
     let mut words = Vec::new(alloc);
     for word in of {
         words.push(String::from_str(alloc, word)?)?;
@@ -40,16 +58,56 @@ fn words_of(alloc: Global, of: &[&str]) -> Result<Vec<String>, NoMemory> {
     Ok(words)
 }
 
-/// Calls the program with these words, over these files and a sink with ample room.
-fn called(alloc: Global, words: &[&str], mut files: MemFiles) -> Result<Call, NoMemory> {
+/// Calls the program with these words, over these files, this sink and devices that follow scripts.
+fn called_over(
+    alloc: Global,
+    words: &[&str],
+    mut files: MemFiles,
+    mut out: MemSink,
+) -> Result<Call, NoMemory> {
     let words = words_of(alloc, words)?;
-    let mut out = MemSink::new(alloc, 1000, List::new(alloc))?;
-    let status = golog(alloc, words.as_slice(), &mut files, &mut out);
+    let mut devices = script_devices(alloc)?;
+    let status = golog(
+        alloc,
+        words.as_slice(),
+        &mut files,
+        &mut out,
+        devices.as_mut_slice(),
+    );
     Ok(Call { status, out })
 }
 
+/// Calls the program with these words, over these files and a sink with ample room.
+fn called(alloc: Global, words: &[&str], files: MemFiles) -> Result<Call, NoMemory> {
+    let out = MemSink::new(alloc, 1000, List::new(alloc))?;
+    called_over(alloc, words, files, out)
+}
+
+/// Runs `x.agent` with `x.devices` of these files.
+pub(crate) fn called_with(alloc: Global, files: MemFiles) -> Result<Call, NoMemory> {
+    called(alloc, &["run", "x.agent", "x.devices", "--inline"], files)
+}
+
+/// The same over a sink with room for `room` bytes.
+pub(crate) fn called_into(alloc: Global, files: MemFiles, room: u32) -> Result<Call, NoMemory> {
+    let out = MemSink::new(alloc, room, List::new(alloc))?;
+    let words = ["run", "x.agent", "x.devices", "--inline"];
+    called_over(alloc, &words, files, out)
+}
+
+/// Whether these files of an agent and of its devices are refused, and this is said of them.
+pub(crate) fn is_refused_with(
+    alloc: Global,
+    agent: &[u8],
+    devices: &[u8],
+    said: &str,
+) -> Result<bool, NoMemory> {
+    let call = called_with(alloc, files_of_two(alloc, agent, devices, &[])?)?;
+    Ok(call.status == 3 && call.out.bytes() == said.as_bytes())
+}
+
 /// Runs a file of these bytes.
-fn ran(alloc: Global, bytes: &[u8]) -> Result<Call, NoMemory> {
+pub(crate) fn ran(alloc: Global, bytes: &[u8]) -> Result<Call, NoMemory> {
     called(
         alloc,
         &["run", "x.agent", "--inline"],
@@ -59,11 +117,9 @@ fn ran(alloc: Global, bytes: &[u8]) -> Result<Call, NoMemory> {
 
 /// Runs `ONE` over a sink with room for `room` bytes. The calls of these numbers fail.
 fn ran_into(alloc: Global, room: u32, fails: &[u32]) -> Result<Call, NoMemory> {
-    let words = words_of(alloc, &["run", "x.agent", "--inline"])?;
-    let mut files = files_of(alloc, ONE, &[])?;
-    let mut out = MemSink::new(alloc, room, List::copy_of(alloc, fails)?)?;
-    let status = golog(alloc, words.as_slice(), &mut files, &mut out);
-    Ok(Call { status, out })
+    let files = files_of(alloc, ONE, &[])?;
+    let out = MemSink::new(alloc, room, List::copy_of(alloc, fails)?)?;
+    called_over(alloc, &["run", "x.agent", "--inline"], files, out)
 }
 
 #[test]
@@ -149,7 +205,7 @@ fn actions_have_arguments_and_preconditions(rt: HostRuntime) -> Result<(), Fail>
     Ok(())
 }
 
-fn are_refused(alloc: Global, words: &[&str]) -> Result<bool, NoMemory> {
+pub(crate) fn are_refused(alloc: Global, words: &[&str]) -> Result<bool, NoMemory> {
     let call = called(alloc, words, files_of(alloc, ONE, &[])?)?;
     Ok(call.status == 2 && call.out.bytes() == b"words refused\n".as_slice())
 }
@@ -326,7 +382,7 @@ fn the_least_refusal_of_a_stage_is_told(rt: HostRuntime) -> Result<(), Fail> {
 
 #[test]
 fn programs_that_may_not_be_are_refused(rt: HostRuntime) -> Result<(), Fail> {
-    let files: [(&[u8], &str); 15] = [
+    let files: [(&[u8], &str); 13] = [
         (b"(agent (main))", "refused agent 20 at 7\n"),
         (b"(agent (main (choice nil)))", "refused agent 20 at 13\n"),
         (
@@ -355,11 +411,6 @@ fn programs_that_may_not_be_are_refused(rt: HostRuntime) -> Result<(), Fail> {
         (
             b"(agent (main (search 0 1 nil)))",
             "refused agent 37 at 13\n",
-        ),
-        (b"(agent (device d) (main nil))", "refused agent 29 at 0\n"),
-        (
-            b"(agent (device d) (exo e () d) (main nil))",
-            "refused agent 29 at 0\n",
         ),
         (
             b"(agent (main (search 1 1 nil)))",
@@ -390,8 +441,8 @@ fn the_earlier_stage_goes_first(rt: HostRuntime) -> Result<(), Fail> {
             "refused agent 20 at 50\n",
         ),
         (
-            b"(agent (device d) (sort level 1 4) (fluent floor () level 9) (main nil))",
-            "refused agent 35 at 58\n",
+            b"(agent (sort level 1 4) (fluent floor () level 9) (main (search 1 1 nil)))",
+            "refused agent 35 at 47\n",
         ),
     ];
     for (bytes, said) in files {

@@ -1,26 +1,27 @@
 // The top call.
-ghost use Rattle.std.specs.Prelude.{◌≡◌, ◌⊎◌, map, string_bytes, IsSome, IfOk, OnErr, Contains};
-ghost use Rattle.golog_agent.specs.Built.{IsBuilt};
-ghost use Rattle.golog_agent.specs.Run.{IsPlainAnswer};
+ghost use Rattle.std.specs.Prelude.{◌≡◌, ◌≤◌, map, string_bytes, option_map, IsSome, IfOk, OnErr, IsTrue, length, not};
+ghost use Rattle.golog_semantics.specs.BlockFree.{has_block};
 ghost use Rattle.golog_semantics.specs.WellFormed.{WellFormed};
-ghost use Rattle.golog_semantics.specs.declared.journal.Entry.TheVariants.{End};
-ghost use Rattle.golog_main.specs.Outcome.{Comes, ComesOf, Ends, EndsInAnswer, Reports, RunOf, outside, refusal_text, text_of, status_of};
-ghost use Rattle.golog_main.specs.Words.{agent_named};
-ghost use Rattle.golog_main.specs.declared.outcome.Outcome.TheVariants.{AgentRefused};
+ghost use Rattle.golog_device.specs.Slots.{standings, FreshBelow};
+ghost use Rattle.golog_main.specs.Inputs.{refusal_text};
+ghost use Rattle.golog_main.specs.Outcome.{Comes, ComesOfAgent, ComesOfBytes, ComesOfScripts, Ends, Reports, outside, text_of, status_of};
+ghost use Rattle.golog_main.specs.Words.{files_named};
+ghost use Rattle.golog_main.specs.declared.outcome.Outcome.TheVariants.{Refused};
 
-use crate::outcome::Outcome;
-use crate::words::agent_word;
-use golog_agent::{AgentFault, read_agent, run_agent};
+use crate::outcome::{Input, Outcome};
+use crate::run::run_program;
+use crate::words::names_in;
+use golog_agent::{AgentFault, read_agent};
 use golog_base::{Bytes, Files, NoMemory, ReadFault, Sink, read_all, write_all};
-use golog_semantics::{Answer, Entry, Report};
-use golog_text::write_journal;
+use golog_device::Device;
+use golog_script::{ScriptFault, scripts_of};
 use golog_tree::Agent;
 use std::alloc::Global;
 
-/// How many bytes an agent file may have.
+/// How many bytes a file may have.
 const LONGEST_FILE: u32 = 1_048_576;
 
-/// The code of an agent file with more bytes.
+/// The code of a file with more bytes.
 const TOO_LONG: u8 = 5;
 
 /// The exit status where a write failed.
@@ -29,69 +30,160 @@ const WRITE_FAULT: u8 = 5;
 /// The exit status where memory ran out.
 pub const NO_MEMORY: u8 = 6;
 
-/// Does what the words say over these files, writes what comes of it to `out`, and answers the exit status.
+/// Does what the words say over these files and devices, writes what comes of it to `out`, and answers the exit
+/// status. The devices of the agent are the first of those given, in the order of its file; the others stay as they
+/// are.
 ///
-/// The words are `run`, a file word (not empty, and not beginning with `-`) and `--inline`. The first of
-/// these that fits is the answer:
+/// The words are `run`, a file word (not empty, and not beginning with `-`), perhaps a second one, and `--inline`.
+/// The first of these that fits is the answer:
 ///
 /// - 2, `words refused`: the words are anything else.
-/// - 4, `read fault agent`: the file is not there, or a call of `files` failed.
+/// - 4, `read fault agent`: the agent file is not there, or a call of `files` failed.
 /// - 3, `refused agent CODE at PLACE`: the file spells no agent; the code and the place are those of its first
 ///   refusal, in the order of the stages of `golog_agent::read_agent`.
-/// - 0, 10, 11, 15 or 16, the journal of an online execution of the agent's program, which ends `done`, `stuck`,
-///   `unknown`, `full` or `deep`.
+/// - 4, `read fault devices`: the devices file, where one is named, is not there, or a call of `files` failed.
+/// - 3, `refused devices CODE at POSITION`: it spells no scripts for the agent's devices; the code and the position
+///   are those of its first refusal, as of `golog_script::scripts_of`, or 5 at 1048576 where it has more bytes.
+/// - 0, or 10 to 16, the journal of an online execution of the agent's program, which ends `done`, `stuck`, `unknown`,
+///   `depth`, `fuel`, `unanswered`, `full` or `deep`. Each device that tells it was dealt with as the journal says,
+///   with its script, the empty one where the devices file has none. Where all tell what is left of their scripts, it
+///   is the journal of the rounds of these scripts.
 ///
-/// Each line ends with a line feed. Where a write fails the answer is 5, and a prefix of the text is written.
-/// Where memory runs out the answer is 6, and nothing is written.
-pub fn golog<F: Files, K: Sink>(alloc: Global, words: &[String], files: &mut F, out: &mut K) -> u8
-    ensures { Ends result (agent_named (map string_bytes words.now))
-        (outside (F.held files.old) (F.faults files.old) (K.taken out.old) (K.faults out.old))
-        (outside (F.held files.new) (F.faults files.new) (K.taken out.new) (K.faults out.new)) }
+/// Each line ends with a line feed. Where a write fails the answer is 5, and a prefix of the text is written. Where
+/// memory runs out the answer is 6; nothing is written, or the journal of a run that ends `memory`.
+pub fn golog<F: Files, K: Sink, D: Device>(
+    alloc: Global,
+    words: &[String],
+    files: &mut F,
+    out: &mut K,
+    devices: &mut [D],
+) -> u8
+    requires boxes { 16 ≤ length devices.old }
+    requires fresh { FreshBelow 16 (standings D.fresh D.meaning devices.old) }
+    ensures { Ends result (files_named (map string_bytes words.now))
+        (outside (F.held files.old) (F.faults files.old) (K.taken out.old) (K.faults out.old)
+        (standings D.fresh D.meaning devices.old))
+        (outside (F.held files.new) (F.faults files.new) (K.taken out.new) (K.faults out.new)
+        (standings D.fresh D.meaning devices.new)) }
 {
-    match outcome_of(alloc, words, files) {
+    match outcome_of(alloc, words, files, devices) {
         Ok(outcome) => report(out, outcome),
         Err(NoMemory) => NO_MEMORY,
     }
 }
 
-// What the words and the files come to.
-fn outcome_of<F: Files>(alloc: Global, words: &[String], files: &mut F) -> Result<Outcome, NoMemory>
-    ensures cause { IfOk result (λ outcome. Comes outcome (agent_named (map string_bytes words.now))
-        (F.held files.old) (F.faults files.old) (F.faults files.new)) }
-    ensures command { OnErr result (IsSome (agent_named (map string_bytes words.now))) }
+// What the words, the files and the devices come to.
+fn outcome_of<F: Files, D: Device>(
+    alloc: Global,
+    words: &[String],
+    files: &mut F,
+    devices: &mut [D],
+) -> Result<Outcome, NoMemory>
+    requires boxes { 16 ≤ length devices.old }
+    requires fresh { FreshBelow 16 (standings D.fresh D.meaning devices.old) }
+    ensures cause { IfOk result (Comes (F.held files.old) (F.faults files.old) (F.faults files.new)
+        (standings D.fresh D.meaning devices.old) (standings D.fresh D.meaning devices.new)
+        (files_named (map string_bytes words.now))) }
+    ensures command { OnErr result (IsSome (files_named (map string_bytes words.now))) }
 {
-    let Some(name) = agent_word(words) else {
+    let Some(names) = names_in(words) else {
         return Ok(Outcome::WordsRefused);
     };
-    match read_all(alloc, files, name, LONGEST_FILE) {
-        Ok(bytes) => run_file(alloc, bytes.as_slice()),
-        Err(ReadFault::Failed) => Ok(Outcome::ReadFault),
-        Err(ReadFault::TooLong) => refused(alloc, TOO_LONG, LONGEST_FILE),
+    match read_all(alloc, files, names.agent, LONGEST_FILE) {
+        Ok(bytes) => over_agent(alloc, bytes.as_slice(), names.devices, files, devices),
+        Err(ReadFault::Failed) => Ok(Outcome::ReadFault(Input::Agent)),
+        Err(ReadFault::TooLong) => refused(alloc, Input::Agent, TOO_LONG, LONGEST_FILE),
         Err(ReadFault::Memory) => Err(NoMemory),
     }
 }
 
-// What a file of these bytes comes to.
-fn run_file(alloc: Global, bytes: &[u8]) -> Result<Outcome, NoMemory>
-    ensures { IfOk result (λ outcome. ComesOf outcome bytes.now) }
+// What an agent file of these bytes comes to, with the devices file of this name.
+fn over_agent<F: Files, D: Device>(
+    alloc: Global,
+    bytes: &[u8],
+    name: Option<&str>,
+    files: &mut F,
+    devices: &mut [D],
+) -> Result<Outcome, NoMemory>
+    requires boxes { 16 ≤ length devices.old }
+    requires fresh { FreshBelow 16 (standings D.fresh D.meaning devices.old) }
+    ensures { IfOk result (ComesOfBytes (F.held files.old) (F.faults files.old) (F.faults files.new)
+        (standings D.fresh D.meaning devices.old) (standings D.fresh D.meaning devices.new)
+        bytes.now (option_map (λ file. file.now) name.entry)) }
 {
     match read_agent(alloc, bytes) {
         Ok(agent) => {
-            let outcome = run_program(alloc, &agent);
+            let outcome = run_agent(alloc, &agent, name, files, devices);
             drop(agent);
             outcome
         }
-        Err(AgentFault::Refused { code, at }) => refused(alloc, code, at),
+        Err(AgentFault::Refused { code, at }) => refused(alloc, Input::Agent, code, at),
         Err(AgentFault::Memory) => Err(NoMemory),
     }
 }
 
-// What is said of an agent file that is refused with this code and this place.
-fn refusal_text(alloc: Global, code: u8, at: u32) -> Result<Bytes, NoMemory>
-    ensures { IfOk result (λ text. text ≡ refusal_text code at) }
+// What an agent comes to, with the devices file of this name.
+#[tactic(auto, using(crate::proofs::OutcomeLemmas::without))]
+fn run_agent<F: Files, D: Device>(
+    alloc: Global,
+    agent: &Agent,
+    name: Option<&str>,
+    files: &mut F,
+    devices: &mut [D],
+) -> Result<Outcome, NoMemory>
+    requires formed { WellFormed agent.now }
+    requires blockless { IsTrue (not (has_block agent.now agent.now.main)) }
+    requires boxes { 16 ≤ length devices.old }
+    requires fresh { FreshBelow 16 (standings D.fresh D.meaning devices.old) }
+    ensures { IfOk result (ComesOfAgent (F.held files.old) (F.faults files.old) (F.faults files.new)
+        (standings D.fresh D.meaning devices.old) (standings D.fresh D.meaning devices.new)
+        agent.now (option_map (λ file. file.now) name.entry)) }
+{
+    let Some(name) = name else {
+        return run_program(alloc, agent, &[], devices);
+    };
+    match read_all(alloc, files, name, LONGEST_FILE) {
+        Ok(bytes) => over_scripts(alloc, agent, bytes.as_slice(), devices),
+        Err(ReadFault::Failed) => Ok(Outcome::ReadFault(Input::Devices)),
+        Err(ReadFault::TooLong) => refused(alloc, Input::Devices, TOO_LONG, LONGEST_FILE),
+        Err(ReadFault::Memory) => Err(NoMemory),
+    }
+}
+
+// What a devices file of these bytes comes to.
+fn over_scripts<D: Device>(
+    alloc: Global,
+    agent: &Agent,
+    bytes: &[u8],
+    devices: &mut [D],
+) -> Result<Outcome, NoMemory>
+    requires formed { WellFormed agent.now }
+    requires blockless { IsTrue (not (has_block agent.now agent.now.main)) }
+    requires small { length bytes.now ≤ LONGEST_FILE }
+    requires boxes { 16 ≤ length devices.old }
+    requires fresh { FreshBelow 16 (standings D.fresh D.meaning devices.old) }
+    ensures { IfOk result (ComesOfScripts agent.now bytes.now
+        (standings D.fresh D.meaning devices.old) (standings D.fresh D.meaning devices.new)) }
+{
+    match scripts_of(alloc, bytes, &agent.devices) {
+        Ok(scripts) => {
+            let outcome = run_program(alloc, agent, scripts.as_slice(), devices);
+            drop(scripts);
+            outcome
+        }
+        Err(ScriptFault::Refused { code, at }) => refused(alloc, Input::Devices, code, at),
+        Err(ScriptFault::Memory) => Err(NoMemory),
+    }
+}
+
+// What is said of a file that is refused with this code at this place.
+fn refusal_text(alloc: Global, input: Input, code: u8, at: u32) -> Result<Bytes, NoMemory>
+    ensures { IfOk result (λ text. text ≡ refusal_text input code at) }
 {
     let mut text = Bytes::new(alloc);
-    text.extend(b"refused agent ")?;
+    text.extend(b"refused ")?;
+    text.extend(input.name().as_bytes())?;
+    text.extend(b" ")?;
     text.extend(format!(in alloc; "{code}")?.as_bytes())?;
     text.extend(b" at ")?;
     text.extend(format!(in alloc; "{at}")?.as_bytes())?;
@@ -99,36 +191,12 @@ fn refusal_text(alloc: Global, code: u8, at: u32) -> Result<Bytes, NoMemory>
     Ok(text)
 }
 
-// The refusal of an agent file.
-fn refused(alloc: Global, code: u8, at: u32) -> Result<Outcome, NoMemory>
-    ensures { IfOk result (λ outcome. outcome ≡ AgentRefused (refusal_text code at)) }
+// The refusal of a file.
+fn refused(alloc: Global, input: Input, code: u8, at: u32) -> Result<Outcome, NoMemory>
+    ensures { IfOk result (λ outcome. outcome ≡ Refused input (refusal_text input code at)) }
 {
-    let text = refusal_text(alloc, code, at)?;
-    Ok(Outcome::AgentRefused { text })
-}
-
-// What a run of the agent's program comes to.
-fn run_program(alloc: Global, agent: &Agent) -> Result<Outcome, NoMemory>
-    requires formed { WellFormed agent.now }
-    requires built { IsBuilt agent.now }
-    ensures { IfOk result (RunOf agent.now) }
-{
-    let report = run_agent(alloc, agent)?;
-    let text = write_journal(alloc, agent, &report)?;
-    let answer = last_answer(&report);
-    Ok(Outcome::Ran { text, answer })
-}
-
-// The answer that ends a report.
-fn last_answer(report: &Report) -> Answer
-    requires { EndsInAnswer report.now.entries }
-    ensures stands { Contains report.now.entries (End result) }
-    ensures plain { IsPlainAnswer result }
-{
-    match report.entries.as_slice().last() {
-        Some(Entry::End { answer }) => *answer,
-        _ => unreachable!(),
-    }
+    let text = refusal_text(alloc, input, code, at)?;
+    Ok(Outcome::Refused { input, text })
 }
 
 // Writes what an outcome says and answers its status, or that of a fault.

@@ -1,18 +1,47 @@
 // Reads the words of a command.
 ghost use Rattle.std.specs.Prelude.{◌≡◌, map, string_bytes, option_map};
-ghost use Rattle.golog_main.specs.Words.{agent_named, is_file_word};
+ghost use Rattle.golog_main.specs.Words.{files_named, is_file_word, is_run};
 
-/// The agent file that the words name, where they are `run`, a file word and `--inline`.
-pub fn agent_word(words: &[String]) -> Option<&str>
-    ensures { option_map (λ file. file.now) result ≡ agent_named (map string_bytes words.now) }
+/// The names of the files of a run.
+#[derive(Clone, Copy)]
+pub struct Names<'w> {
+    /// The agent file.
+    pub agent: &'w str,
+    /// The file with the scripts of its devices, if there is one.
+    pub devices: Option<&'w str>,
+}
+
+/// The files that the words name, where they are `run`, one or two file words, and `--inline`.
+pub fn names_in(words: &[String]) -> Option<Names<'_>>
+    ensures { option_map
+        (λ names. record { agent = names.agent.now; devices = option_map (λ file. file.now) names.devices }) result
+        ≡ files_named (map string_bytes words.now) }
 {
     match words {
-        [first, file, last]
-            if first.as_str() == "run"
-                && names_a_file(file.as_str())
-                && last.as_str() == "--inline" => { Some(file.as_str()) }
+        [first, agent, last] if is_run(first, last) && names_a_file(agent.as_str()) => {
+            Some(Names {
+                agent: agent.as_str(),
+                devices: None,
+            })
+        }
+        [first, agent, devices, last]
+            if is_run(first, last)
+                && names_a_file(agent.as_str())
+                && names_a_file(devices.as_str()) => {
+            Some(Names {
+                agent: agent.as_str(),
+                devices: Some(devices.as_str()),
+            })
+        }
         _ => None,
     }
+}
+
+// Whether these are the first word and the last of a run.
+fn is_run(first: &String, last: &String) -> bool
+    ensures { result ≡ is_run (string_bytes first.now) (string_bytes last.now) }
+{
+    first.as_str() == "run" && last.as_str() == "--inline"
 }
 
 // Whether a word is not empty and does not begin with `-`.

@@ -1,0 +1,177 @@
+-- Copying what a board has added.
+use Rattle.std.proofs.Common.{◌≡◌, ℕ, zero, suc, ◌+◌, ◌-◌, ◌≤◌, ◌<◌, Bool, false, List, [], ◌∷◌, ◌++◌, length, length-append, take, drop, refl, sym, ap, ◌∙◌, subst, arith, append_assoc}
+use Rattle.std.specs.List.{list_any}
+use Rattle.std.proofs.lemmas.Bool.{or_parts, or_from}
+use Rattle.std.proofs.lemmas.List.{append-nil, take-append-drop, length-take-le}
+use Rattle.golog_tree.specs.declared.agent.Agent.{Agent}
+use Rattle.golog_semantics.specs.declared.journal.Entry.{Entry}
+use Rattle.golog_semantics.specs.Journal.{Journal}
+use Rattle.golog_journal.specs.declared.board.Batch.{Batch}
+use Rattle.golog_journal.specs.Boards.{IsBoardList}
+use Rattle.golog_journal.specs.Copies.{CopyIs}
+use Rattle.golog_journal.specs.Growing.{Called, Sight}
+use Rattle.golog_journal.specs.Leading.{is_of_program}
+use Rattle.golog_journal.proofs.Lawful.{lawful-front}
+use Rattle.golog_agent.specs.Turns.{Course, Follows, IsCurrent, IsOver}
+use Rattle.golog_agent.proofs.Boarding.{called-follows, called-seen, compose, still-over}
+
+-- the front of a board's list is one
+pub lawful-prefix : (agent : Agent) (front rest : Journal) → IsBoardList agent (front ++ rest) → IsBoardList agent front
+lawful-prefix agent front [] h = subst (IsBoardList agent) (append-nil front) h
+lawful-prefix agent front (e ∷ rest) h =
+    lawful-front agent front e (lawful-prefix agent (front ++ e ∷ []) rest (subst (IsBoardList agent) (sym (append_assoc front (e ∷ []) rest)) h))
+
+drop-front : {A : Type 0} (front rest : List A) → drop (length front) (front ++ rest) ≡ rest
+drop-front [] rest = refl
+drop-front (x ∷ front) rest = drop-front front rest
+
+none-long : {A : Type 0} (xs : List A) → length xs ≤ 0 → xs ≡ []
+none-long [] h = refl
+none-long (x ∷ xs) h = absurd (omega (arith, h))
+
+any-take : (p : Entry → Bool) (n : ℕ) (xs : Journal) → list_any p xs ≡ false → list_any p (take n xs) ≡ false
+any-take p zero xs h = refl
+any-take p (suc n) [] h = refl
+any-take p (suc n) (x ∷ xs) h =
+    let parts = or_parts (p x) (list_any p xs) h in
+    or_from _ _ parts.0 (any-take p n xs parts.1)
+
+any-drop : (p : Entry → Bool) (n : ℕ) (xs : Journal) → list_any p xs ≡ false → list_any p (drop n xs) ≡ false
+any-drop p zero xs h = h
+any-drop p (suc n) [] h = refl
+any-drop p (suc n) (x ∷ xs) h = any-drop p n xs (or_parts (p x) (list_any p xs) h).1
+
+-- a batch of what the runner lacks of the board's list
+pub record Copying (course : Course) (sight : Sight) (batch : Batch) : Type 0 where
+  pub over : IsOver course sight
+  pub copy : CopyIs sight.seen (length course.list) batch []
+  pub lawful : IsBoardList sight.agent sight.seen
+  pub short : length sight.seen ≤ 65553
+
+module _ (course : Course) (old new : Sight) (since : ℕ) (batch : Batch) (over : IsOver course old) (at : since ≡ length course.list)
+    (call : Called (λ point. CopyIs point since batch) old new) where
+  pub copy-follows : Follows old new []
+  copy-follows = called-follows (λ point. CopyIs point since batch) old new call [] call.answered.none
+
+  pub copy-begins : Copying course new batch
+  copy-begins =
+      let whole = called-seen (λ point. CopyIs point since batch) old new call call.answered.none in
+      record {
+        over = still-over old new copy-follows course over;
+        copy =
+            subst (λ n. CopyIs new.seen n batch []) at
+            (subst (λ seen. CopyIs seen since batch []) (sym whole) (subst (CopyIs (old.seen ++ call.others) since batch) call.answered.none call.answered));
+        lawful = call.lawful;
+        short = call.short;
+      }
+
+module _ (course : Course) (sight : Sight) (batch : Batch) (c : Copying course sight batch) where
+  abbrev since : Journal
+  since = c.over.behind.since
+
+  abbrev new : Journal
+  new = take batch.count batch.entries
+
+  lacks : drop (length course.list) sight.seen ≡ since
+  lacks = ap (drop (length course.list)) c.over.behind.front ∙ drop-front course.list since
+
+  pub new-so : new ≡ take batch.count since
+  new-so = c.copy.entries ∙ ap (take batch.count) lacks
+
+  long : length sight.seen ≡ length course.list + length since
+  long = ap (λ seen. length seen) c.over.behind.front ∙ length-append course.list since
+
+  few : batch.count ≤ length since
+  few =
+      let count = c.copy.count in
+      let more = long in
+      omega (arith, count, more)
+
+  pub new-of-devices : list_any is_of_program new ≡ false
+  new-of-devices = ap (list_any is_of_program) new-so ∙ any-take is_of_program batch.count since c.over.behind.of_devices
+
+  split : course.list ++ since ≡ (course.list ++ new) ++ drop batch.count since
+  split =
+      ap (λ rest. course.list ++ rest) (sym (take-append-drop batch.count since))
+      ∙ sym (append_assoc course.list (take batch.count since) (drop batch.count since))
+      ∙ ap (λ xs. (course.list ++ xs) ++ drop batch.count since) (sym new-so)
+
+  pub new-lawful : IsBoardList course.agent (course.list ++ new)
+  new-lawful =
+      lawful-prefix course.agent (course.list ++ new) (drop batch.count since)
+      (subst (IsBoardList course.agent) (c.over.behind.front ∙ split) (subst (λ agent. IsBoardList agent sight.seen) (sym c.over.of_agent) c.lawful))
+
+  pub over-then : (later : Course) → later.agent ≡ course.agent → later.list ≡ course.list ++ new → IsOver later sight
+  over-then later agent list = record {
+    of_agent = agent ∙ c.over.of_agent;
+    held = c.over.held;
+    behind = record {
+      since = drop batch.count since;
+      front = c.over.behind.front ∙ split ∙ ap (λ xs. xs ++ drop batch.count since) (sym list);
+      of_devices = any-drop is_of_program batch.count since c.over.behind.of_devices;
+    };
+  }
+
+  pub longer-then : (later : Course) → later.list ≡ course.list ++ new → 0 < batch.count → 65553 - length later.list < 65553 - length course.list
+  longer-then later list some =
+      let more = ap (λ xs. length xs) list ∙ length-append course.list new in
+      let count = ap (λ xs. length xs) new-so ∙ length-take-le batch.count since few in
+      let low = few in
+      let all = long in
+      let short = c.short in
+      omega (arith, more, count, low, all, short, some)
+
+  pub copied : batch.count ≡ 0 → IsCurrent course sight
+  copied none = record {
+    of_agent = c.over.of_agent;
+    held = c.over.held;
+    whole =
+        sym (c.over.behind.front
+        ∙ ap (λ xs. course.list ++ xs) (none-long since (let count = c.copy.count in let all = long in omega (arith, count, all, none)))
+        ∙ append-nil course.list);
+  }
+
+-- ---- the loop
+
+-- what a loop that copies keeps: the first course and sight, and those now with the last batch
+pub record Copies (first : Course) (before : Sight) (course : Course) (sight : Sight) (batch : Batch) : Type 0 where
+  pub copying : Copying course sight batch
+  pub same : course.agent ≡ first.agent
+  pub follows : Follows before sight []
+
+-- the course that takes a batch
+abbrev pub taking : Course → Batch → Course
+taking course batch = record { agent = course.agent; list = course.list ++ take batch.count batch.entries }
+
+pub copies-first : (course : Course) (old new : Sight) (since : ℕ) (batch : Batch) → IsOver course old → since ≡ length course.list
+    → Called (λ point. CopyIs point since batch) old new → Copies course old course new batch
+copies-first course old new since batch over at call = record {
+  copying = copy-begins course old new since batch over at call;
+  same = refl;
+  follows = copy-follows course old new since batch over at call;
+}
+
+module _ (first : Course) (before : Sight) (course : Course) (old : Sight) (batch : Batch) (c : Copies first before course old batch) where
+  pub batch-lawful : IsBoardList course.agent (course.list ++ take batch.count batch.entries)
+  batch-lawful = new-lawful course old batch c.copying
+
+  pub batch-of-devices : list_any is_of_program (take batch.count batch.entries) ≡ false
+  batch-of-devices = new-of-devices course old batch c.copying
+
+  pub copies-done : batch.count ≤ 0 → IsCurrent course old
+  copies-done none = copied course old batch c.copying (omega (arith, none))
+
+  module _ (later : Course) (is : later ≡ taking course batch) where
+    taken-over : IsOver later old
+    taken-over = over-then course old batch c.copying later (ap (λ (x : Course). x.agent) is) (ap (λ (x : Course). x.list) is)
+
+    pub copies-shorter : 0 < batch.count → 65553 - length later.list < 65553 - length course.list
+    copies-shorter some = longer-then course old batch c.copying later (ap (λ (x : Course). x.list) is) some
+
+    pub copies-next : (new : Sight) (since : ℕ) (next : Batch) → since ≡ length later.list → Called (λ point. CopyIs point since next) old new
+        → Copies first before later new next
+    copies-next new since next at call = record {
+      copying = copy-begins later old new since next taken-over at call;
+      same = ap (λ (x : Course). x.agent) is ∙ c.same;
+      follows = compose before old new c.follows [] (copy-follows later old new since next taken-over at call);
+    }

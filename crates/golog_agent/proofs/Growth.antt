@@ -1,0 +1,162 @@
+-- What a runner keeps, with one more entry.
+use Rattle.std.proofs.Common.{◌≡◌, ℕ, ◌<◌, Bool, true, false, not, ◌&&◌, ◌||◌, List, [], ◌∷◌, ◌++◌, length, Option, Some, None, refl, sym, ap, ◌∙◌, subst, arith}
+use Rattle.std.specs.Prelude.{slice_get, option_and_then, unwrap_or, nat_lt}
+use Rattle.std.specs.List.{list_any}
+use Rattle.std.specs.Option.{option_map_or}
+use Rattle.std.proofs.lemmas.Bool.{and_parts}
+use Rattle.std.proofs.lemmas.Option.{slice_get_within}
+use Rattle.std.proofs.lemmas.List.Elements.{Contains-push, Contains-append_left}
+use Rattle.golog_tree.specs.declared.agent.Agent.{Agent}
+use Rattle.golog_tree.specs.declared.agent.ActionItem.{ActionItem}
+use Rattle.golog_tree.specs.declared.prog.Prog.{Prog}
+use Rattle.golog_tree.specs.declared.prog.Label.TheVariants.{Do as Doing}
+use Rattle.golog_tree.specs.Ground.{Ground, ground_actions}
+use Rattle.golog_semantics.specs.declared.journal.Entry.{Entry}
+use Rattle.golog_semantics.specs.declared.journal.Entry.TheVariants.{Do, Test, Exo, Sense, Rest, Close, End}
+use Rattle.golog_semantics.specs.declared.journal.Answer.{Answer}
+use Rattle.golog_semantics.specs.declared.Mode.TheVariants.{Must}
+use Rattle.golog_semantics.specs.Search.{final}
+use Rattle.golog_semantics.specs.Ways.{is_empty}
+use Rattle.golog_semantics.specs.Journal.{Journal, action_item, commands, count, has_end, is_end, is_settled, limit}
+use Rattle.golog_semantics.specs.Progress.{after_entry, values_after, left_after}
+use Rattle.golog_semantics.specs.BlockFree.{has_block}
+use Rattle.golog_semantics.specs.WellFormed.{WellFormed}
+use Rattle.golog_semantics.specs.Online.{IsOnlineSoFar, fault_at, first_fault, is_first, is_result, keeps_step}
+use Rattle.golog_semantics.specs.OneMore.{and_then, with_runs}
+use Rattle.golog_semantics.specs.Reports.{fits_entry, is_device, is_exogenous, is_value}
+use Rattle.golog_semantics.specs.SortLaws.{AreInSorts}
+use Rattle.golog_semantics.specs.Blocks.{moves}
+use Rattle.golog_semantics.proofs.Grown.{entries_grow, progress_grows, report_grows}
+use Rattle.golog_semantics.proofs.OnlineSorts.{online_stays}
+use Rattle.golog_progress.specs.Entries.{EntryFits, EntriesFit}
+use Rattle.golog_journal.specs.Boards.{IsBoardList}
+use Rattle.golog_journal.proofs.Lawful.{lawful-last, lawful-parts}
+use Rattle.golog_journal.proofs.Serving.{well_formed_serves}
+use Rattle.golog_agent.specs.Keeping.{EndsBy, IsUnderWay, KeepsUp, awaited_by, ended_by}
+use Rattle.golog_agent.specs.Turns.{Course}
+use Rattle.golog_agent.proofs.Awaiting.{awaits-after}
+use Rattle.golog_agent.proofs.Kept.{keeps_its_step}
+
+module _ (agent : Agent) (journal : Journal) where
+  -- ---- an entry of the agent
+
+  within : (test : ActionItem → Bool) (action : ℕ) → option_map_or test (action_item agent action) false ≡ true → action < length (ground_actions agent)
+  within test action h = go (slice_get (ground_actions agent) action) refl
+    where
+      go : (o : Option Ground) → slice_get (ground_actions agent) action ≡ o → action < length (ground_actions agent)
+      go (Some at) e = slice_get_within (ground_actions agent) action at e
+      go None e = absurd (let k = sym (ap (λ o. option_map_or test (option_and_then (λ (at : Ground). slice_get agent.actions at.0) o) false) e) ∙ h in cc)
+
+  entry-of-agent : (e : Entry) → fits_entry agent journal e ≡ true → EntryFits agent e
+  entry-of-agent (Do action) h = within (λ (item : ActionItem). is_empty item.posters) action h
+  entry-of-agent (Exo p action) h = within (λ (item : ActionItem). not (is_empty item.posters)) action (and_parts (is_device agent p) (is_exogenous agent action) h).1
+  entry-of-agent (Sense p at f v) h =
+      (and_parts (is_device agent p) (is_value agent f v) (and_parts (is_device agent p && is_value agent f v) (list_any (is_result agent journal at f) (commands agent p journal)) h).0).1
+  entry-of-agent Test h = tt
+  entry-of-agent (Rest p t) h = tt
+  entry-of-agent (Close p r t) h = tt
+  entry-of-agent (End a) h = tt
+
+  pub entries-fit : (e : Entry) → IsBoardList agent (journal ++ e ∷ []) → EntriesFit agent (e ∷ [])
+  entries-fit e lawful = (entry-of-agent e (lawful-parts agent journal e (lawful-last agent journal e lawful)).of_agent, tt)
+
+  pub sorted : (values : List ℕ) → values ≡ values_after agent journal → IsUnderWay agent journal → AreInSorts agent values
+  sorted values is u = subst (AreInSorts agent) (sym is) (online_stays agent u.formed (with_runs [] journal) u.online)
+
+  -- ---- the end
+
+  or-false : (b : Bool) → (b || false) ≡ b
+  or-false true = refl
+  or-false false = refl
+
+  others : (ended : Option Answer) (e : Entry) → is_end e ≡ false → EndsBy journal ended → EndsBy (and_then journal e) ended
+  others None e none h = (entries_grow journal e).end ∙ ap (λ b. has_end journal || b) none ∙ or-false (has_end journal) ∙ h
+  others (Some a) e none h = Contains-append_left journal (e ∷ []) (End a) h
+
+  ends-after : (ended : Option Answer) (e : Entry) → EndsBy journal ended → EndsBy (and_then journal e) (ended_by ended e)
+  ends-after ended (End a) h = Contains-push journal (End a)
+  ends-after ended (Do a) h = others ended (Do a) refl h
+  ends-after ended Test h = others ended Test refl h
+  ends-after ended (Exo p a) h = others ended (Exo p a) refl h
+  ends-after ended (Sense p at f v) h = others ended (Sense p at f v) refl h
+  ends-after ended (Rest p t) h = others ended (Rest p t) refl h
+  ends-after ended (Close p r t) h = others ended (Close p r t) refl h
+
+  -- ---- a step
+
+  settled-step : (values : List ℕ) (p : Prog) (action : ℕ) → keeps_step agent journal values p (Do action) ≡ true → is_settled agent journal ≡ true
+  settled-step values p action h =
+      let four = and_parts (is_settled agent journal && not (final agent values Must p) && nat_lt (count journal) limit) (is_first agent journal (Doing action) (moves agent values Must p)) h in
+      let three = and_parts (is_settled agent journal && not (final agent values Must p)) (nat_lt (count journal) limit) four.0 in
+      (and_parts (is_settled agent journal) (not (final agent values Must p)) three.0).0
+
+  pub keeps-up : (e : Entry) (values : List ℕ) (left after : Prog) (awaited : Option ℕ) (ended : Option Answer) → KeepsUp agent journal values left awaited ended
+      → IsBoardList agent (journal ++ e ∷ []) → fault_at agent None [] journal e ≡ None → left_after agent (journal ++ e ∷ []) ≡ after
+      → KeepsUp agent (journal ++ e ∷ []) (after_entry agent values e) after (awaited_by agent awaited e) (ended_by ended e)
+  keeps-up e values left after awaited ended k lawful h is =
+      let u = k.under_way in
+      record {
+        under_way = record {
+          formed = u.formed;
+          blockless = u.blockless;
+          lawful = lawful;
+          online = (report_grows agent journal e []).online u.online h;
+        };
+        values_so = ap (λ vs. after_entry agent vs e) k.values_so ∙ sym (progress_grows agent journal e).values;
+        left_so = sym is;
+        awaits = awaits-after agent journal awaited e (well_formed_serves agent u.formed) u.lawful
+            (lawful-parts agent journal e (lawful-last agent journal e lawful)).place
+            (λ action same. settled-step (values_after agent journal) (left_after agent journal) action
+            (subst (λ x. keeps_step agent journal (values_after agent journal) (left_after agent journal) x ≡ true) same (keeps_its_step agent journal e h))) k.awaits;
+        ends = ends-after ended e k.ends;
+      }
+
+-- the same of equal values
+pub kept-as : (agent : Agent) (j k : Journal) (v w : List ℕ) (p q : Prog) (a b : Option ℕ) (e f : Option Answer) → k ≡ j → w ≡ v → q ≡ p → b ≡ a → f ≡ e
+    → KeepsUp agent j v p a e → KeepsUp agent k w q b f
+kept-as agent j k v w p q a b e f kj wv qp ba fe h =
+    subst (λ x. KeepsUp agent x w q b f) (sym kj)
+    (subst (λ x. KeepsUp agent j x q b f) (sym wv)
+    (subst (λ x. KeepsUp agent j v x b f) (sym qp)
+    (subst (λ x. KeepsUp agent j v p x f) (sym ba)
+    (subst (λ x. KeepsUp agent j v p a x) (sym fe) h))))
+
+-- as contracts see it
+abbrev pub seen_as : Agent → Journal → Course
+seen_as agent list = record { agent = agent; list = list }
+
+pub lawful-inside : (agent : Agent) (list : Journal) (value : Course) (e : Entry) → seen_as agent list ≡ value → IsBoardList value.agent (value.list ++ e ∷ []) → IsBoardList agent (list ++ e ∷ [])
+lawful-inside agent list value e is lawful = subst (λ (v : Course). IsBoardList v.agent (v.list ++ e ∷ [])) (sym is) lawful
+
+-- all that a runner keeps, after one more entry
+pub kept-then : (agent : Agent) (list after : Journal) (value : Course) (e : Entry) (state rolled : List ℕ) (left new : Prog) (given : Option Prog) (awaited next : Option ℕ) (ended last : Option Answer)
+    → seen_as agent list ≡ value → KeepsUp agent list state left awaited ended → IsBoardList value.agent (value.list ++ e ∷ [])
+    → fault_at value.agent None [] value.list e ≡ None → left_after value.agent (value.list ++ e ∷ []) ≡ unwrap_or given (left_after value.agent value.list)
+    → after ≡ list ++ e ∷ [] → rolled ≡ after_entry agent state e → new ≡ unwrap_or given left → next ≡ awaited_by agent awaited e → last ≡ ended_by ended e
+    → KeepsUp agent after rolled new next last
+kept-then agent list after value e state rolled left new given awaited next ended last is k lawful online goes la ra na aa ea =
+    kept-as agent (list ++ e ∷ []) after (after_entry agent state e) rolled (unwrap_or given left) new (awaited_by agent awaited e) next (ended_by ended e) last la ra na aa ea
+    (keeps-up agent list e state left (unwrap_or given left) awaited ended k (lawful-inside agent list value e is lawful)
+    (subst (λ (v : Course). fault_at v.agent None [] v.list e ≡ None) (sym is) online)
+    (subst (λ (v : Course). left_after v.agent (v.list ++ e ∷ []) ≡ unwrap_or given (left_after v.agent v.list)) (sym is) goes ∙ ap (unwrap_or given) (sym k.left_so)))
+
+-- ---- before any entry
+
+first-rules : (agent : Agent) → IsBoardList agent []
+first-rules agent = record { lawful = refl; room = omega arith }
+
+first-online : (agent : Agent) → IsOnlineSoFar agent (with_runs [] [])
+unfolding IsOnlineSoFar first_fault
+first-online agent = refl
+
+pub kept-first : (agent : Agent) (list : Journal) (values : List ℕ) (left : Prog) → WellFormed agent → not (has_block agent agent.main) ≡ true
+    → list ≡ [] → values ≡ values_after agent [] → left ≡ agent.main → KeepsUp agent list values left None None
+kept-first agent list values left formed blockless empty v l =
+    kept-as agent [] list (values_after agent []) values agent.main left None None None None empty v l refl refl
+    (record {
+      under_way = record { formed = formed; blockless = blockless; lawful = first-rules agent; online = first-online agent };
+      values_so = refl;
+      left_so = refl;
+      awaits = λ d. refl;
+      ends = refl;
+    })

@@ -1,0 +1,249 @@
+-- What the program is to do is so of the entries.
+use Rattle.std.proofs.Common.{◌≡◌, ◌≢◌, ℕ, zero, suc, ◌+◌, ◌≤◌, ◌<◌, Bool, true, false, not, ◌&&◌, ◌||◌, if◌then◌else◌, List, [], ◌∷◌, length, Option, Some, None, ◌⊎◌, inl, inr, refl, sym, ap, ◌∙◌, subst, arith}
+use Rattle.std.specs.Prelude.{is_none, Contains, nat_lt}
+use Rattle.std.specs.List.{list_all, range_with_len}
+use Rattle.std.proofs.lemmas.Bool.{cases_eq, cases_lt, lt-ltb, le-leb}
+use Rattle.std.proofs.lemmas.List.Elements.{Contains-append_left, Contains-push}
+use Rattle.golog_tree.specs.declared.agent.Agent.{Agent}
+use Rattle.golog_tree.specs.declared.prog.Prog.{Prog}
+use Rattle.golog_tree.specs.Nest.{nest}
+use Rattle.golog_semantics.specs.declared.Mode.TheVariants.{Must, May, Near}
+use Rattle.golog_semantics.specs.declared.search.Move.{Move}
+use Rattle.golog_semantics.specs.declared.journal.Answer.{Answer}
+use Rattle.golog_semantics.specs.declared.journal.Answer.TheVariants as answer
+use Rattle.golog_semantics.specs.Ways.{is_empty}
+use Rattle.golog_semantics.specs.Search.{final, nest_limit}
+use Rattle.golog_semantics.specs.Blocks.{moves}
+use Rattle.golog_semantics.specs.BlockFree.{has_block}
+use Rattle.golog_semantics.specs.Journal.{Journal, count, is_at_rest, is_full, is_open, is_quiet, is_settled, limit, outstanding}
+use Rattle.golog_semantics.specs.Progress.{values_after, left_after}
+use Rattle.golog_semantics.specs.ProgFits.{fits}
+use Rattle.golog_semantics.specs.Answer.{answer_after, first_that_fits, is_deep, is_unanswered}
+use Rattle.golog_semantics.proofs.LeftFits.{left_after-fits}
+use Rattle.golog_search.specs.declared.decision.Blocked.{Blocked}
+use Rattle.golog_search.specs.declared.decision.Decision.{Decision}
+use Rattle.golog_search.specs.declared.decision.Decision.TheVariants.{Final, Step, Blocked as Blocking, Fuel, Deep}
+use Rattle.golog_search.specs.Decided.{along, decision}
+use Rattle.golog_search.specs.Laws.{answer_of, blocked_answer}
+use Rattle.golog_search.proofs.Answering.{decided_answered}
+use Rattle.golog_search.proofs.LeftBlockless.{left_blockless, step_blockless}
+use Rattle.golog_journal.specs.Boards.{IsBoardList}
+use Rattle.golog_agent.specs.declared.plan.Plan.{Plan}
+use Rattle.golog_agent.specs.declared.plan.Plan.TheVariants as plan
+use Rattle.golog_agent.specs.Deciding.{plan_by}
+use Rattle.golog_agent.specs.Keeping.{AwaitsFrom, AwaitsOne, IsUnderWay, KeepsUp}
+use Rattle.golog_agent.proofs.Awaiting.{settled-none, settled-one, unanswered-closed, unanswered-none, unanswered-open}
+use Rattle.golog_agent.specs.Planned.{IsNextStep, PlanIs}
+use Rattle.golog_agent.specs.Turns.{Course}
+use Rattle.golog_agent.specs.Waiting.{has_no_step, waits}
+use Rattle.golog_agent.proofs.Growth.{seen_as}
+use Rattle.golog_agent.proofs.Resting.{rest-is-answered}
+
+-- the answer, by what it is decided by
+abbrev pub answer_cases : Bool → Bool → Bool → Bool → List Move → Bool → Bool → Bool → Option Answer
+answer_cases full unanswered settled ends steps quiet near may =
+    first_that_fits
+    ((full, Some answer.Full)
+    ∷ (unanswered, Some answer.Unanswered)
+    ∷ (not settled, None)
+    ∷ (ends, Some answer.Done)
+    ∷ (is_deep steps, Some answer.Deep)
+    ∷ (not (is_empty steps), None)
+    ∷ (not quiet, None)
+    ∷ (near, Some answer.Unknown)
+    ∷ (may, Some answer.Depth)
+    ∷ [])
+    (Some answer.Stuck)
+
+all-but-one : (f : ℕ → Bool) (d : ℕ) → f d ≡ false → (a n : ℕ) → a ≤ d → d < a + n → list_all f (range_with_len a n) ≡ false
+all-but-one f d h a zero low high = absurd (omega (arith, low, high))
+all-but-one f d h a (suc n) low high = go (cases_eq a d) (λ (k : a ≢ d). all-but-one f d h (a + 1) n (omega (arith, low, k)) (omega (arith, high)))
+  where
+    later : (b : Bool) → list_all f (range_with_len (a + 1) n) ≡ false → (b && list_all f (range_with_len (a + 1) n)) ≡ false
+    later true e = e
+    later false e = refl
+
+    go : (a ≡ d) ⊎ (a ≡ d → ⊥) → (a ≢ d → list_all f (range_with_len (a + 1) n) ≡ false) → (f a && list_all f (range_with_len (a + 1) n)) ≡ false
+    go (inl e) rest = ap (λ k. f k && list_all f (range_with_len (a + 1) n)) e ∙ ap (λ b. b && list_all f (range_with_len (a + 1) n)) h
+    go (inr k) rest = later (f a) (rest k)
+
+not-above : (n k : ℕ) → nat_lt n k ≡ false → k ≤ n
+not-above n k e = go (cases_lt n k)
+  where
+    go : (n < k) ⊎ (k ≤ n) → k ≤ n
+    go (inl low) = absurd (let h = sym e ∙ lt-ltb n k low in cc)
+    go (inr high) = high
+
+module _ (agent : Agent) (journal : Journal) where
+  abbrev V : List ℕ
+  V = values_after agent journal
+
+  abbrev P : Prog
+  P = left_after agent journal
+
+  -- the answer, where the first tests have these truths
+  answer-by : (full unanswered settled : Bool) → is_full journal ≡ full → is_unanswered agent journal ≡ unanswered → is_settled agent journal ≡ settled
+      → answer_after agent journal
+      ≡ answer_cases full unanswered settled (final agent V Must P) (moves agent V Must P) (is_quiet agent journal) (not (is_empty (moves agent V Near P)) || final agent V Near P) (not (is_empty (moves agent V May P)))
+  unfolding answer_after
+  answer-by full unanswered settled f u s =
+      let E = final agent V Must P in
+      let M = moves agent V Must P in
+      let Q = is_quiet agent journal in
+      let N = not (is_empty (moves agent V Near P)) || final agent V Near P in
+      let Y = not (is_empty (moves agent V May P)) in
+      ap (λ b. answer_cases b (is_unanswered agent journal) (is_settled agent journal) E M Q N Y) f
+      ∙ ap (λ b. answer_cases full b (is_settled agent journal) E M Q N Y) u
+      ∙ ap (λ b. answer_cases full unanswered b E M Q N Y) s
+
+  pub full-plan : is_full journal ≡ true → PlanIs agent journal (plan.End answer.Full)
+  full-plan h = inr (answer-by true (is_unanswered agent journal) (is_settled agent journal) h refl refl)
+
+  pub unanswered-plan : is_full journal ≡ false → is_unanswered agent journal ≡ true → PlanIs agent journal (plan.End answer.Unanswered)
+  unanswered-plan f u = inr (answer-by false true (is_settled agent journal) f u refl)
+
+  waits-so : is_quiet agent journal ≡ false → answer_after agent journal ≡ None → (not (is_settled agent journal) || has_no_step agent journal) ≡ true → waits agent journal ≡ true
+  unfolding waits
+  waits-so q a s =
+      ap (λ b. not b && is_none (answer_after agent journal) && (not (is_settled agent journal) || has_no_step agent journal)) q
+      ∙ ap (λ o. is_none o && (not (is_settled agent journal) || has_no_step agent journal)) a ∙ s
+
+  module _ (device : ℕ) (one : AwaitsOne agent journal device) (list : IsBoardList agent journal) (still_open : is_open device journal ≡ true) where
+    not-rest : is_at_rest agent journal device ≡ false
+    not-rest = go (is_at_rest agent journal device) refl
+      where
+        go : (b : Bool) → is_at_rest agent journal device ≡ b → b ≡ false
+        go false e = refl
+        go true e = absurd (let k = sym (rest-is-answered agent device journal list e) ∙ one.own in cc)
+
+    awake : is_quiet agent journal ≡ false
+    awake =
+        all-but-one (λ d. not (is_open d journal) || is_at_rest agent journal d) device
+        (ap (λ b. not b || is_at_rest agent journal device) still_open ∙ not-rest) 0 (length agent.devices) (omega arith) (let k = one.is_device in omega (arith, k))
+
+    pub result-plan : is_full journal ≡ false → is_unanswered agent journal ≡ false → is_settled agent journal ≡ false → PlanIs agent journal plan.Wait
+    result-plan f u s = waits-so awake (answer-by false false false f u s) (ap (λ b. not b || has_no_step agent journal) s)
+
+  -- ---- what was decided
+
+  module _ (under : IsUnderWay agent journal) where
+    pub left-fits : (left : Prog) → left ≡ left_after agent journal → fits agent left ≡ true
+    left-fits left e = ap (fits agent) e ∙ left_after-fits agent under.formed journal
+
+    pub left-free : (left : Prog) → left ≡ left_after agent journal → not (has_block agent left) ≡ true
+    left-free left e = ap (λ p. not (has_block agent p)) e ∙ left_blockless agent under.blockless journal
+
+  step-inside : (m : Move) (b : Bool) (ms : List Move) → (if b then Final else along agent V P ms) ≡ Step m
+      → (b ≡ false) × (nest m.left ≤ nest_limit) × ((others : List Move) × (ms ≡ m ∷ others))
+  step-inside m true ms e = absurd (cc)
+  step-inside m false [] e = absurd (cc)
+  step-inside m false (x ∷ ms) e = go (nat_lt nest_limit (nest x.left)) refl
+    where
+      go : (b : Bool) → nat_lt nest_limit (nest x.left) ≡ b → (false ≡ false) × (nest m.left ≤ nest_limit) × ((others : List Move) × (x ∷ ms ≡ m ∷ others))
+      go true k = absurd (let h = sym (ap (λ b. if b then Deep else Step x) k) ∙ e in cc)
+      go false k =
+          let h : Step x ≡ Step m = sym (ap (λ b. if b then Deep else Step x) k) ∙ e in
+          let same : x ≡ m = cc in
+          (refl, subst (λ (y : Move). nest y.left ≤ nest_limit) same (not-above nest_limit (nest x.left) k), (ms, ap (λ y. y ∷ ms) same))
+
+  none-inside : (b : Blocked) (e : Bool) (ms : List Move) → (if e then Final else along agent V P ms) ≡ Blocking b → ms ≡ []
+  none-inside b true ms h = absurd (cc)
+  none-inside b false [] h = refl
+  none-inside b false (x ∷ ms) h = go (nat_lt nest_limit (nest x.left)) refl
+    where
+      go : (d : Bool) → nat_lt nest_limit (nest x.left) ≡ d → x ∷ ms ≡ []
+      go true k = absurd (let j = sym (ap (λ b. if b then Deep else Step x) k) ∙ h in cc)
+      go false k = absurd (let j = sym (ap (λ b. if b then Deep else Step x) k) ∙ h in cc)
+
+  module _ (under : IsUnderWay agent journal) (full : is_full journal ≡ false) (answered : is_unanswered agent journal ≡ false) (settled : is_settled agent journal ≡ true) where
+    answer-so : (d : Decision) → decision agent V P ≡ d → answer_after agent journal ≡ answer_of (is_quiet agent journal) d
+    unfolding answer_after
+    answer-so d e = decided_answered agent journal V P full answered settled ∙ ap (answer_of (is_quiet agent journal)) e
+
+    below-limit : count journal < limit
+    below-limit = go (cases_lt (count journal) limit)
+      where
+        go : (count journal < limit) ⊎ (limit ≤ count journal) → count journal < limit
+        go (inl low) = low
+        go (inr high) = absurd (let k = sym full ∙ le-leb limit (count journal) high in cc)
+
+    next-step : (m : Move) → decision agent V P ≡ Step m → IsNextStep agent journal m
+    unfolding decision
+    next-step m e =
+        let inside = step-inside m (final agent V Must P) (moves agent V Must P) e in
+        record {
+          settled = settled;
+          not_final = inside.0;
+          room = below-limit;
+          others = inside.2.0;
+          first = inside.2.1;
+          no_run = (step_blockless agent V Must P (left-free under P refl) m (subst (λ ms. Contains ms m) (sym inside.2.1) (Contains-append_left (m ∷ []) inside.2.0 m (Contains-push [] m)))).no_run;
+          nests = inside.1;
+        }
+
+    no-step : (b : Blocked) → decision agent V P ≡ Blocking b → has_no_step agent journal ≡ true
+    unfolding decision
+    no-step b e = ap is_empty (none-inside b (final agent V Must P) (moves agent V Must P) e)
+
+    or-true : (b : Bool) → (b || true) ≡ true
+    or-true true = refl
+    or-true false = refl
+
+    blocked-plan : (b : Blocked) (quiet : Bool) → is_quiet agent journal ≡ quiet → decision agent V P ≡ Blocking b → PlanIs agent journal (plan_by quiet (Blocking b))
+    blocked-plan b true q e = inr (answer-so (Blocking b) e ∙ ap (λ k. if k then Some (blocked_answer b) else None) q)
+    blocked-plan b false q e =
+        waits-so q (answer-so (Blocking b) e ∙ ap (λ k. if k then Some (blocked_answer b) else None) q)
+        (ap (λ k. not (is_settled agent journal) || k) (no-step b e) ∙ or-true (not (is_settled agent journal)))
+
+    pub decided-plan : (d : Decision) (quiet : Bool) → decision agent V P ≡ d → is_quiet agent journal ≡ quiet → PlanIs agent journal (plan_by quiet d)
+    decided-plan Final quiet e q = inr (answer-so Final e)
+    decided-plan (Step m) quiet e q = next-step m e
+    decided-plan (Blocking b) quiet e q = blocked-plan b quiet q e
+    decided-plan Fuel quiet e q = inr (answer-so Fuel e)
+    decided-plan Deep quiet e q = inr (answer-so Deep e)
+
+-- what is to be done, by the device whose result is awaited
+module _ (agent : Agent) (journal : Journal) (awaited : Option ℕ) (awaits : AwaitsFrom agent journal awaited) where
+  pub one-awaited : (device : ℕ) → awaited ≡ Some device → AwaitsOne agent journal device
+  one-awaited device e = subst (AwaitsFrom agent journal) e awaits
+
+  pub none-awaited : awaited ≡ None → (d : ℕ) → outstanding agent d journal ≡ []
+  none-awaited e = subst (AwaitsFrom agent journal) e awaits
+
+  pub wait-plan : (device : ℕ) → IsBoardList agent journal → is_full journal ≡ false → awaited ≡ Some device → is_open device journal ≡ true → PlanIs agent journal plan.Wait
+  wait-plan device list full e still_open =
+      let one = one-awaited device e in
+      result-plan agent journal device one list still_open full (unanswered-open agent journal device one still_open) (settled-one agent journal device one)
+
+  pub shut-plan : (device : ℕ) → is_full journal ≡ false → awaited ≡ Some device → is_open device journal ≡ false → PlanIs agent journal (plan.End answer.Unanswered)
+  shut-plan device full e shut = unanswered-plan agent journal full (unanswered-closed agent journal device (one-awaited device e) shut)
+
+  pub settled-plan : awaited ≡ None → (is_settled agent journal ≡ true) × (is_unanswered agent journal ≡ false)
+  settled-plan e = (settled-none agent journal (none-awaited e), unanswered-none agent journal (none-awaited e))
+
+-- ---- as contracts see it
+
+module _ (agent : Agent) (list : Journal) (value : Course) (is : seen_as agent list ≡ value) where
+  pub as-seen : (given : Plan) → PlanIs agent list given → PlanIs value.agent value.list given
+  as-seen given h = subst (λ (v : Course). PlanIs v.agent v.list given) is h
+
+  module _ (awaited : Option ℕ) (awaits : AwaitsFrom agent list awaited) (none : awaited ≡ None) where
+    pub settled-seen : is_settled value.agent value.list ≡ true
+    settled-seen = subst (λ (v : Course). is_settled v.agent v.list ≡ true) is (settled-plan agent list awaited awaits none).0
+
+    pub answered-seen : is_unanswered value.agent value.list ≡ false
+    answered-seen = subst (λ (v : Course). is_unanswered v.agent v.list ≡ false) is (settled-plan agent list awaited awaits none).1
+
+  module _ (state : List ℕ) (left : Prog) (awaited : Option ℕ) (ended : Option Answer) (k : KeepsUp agent list state left awaited ended) where
+    decision-so : (d : Decision) → d ≡ decision agent state left → decision agent (values_after agent list) (left_after agent list) ≡ d
+    decision-so d e = sym (e ∙ ap (λ vs. decision agent vs left) k.values_so ∙ ap (decision agent (values_after agent list)) k.left_so)
+
+    pub decided-seen : is_settled value.agent value.list ≡ true → is_unanswered value.agent value.list ≡ false → is_full value.list ≡ false
+        → (d : Decision) (quiet : Bool) (given : Plan) → d ≡ decision agent state left → quiet ≡ is_quiet agent list → given ≡ plan_by quiet d
+        → PlanIs value.agent value.list given
+    decided-seen settled answered room d quiet given ds qs gs =
+        as-seen given
+        (subst (PlanIs agent list) (sym gs)
+        (decided-plan agent list k.under_way (subst (λ (v : Course). is_full v.list ≡ false) (sym is) room)
+        (subst (λ (v : Course). is_unanswered v.agent v.list ≡ false) (sym is) answered) (subst (λ (v : Course). is_settled v.agent v.list ≡ true) (sym is) settled)
+        d quiet (decision-so d ds) (sym qs)))

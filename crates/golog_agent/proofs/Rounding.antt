@@ -1,0 +1,249 @@
+-- A round of a run without threads, and the rounds so far.
+use Rattle.std.proofs.Common.{◌≡◌, ℕ, zero, suc, ◌+◌, ◌-◌, ◌<◌, ◌≤◌, Bool, true, false, not, ◌||◌, ◌⊎◌, None, List, [], ◌∷◌, ◌++◌, length, length-append, drop, refl, sym, ap, ◌∙◌, subst, append_assoc, inl, inr, arith, nat_lt}
+use Rattle.std.specs.Prelude.{slice_get, option_map, option_and_then}
+use Rattle.std.specs.List.{list_all, list_any, range_with_len, sum}
+use Rattle.std.proofs.lemmas.Bool.{and_from, and_left, or_left, or_right, or_from, cases_lt, false_from_ne_true}
+use Rattle.std.proofs.lemmas.List.{append-nil, take_all}
+use Rattle.std.proofs.Math.ListN.{drop_of_length-le}
+use Rattle.golog_tree.specs.declared.agent.Agent.{Agent}
+use Rattle.golog_semantics.specs.declared.journal.Entry.{Entry}
+use Rattle.golog_semantics.specs.declared.journal.Entry.TheVariants.{Do, Test, Exo, Sense, Rest, Close, End}
+use Rattle.golog_semantics.specs.declared.journal.Answer.{Answer}
+use Rattle.golog_semantics.specs.declared.journal.Answer.TheVariants.{Memory}
+use Rattle.golog_semantics.specs.Journal.{Journal, devices, is_posted_by, is_open, is_at_rest, is_quiet, has_end}
+use Rattle.golog_semantics.specs.Inline.{Scripted, lead, led, turns_from, round, rounds}
+use Rattle.golog_semantics.specs.Online.{is_whole}
+use Rattle.golog_journal.specs.Boards.{IsBoardList}
+use Rattle.golog_journal.specs.Growing.{Sight}
+use Rattle.golog_journal.specs.Laws.{AreNotOf}
+use Rattle.golog_journal.proofs.Staying.{ready_stays}
+use Rattle.golog_device.specs.Turns.{SameBoard}
+use Rattle.golog_device.specs.Dealing.{scripted, DealtNow}
+use Rattle.golog_device.specs.Slots.{Standing, EachSlot, ChangesIf}
+use Rattle.golog_device.proofs.DealtFirst.{dealt_stays}
+use Rattle.golog_device.proofs.Standings.{EachSlot-then, EachSlot-same}
+use Rattle.golog_agent.specs.declared.runner.Stepped.{Stepped}
+use Rattle.golog_agent.specs.declared.runner.Stepped.TheVariants.{Step, Waiting, Ended}
+use Rattle.golog_agent.specs.Run.{is_step_entry}
+use Rattle.golog_agent.specs.Waiting.{waits}
+use Rattle.golog_agent.specs.Laws.{quiet_goes_on}
+use Rattle.golog_agent.specs.Turns.{Follows, EndStood, CommitsEnd, TurnIs}
+use Rattle.golog_agent.specs.Moments.{Moment, taken_by, progress, told_at, MayGoOn, RestsAt, StaysDealt, DealsOn, AreScripted, IsStage, turned, LeaveAll, TurnsMade, RoundIs, RoundMade}
+use Rattle.golog_agent.proofs.Over.{over_is, whole_is}
+use Rattle.golog_agent.proofs.OneTurn.{few-more}
+use Rattle.golog_agent.proofs.Serving.{open-same}
+
+-- a test holds of each number of a range
+all-range : (p : ℕ → Bool) (from n : ℕ) → ((d : ℕ) → d < from + n → p d ≡ true) → list_all p (range_with_len from n) ≡ true
+all-range p from zero holds = refl
+all-range p from (suc n) holds = and_from _ _ (holds from (omega arith)) (all-range p (from + 1) n (λ d l. holds d (omega (arith, l))))
+
+module _ (agent : Agent) where
+  -- while a device is open a run is not over
+  pub open-goes : (journal : Journal) (device : ℕ) → device < length agent.devices → is_open device journal ≡ true → is_whole agent None journal ≡ false
+  open-goes journal device below opened =
+      false_from_ne_true (is_whole agent None journal) (λ whole. let k = sym opened ∙ (over_is agent journal whole).shut device below in absurd (cc))
+
+  -- where none is, it is over exactly where the program has ended
+  pub shut-whole : (journal : Journal) → ((device : ℕ) → device < length agent.devices → is_open device journal ≡ false)
+      → has_end journal ≡ is_whole agent None journal
+  shut-whole journal shut = by (has_end journal) refl
+    where
+      by : (b : Bool) → has_end journal ≡ b → has_end journal ≡ is_whole agent None journal
+      by true ended = ended ∙ sym (whole_is agent journal (record { ended = ended; shut = shut }))
+      by false goes = goes ∙ sym (and_left (has_end journal) (not (list_any (λ d. is_open d journal) (devices agent))) goes)
+
+  -- none of the first devices is open, and neither is the next
+  pub next-shut : (journal : Journal) (k : ℕ) → ((d : ℕ) → d < k → is_open d journal ≡ false) → is_open k journal ≡ false
+      → (d : ℕ) → d < k + 1 → is_open d journal ≡ false
+  next-shut journal k shut here d below = by (cases_lt d k)
+    where
+      by : (d < k) ⊎ (k ≤ d) → is_open d journal ≡ false
+      by (inl less) = shut d less
+      by (inr more) = ap (λ i. is_open i journal) (let e : d ≡ k = omega (arith, more, below) in e) ∙ here
+
+  -- the board stays the same over the program's turn
+  pub turn-board : (old new : Sight) (result : Stepped) → TurnIs old new result → SameBoard old new
+  turn-board old new result turn = by result turn
+    where
+      one : (committed : Journal) → Follows old new committed → SameBoard old new
+      one committed follows = record { same_agent = follows.same_agent; same_alone = follows.same_alone; same_holds = follows.same_holds }
+
+      how : (answer : Answer) → EndStood old new ⊎ CommitsEnd answer old new → SameBoard old new
+      how answer (inl stood) = one [] stood.follows
+      how answer (inr commits) = one (End answer ∷ []) commits.follows
+
+      by : (r : Stepped) → TurnIs old new r → SameBoard old new
+      by Step t = one (t.entry ∷ []) t.follows
+      by Waiting t = one [] t.follows
+      by (Ended answer) t = how answer t.how
+
+  -- what the program's turn made of a list to which no one else adds
+  pub record ProgramMade (old new : Journal) : Type 0 where
+    pub since : Journal
+    pub grows : new ≡ old ++ since
+    pub foreign : (device : ℕ) → AreNotOf device since
+    pub goes : (length old < length new) ⊎ ((new ≡ old) × ((has_end old ≡ true) ⊎ (waits agent old ≡ true)))
+
+  module _ (old new : Sight) (own : old.agent ≡ agent) (alone : old.alone ≡ true) where
+    adds : (committed : Journal) → Follows old new committed → new.seen ≡ old.seen ++ committed
+    adds committed follows =
+        follows.grows ∙ ap (λ o. (old.seen ++ o) ++ committed) ((follows.are_others).none alone)
+        ∙ ap (λ j. j ++ committed) (append-nil old.seen)
+
+    none-adds : Follows old new [] → new.seen ≡ old.seen
+    none-adds follows = adds [] follows ∙ append-nil old.seen
+
+    with-none : (has_end old.seen ≡ true) ⊎ (waits agent old.seen ≡ true) → Follows old new [] → ProgramMade old.seen new.seen
+    with-none why follows = record {
+      since = [];
+      grows = adds [] follows;
+      foreign = λ device. refl;
+      goes = inr (none-adds follows, why);
+    }
+
+    with-one : (e : Entry) → ((device : ℕ) → is_posted_by device e ≡ false) → Follows old new (e ∷ []) → ProgramMade old.seen new.seen
+    with-one e foreign follows = record {
+      since = e ∷ [];
+      grows = adds (e ∷ []) follows;
+      foreign = λ device. or_from _ _ (foreign device) refl;
+      goes =
+          inl (let l : length new.seen ≡ length old.seen + 1 = ap (λ j. length j) (adds (e ∷ []) follows) ∙ length-append old.seen (e ∷ []) in
+          omega (arith, l));
+    }
+
+    step-foreign : (e : Entry) → is_step_entry e ≡ true → (device : ℕ) → is_posted_by device e ≡ false
+    step-foreign (Do action) is device = refl
+    step-foreign Test is device = refl
+    step-foreign (Exo p a) is device = absurd (cc)
+    step-foreign (Sense p at f v) is device = absurd (cc)
+    step-foreign (Rest p t) is device = absurd (cc)
+    step-foreign (Close p r t) is device = absurd (cc)
+    step-foreign (End a) is device = absurd (cc)
+
+    pub program-made : (result : Stepped) → TurnIs old new result → ProgramMade old.seen new.seen
+    program-made Step turn = with-one turn.entry (step-foreign turn.entry turn.is_step) turn.follows
+    program-made Waiting turn =
+        with-none (inr (ap (λ a. waits a old.seen) (sym ((turn.follows).same_agent ∙ own)) ∙ ap (waits new.agent) (sym (none-adds turn.follows)) ∙ turn.is_waiting))
+        turn.follows
+    program-made (Ended answer) turn = by turn.how
+      where
+        by : EndStood old new ⊎ CommitsEnd answer old new → ProgramMade old.seen new.seen
+        by (inl stood) = with-none (inl stood.ended) stood.follows
+        by (inr commits) = with-one (End answer) (λ device. refl) commits.follows
+
+  -- all devices' turns
+  turned-all : (journal : Journal) (ds : List Scripted) → length ds ≡ length agent.devices
+      → turned agent (length agent.devices) journal ds
+      ≡ (let made = turns_from agent 0 journal ds in record { journal = made.0; devices = made.1 })
+  turned-all journal ds many =
+      ap (λ l. (let made = turns_from agent 0 journal l in record { journal = made.0; devices = made.1 ++ drop (length agent.devices) ds }))
+      (take_all (length agent.devices) ds (omega (arith, many)))
+      ∙ ap (λ l. (let made = turns_from agent 0 journal ds in record { journal = made.0; devices = made.1 ++ l }))
+      (drop_of_length-le ds (omega (arith, many)))
+      ∙ ap (λ l. record { journal = (turns_from agent 0 journal ds).0; devices = l }) (append-nil (turns_from agent 0 journal ds).1)
+
+  module _ (old mid new : Moment) (same_taken : new.taken ≡ mid.taken) (same_standings : new.standings ≡ mid.standings) where
+    told-still : (j : ℕ) → told_at new j ≡ told_at mid j
+    told-still j =
+        ap (λ (l : List ℕ). option_and_then (λ (s : Standing). option_map (λ left. scripted left (taken_by l j)) s.meaning.left) (slice_get new.standings j)) same_taken
+        ∙ ap (λ (l : List Standing). option_and_then (λ (s : Standing). option_map (λ left. scripted left (taken_by mid.taken j)) s.meaning.left) (slice_get l j)) same_standings
+
+    scripted-still : (ds : List Scripted) → AreScripted agent mid ds → AreScripted agent new ds
+    scripted-still ds are = record { one_each = are.one_each; told = λ j below. told-still j ∙ are.told j below }
+
+    -- the program's turn leaves the devices as they are dealt with
+    deals-still : (since : Journal) → new.journal ≡ mid.journal ++ since → ((device : ℕ) → AreNotOf device since) → MayGoOn agent mid.journal mid.taken
+        → DealsOn agent old mid → DealsOn agent old new
+    deals-still since grows foreign on deals =
+        EachSlot-then _ (λ j b c. c ≡ b) _ old.standings mid.standings new.standings step deals
+        (subst (EachSlot (λ j b c. c ≡ b) mid.standings) (sym same_standings) (EachSlot-same _ mid.standings (λ j s. refl)))
+      where
+        on-one : (j : ℕ) (a b : Standing) → StaysDealt agent old mid j a b → StaysDealt agent old new j a b
+        on-one j a b before script far =
+            subst (λ l. DealtNow agent j new.journal (taken_by l j) script b.meaning) (sym same_taken)
+            (subst (λ l. DealtNow agent j l (taken_by mid.taken j) script b.meaning) (sym grows)
+            (dealt_stays agent mid.journal since j (taken_by mid.taken j) script b.meaning (foreign j) (on.few j) (before script far)))
+
+        by : (x : Bool) (j : ℕ) (a b : Standing) → ChangesIf x (StaysDealt agent old mid j) a b → ChangesIf x (StaysDealt agent old new j) a b
+        by true j a b before = on-one j a b before
+        by false j a b before = before
+
+        step : (j : ℕ) (a b c : Standing) → ChangesIf (nat_lt j (length agent.devices)) (StaysDealt agent old mid j) a b → c ≡ b
+            → ChangesIf (nat_lt j (length agent.devices)) (StaysDealt agent old new j) a c
+        step j a b c before same =
+            subst (ChangesIf (nat_lt j (length agent.devices)) (StaysDealt agent old new j) a) (sym same) (by (nat_lt j (length agent.devices)) j a b before)
+
+    -- each device may go on after it
+    on-still : (since : Journal) → new.journal ≡ mid.journal ++ since → ((device : ℕ) → AreNotOf device since) → IsBoardList agent mid.journal
+        → MayGoOn agent mid.journal mid.taken → MayGoOn agent new.journal new.taken
+    on-still since grows foreign list on = subst (λ j. MayGoOn agent j new.taken) (sym grows) (subst (MayGoOn agent (mid.journal ++ since)) (sym same_taken) (record {
+      few = λ j. few-more agent j (taken_by mid.taken j) mid.journal since (on.few j);
+      ready = λ j below open_still.
+          ready_stays agent mid.journal since j (taken_by mid.taken j) list (foreign j)
+          (on.ready j below (sym (open-same agent mid.journal since j (foreign j)) ∙ open_still));
+    }))
+
+    -- scripted devices had a round
+    rounded : (ds : List Scripted) → AreScripted agent old ds → IsStage agent mid (turned agent (length agent.devices) old.journal ds)
+        → (new.journal ≡ lead agent mid.journal) ⊎ (new.journal ≡ mid.journal ++ End Memory ∷ []) → RoundIs agent old.journal ds new
+    rounded ds are stage leads =
+        by (turns_from agent 0 old.journal ds) refl
+        (subst (IsStage agent mid) (turned-all old.journal ds are.one_each) stage) leads
+      where
+        by : (made : Journal × List Scripted) → turns_from agent 0 old.journal ds ≡ made
+            → IsStage agent mid (record { journal = (turns_from agent 0 old.journal ds).0; devices = (turns_from agent 0 old.journal ds).1 })
+            → (new.journal ≡ lead agent mid.journal) ⊎ (new.journal ≡ mid.journal ++ End Memory ∷ []) → RoundIs agent old.journal ds new
+        by (j, es) is stage (inl leads) =
+            let own : AreScripted agent new es = scripted-still es (subst (AreScripted agent mid) (ap (λ (m : Journal × List Scripted). m.1) is) stage.devices) in
+            let here : mid.journal ≡ j = stage.entries ∙ ap (λ (m : Journal × List Scripted). m.0) is in
+            inl (subst (IsStage agent new) (ap (led agent) (sym is)) (record { entries = leads ∙ ap (lead agent) here; devices = own }))
+        by (j, es) is stage (inr starves) = inr (starves ∙ ap (λ l. l ++ End Memory ∷ []) stage.entries)
+
+  -- where all devices are closed or rest, and the program does nothing, the run is over
+  goes-none : (journal : Journal) → ((device : ℕ) → device < length agent.devices → is_open device journal ≡ true → RestsAt agent journal device)
+      → (has_end journal ≡ true) ⊎ (waits agent journal ≡ true) → is_whole agent None journal ≡ true
+  goes-none journal rest (inl ended) =
+      whole_is agent journal (record {
+        ended = ended;
+        shut = λ d below. false_from_ne_true (is_open d journal) (λ opened. let k = sym ended ∙ (rest d below opened).goes_on in absurd (cc));
+      })
+  goes-none journal rest (inr waiting) =
+      absurd (let k = sym waiting ∙ quiet_goes_on agent journal quiet in cc)
+    where
+      one : (d : ℕ) → d < length agent.devices → (b : Bool) → is_open d journal ≡ b → (not (is_open d journal) || is_at_rest agent journal d) ≡ true
+      one d below true opened = or_right _ _ (rest d below opened).at_rest
+      one d below false shut = or_left _ _ (ap not shut)
+
+      quiet : is_quiet agent journal ≡ true
+      quiet = all-range (λ d. not (is_open d journal) || is_at_rest agent journal d) 0 (length agent.devices) (λ d below. one d (omega (arith, below)) (is_open d journal) refl)
+
+  -- a round is made of the devices' turns and the program's
+  pub round-made : (old mid new : Moment) → new.taken ≡ mid.taken → new.standings ≡ mid.standings → IsBoardList agent mid.journal
+      → is_whole agent None old.journal ≡ false → TurnsMade agent (length agent.devices) old mid → ProgramMade mid.journal new.journal
+      → (new.journal ≡ lead agent mid.journal) ⊎ (new.journal ≡ mid.journal ++ End Memory ∷ []) → RoundMade agent old new
+  round-made old mid new same_taken same_standings list goes_on made turn leads = record {
+    since = made.since ++ turn.since;
+    grows = turn.grows ∙ ap (λ j. j ++ turn.since) made.grows ∙ append_assoc old.journal made.since turn.since;
+    on = on-still old mid new same_taken same_standings turn.since turn.grows turn.foreign list made.on;
+    deals = deals-still old mid new same_taken same_standings turn.since turn.grows turn.foreign made.on made.deals;
+    scripted = λ ds are. rounded old mid new same_taken same_standings ds are (made.scripted ds are) leads;
+    goes = goes made.goes turn.goes;
+  }
+    where
+      counts : progress new ≡ length new.journal + sum mid.taken
+      counts = ap (λ l. length new.journal + sum l) same_taken
+
+      goes : (progress old < progress mid) ⊎ LeaveAll agent (length agent.devices) old mid
+          → (length mid.journal < length new.journal) ⊎ ((new.journal ≡ mid.journal) × ((has_end mid.journal ≡ true) ⊎ (waits agent mid.journal ≡ true)))
+          → progress old < progress new
+      goes (inl more) (inl longer) = let c = counts in omega (arith, more, longer, c)
+      goes (inl more) (inr (same, why)) = let c = counts in let l : length new.journal ≡ length mid.journal = ap (λ j. length j) same in omega (arith, more, c, l)
+      goes (inr leave) (inl longer) =
+          let c = counts in
+          let l : length mid.journal ≡ length old.journal = ap (λ j. length j) leave.same in
+          let s : sum mid.taken ≡ sum old.taken = ap (λ t. sum t) leave.same_taken in
+          omega (arith, longer, c, l, s)
+      goes (inr leave) (inr (same, why)) =
+          absurd (let k = sym goes_on ∙ goes-none old.journal leave.rest
+          (subst (λ j. (has_end j ≡ true) ⊎ (waits agent j ≡ true)) leave.same why) in cc)

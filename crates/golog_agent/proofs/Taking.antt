@@ -1,0 +1,46 @@
+-- Taking what devices have posted, entry by entry.
+use Rattle.std.proofs.Common.{◌≡◌, ℕ, zero, suc, ◌+◌, ◌<◌, Bool, false, [], ◌∷◌, ◌++◌, length, take, drop, get_or, None, sym, ap, ◌∙◌, subst, arith, append_assoc}
+use Rattle.std.specs.List.{list_any}
+use Rattle.std.proofs.lemmas.Bool.{or_parts}
+use Rattle.std.proofs.lemmas.List.{take_more, take-append-drop}
+use Rattle.golog_semantics.specs.declared.journal.Entry.{Entry}
+use Rattle.golog_semantics.specs.Journal.{Journal}
+use Rattle.golog_semantics.specs.Progress.{left_after}
+use Rattle.golog_semantics.specs.Online.{fault_at}
+use Rattle.golog_journal.specs.Boards.{IsBoardList}
+use Rattle.golog_journal.specs.Leading.{is_of_program}
+use Rattle.golog_agent.specs.Turns.{Course}
+use Rattle.golog_agent.proofs.Committing.{device-left, device-online}
+use Rattle.golog_agent.proofs.Copying.{lawful-prefix}
+
+any-at : (p : Entry → Bool) (xs : Journal) (i : ℕ) (d : Entry) → list_any p xs ≡ false → i < length xs → p (get_or xs i d) ≡ false
+any-at p [] i d h inside = absurd (omega (arith, inside))
+any-at p (x ∷ xs) zero d h inside = (or_parts (p x) (list_any p xs) h).0
+any-at p (x ∷ xs) (suc i) d h inside = any-at p xs i d (or_parts (p x) (list_any p xs) h).1 (omega (arith, inside))
+
+module _ (first : Course) (entries : Journal) (i : ℕ) (d : Entry) (inside : i < length entries) where
+  abbrev e : Entry
+  e = get_or entries i d
+
+  one-more : (first.list ++ take i entries) ++ e ∷ [] ≡ first.list ++ take (i + 1) entries
+  one-more = append_assoc first.list (take i entries) (e ∷ []) ∙ ap (λ xs. first.list ++ xs) (sym (take_more entries i d inside))
+
+  split : first.list ++ entries ≡ (first.list ++ take (i + 1) entries) ++ drop (i + 1) entries
+  split =
+      ap (λ xs. first.list ++ xs) (sym (take-append-drop (i + 1) entries))
+      ∙ sym (append_assoc first.list (take (i + 1) entries) (drop (i + 1) entries))
+
+  more-lawful : IsBoardList first.agent (first.list ++ entries) → IsBoardList first.agent ((first.list ++ take i entries) ++ e ∷ [])
+  more-lawful h =
+      subst (IsBoardList first.agent) (sym one-more)
+      (lawful-prefix first.agent (first.list ++ take (i + 1) entries) (drop (i + 1) entries) (subst (IsBoardList first.agent) split h))
+
+  module _ (course : Course) (so : course ≡ record { agent = first.agent; list = first.list ++ take i entries }) where
+    pub taken-lawful : IsBoardList first.agent (first.list ++ entries) → IsBoardList course.agent (course.list ++ get_or entries i d ∷ [])
+    taken-lawful h = subst (λ (c : Course). IsBoardList c.agent (c.list ++ get_or entries i d ∷ [])) (sym so) (more-lawful h)
+
+    pub taken-online : IsBoardList first.agent (first.list ++ entries) → list_any is_of_program entries ≡ false → fault_at course.agent None [] course.list (get_or entries i d) ≡ None
+    taken-online h devices = device-online course.agent course.list (get_or entries i d) (any-at is_of_program entries i d devices inside) (taken-lawful h)
+
+    pub taken-left : list_any is_of_program entries ≡ false → left_after course.agent (course.list ++ get_or entries i d ∷ []) ≡ left_after course.agent course.list
+    taken-left devices = device-left course.agent course.list (get_or entries i d) (any-at is_of_program entries i d devices inside)

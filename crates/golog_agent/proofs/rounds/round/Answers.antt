@@ -1,0 +1,59 @@
+use Rattle.std.proofs.Common.{◌≡◌, [], ◌++◌, length, refl, sym, ap, ◌∙◌, subst, arith}
+use Rattle.golog_semantics.specs.Online.{IsOnlineSoFar}
+use Rattle.golog_semantics.specs.OneMore.{with_runs}
+use Rattle.golog_journal.specs.Boards.{IsBoardList}
+use Rattle.golog_journal.specs.Growing.{program}
+use Rattle.golog_device.specs.Slots.{standings}
+use Rattle.golog_agent.specs.Moments.{moment}
+use Rattle.golog_agent.proofs.Leading.{leads-alone}
+use Rattle.golog_agent.proofs.Serving.{no-program}
+use Rattle.golog_agent.proofs.Rounding.{turn-board, program-made, round-made}
+use Rattle.golog_agent.proofs.rounds.round.Goals as goal
+
+pub turn-requires : goal.turn-requires
+turn-requires g c =
+    let same = c.turns.ensures.same_board in
+    let made = c.turns.ensures.made in
+    record {
+      agent = c.requires.agent ∙ sym c.requires.board ∙ sym same.same_agent;
+      held = g.met.B.Board.holds_all c.turns.new.board (same.same_alone ∙ c.requires.alone) program (omega arith);
+      behind = record {
+        since = made.since;
+        front = made.grows ∙ ap (λ j. j ++ made.since) (sym c.requires.whole);
+        of_devices = no-program (length c.args.agent.now.devices) made.since made.own;
+      };
+    }
+
+pub returns : goal.returns
+returns g c =
+    let agent = c.args.agent.now in
+    let same = c.turns.ensures.same_board in
+    let mid = g.B.Board.sight c.turns.new.board in
+    let new = g.B.Board.sight c.turn.new.board in
+    let own : mid.agent ≡ agent = same.same_agent ∙ c.requires.board in
+    let alone = same.same_alone ∙ c.requires.alone in
+    let runner = c.turn.ensures.same ∙ c.requires.agent in
+    let whole = c.turn.ensures.whole in
+    let after = turn-board agent mid new c.turn.result c.turn.ensures.turn in
+    let online : IsOnlineSoFar agent (with_runs [] new.seen) =
+    subst (λ a. IsOnlineSoFar a (with_runs [] new.seen)) runner (subst (λ j. IsOnlineSoFar c.turn.new.self.agent (with_runs [] j)) whole c.turn.ensures.online) in
+    record {
+      same = runner;
+      same_board = record {
+        same_agent = after.same_agent ∙ same.same_agent;
+        same_alone = after.same_alone ∙ same.same_alone;
+        same_holds = after.same_holds ∙ same.same_holds;
+      };
+      lawful =
+          subst (λ a. IsBoardList a new.seen) runner
+          (subst (λ j. IsBoardList c.turn.new.self.agent j) whole c.keeps_rules.ensures.under_way.lawful);
+      whole = whole;
+      short = c.keeps_rules.ensures.short;
+      made =
+          round-made agent
+          (moment (g.B.Board.sight c.args.board.now).seen c.args.taken.now (standings g.D.Device.fresh g.D.Device.meaning c.args.devices.now))
+          (moment mid.seen c.turns.new.taken (standings g.D.Device.fresh g.D.Device.meaning c.turns.new.devices))
+          (moment new.seen c.turns.new.taken (standings g.D.Device.fresh g.D.Device.meaning c.turns.new.devices))
+          refl refl c.turns.ensures.lawful c.requires.over c.turns.ensures.made (program-made agent mid new own alone c.turn.result c.turn.ensures.turn)
+          (leads-alone agent mid new c.turn.result (sym own) alone c.turn.ensures.turn online);
+    }

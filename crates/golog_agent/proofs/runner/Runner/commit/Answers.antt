@@ -1,0 +1,37 @@
+use Rattle.golog_agent.proofs.Placing.{may-commit, moved-over, moved-overtaken, taken-commits, taken-lawful, taken-over, taken-whole}
+use Rattle.golog_agent.proofs.runner.Runner.commit.Goals as goal
+
+pub commit-requires-clause-allowed : goal.commit-requires-clause-allowed
+commit-requires-clause-allowed g c =
+    may-commit c.args.self.now (g.B.Board.sight c.args.board.now) c.len-at.result c.args.entry c.requires.current c.len-at.ensures.number
+    c.requires.goes_on c.requires.of_program c.requires.room
+
+pub take-requires-clause-lawful : goal.take-requires-clause-lawful
+take-requires-clause-lawful g c =
+    taken-lawful c.args.self.now (g.B.Board.sight c.args.board.now) c.len-at.result c.args.entry c.requires.current c.len-at.ensures.number
+    (g.B.Board.sight c.commit.new.self) c.commit.result c.commit.ensures c.in-Taken.is
+
+pub returns-in-Moved-clause-behind : goal.returns-in-Moved-clause-behind
+returns-in-Moved-clause-behind g c =
+    moved-over c.args.self.now (g.B.Board.sight c.args.board.now) c.len-at.result c.args.entry c.requires.current c.len-at.ensures.number
+    (g.B.Board.sight c.commit.new.self) c.commit.result c.commit.ensures c.in-Moved.longer c.in-Moved.is
+
+pub returns-in-Moved-clause-commits : goal.returns-in-Moved-clause-commits
+returns-in-Moved-clause-commits g c =
+    moved-overtaken c.args.self.now (g.B.Board.sight c.args.board.now) c.len-at.result c.args.entry c.requires.current c.len-at.ensures.number
+    (g.B.Board.sight c.commit.new.self) c.commit.result c.commit.ensures c.in-Moved.longer c.in-Moved.is
+
+pub returns-in-Taken-clause-commits : goal.returns-in-Taken-clause-commits
+returns-in-Taken-clause-commits g c =
+    taken-commits c.args.self.now (g.B.Board.sight c.args.board.now) c.len-at.result c.args.entry c.requires.current c.len-at.ensures.number
+    (g.B.Board.sight c.commit.new.self) c.commit.result c.commit.ensures c.in-Taken.is
+
+pub returns-in-Taken-clause-behind : goal.returns-in-Taken-clause-behind
+returns-in-Taken-clause-behind g c =
+    taken-over c.args.self.now (g.B.Board.sight c.args.board.now) c.len-at.result c.args.entry c.requires.current c.len-at.ensures.number
+    (g.B.Board.sight c.commit.new.self) c.commit.result c.commit.ensures c.in-Taken.is c.take.new.self c.take.ensures
+
+pub returns-in-Taken-clause-whole : goal.returns-in-Taken-clause-whole
+returns-in-Taken-clause-whole g c e =
+    taken-whole c.args.self.now (g.B.Board.sight c.args.board.now) c.len-at.result c.args.entry c.requires.current c.len-at.ensures.number
+    (g.B.Board.sight c.commit.new.self) c.commit.result c.commit.ensures c.in-Taken.is c.take.new.self c.take.ensures

@@ -1,0 +1,19 @@
+use Rattle.golog_agent.proofs.Stepping.{entry-commits, entry-left, entry-online, entry-own, entry-room}
+use Rattle.golog_agent.proofs.runner.Runner.commit_step.Goals as goal
+
+pub commit-requires-clause-of_program : goal.commit-requires-clause-of_program
+commit-requires-clause-of_program g c = entry-own c.args.self.now.agent c.args.self.now.list c.args.step c.requires.next c.entry_of.result c.entry_of.ensures c.keeps_rules.ensures.under_way
+
+pub commit-requires-clause-room : goal.commit-requires-clause-room
+commit-requires-clause-room g c = entry-room c.args.self.now.agent c.args.self.now.list c.args.step c.requires.next c.entry_of.result c.entry_of.ensures
+
+pub commit-requires-clause-online : goal.commit-requires-clause-online
+commit-requires-clause-online g c = entry-online c.args.self.now.agent c.args.self.now.list c.args.step c.requires.next c.entry_of.result c.entry_of.ensures c.requires.goes_on
+
+pub commit-requires-clause-left : goal.commit-requires-clause-left
+commit-requires-clause-left g c = entry-left c.args.self.now.agent c.args.self.now.list c.args.step c.requires.next c.entry_of.result c.entry_of.ensures
+
+pub returns-then-commit-clause-attempt : goal.returns-then-commit-clause-attempt
+returns-then-commit-clause-attempt g c =
+    entry-commits c.args.self.now.agent c.args.self.now.list c.args.step c.requires.next c.entry_of.result c.entry_of.ensures
+    (g.B.Board.sight c.args.board.now) (g.B.Board.sight c.commit.new.board) c.commit.result c.if-commit.true c.commit.ensures.commits

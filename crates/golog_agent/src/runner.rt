@@ -1,0 +1,406 @@
+//! What drives a program over a board.
+ghost use Rattle.std.specs.Prelude.{◌≡◌, ◌≢◌, ◌<◌, ◌≤◌, ◌⊎◌, ℕ, IfOk, IfSome, IsTrue, true, false, not, None, Some, [], ◌∷◌, ◌++◌, length, unwrap_or};
+ghost use Rattle.std.specs.List.{list_any};
+ghost use Rattle.golog_semantics.specs.BlockFree.{has_block};
+ghost use Rattle.golog_semantics.specs.Journal.{has_end, is_open, count, limit, is_counted, is_full, is_settled};
+ghost use Rattle.golog_semantics.specs.Answer.{is_unanswered};
+ghost use Rattle.golog_semantics.specs.OneMore.{with_runs};
+ghost use Rattle.golog_semantics.specs.Online.{IsOnlineSoFar, fault_at};
+ghost use Rattle.golog_semantics.specs.Progress.{left_after};
+ghost use Rattle.golog_semantics.specs.WellFormed.{WellFormed};
+ghost use Rattle.golog_journal.specs.Boards.{IsBoardList};
+ghost use Rattle.golog_journal.specs.Commits.{IsOfProgram};
+ghost use Rattle.golog_journal.specs.Growing.{program};
+ghost use Rattle.golog_journal.specs.Leading.{IsBehind, is_of_program};
+ghost use Rattle.golog_agent.specs.Keeping.{awaited_by, ended_by, EndsBy, IsUnderWay};
+ghost use Rattle.golog_agent.specs.Planned.{PlanIs, IsNextStep};
+ghost use Rattle.golog_agent.specs.UnderWay.{entry_for};
+ghost use Rattle.golog_agent.specs.Turns.{AttemptIs, CommitGives, Follows, IsCurrent, IsOver, MayAnswer, TurnIs};
+
+use crate::plan::{Plan, planned};
+use golog_base::{List, NoMemory};
+use golog_journal::{Board, Commit, Journal, Lead, Led, Report};
+use golog_progress::{State, start};
+use golog_search::decide;
+use golog_semantics::{Answer, Entry, Move};
+use golog_tree::{Agent, Label, Prog, copy_prog};
+use std::alloc::Global;
+use std::marker::Model;
+
+/// What came of a turn of a runner.
+#[derive(Clone, Copy, Debug, PartialEq, Eq)]
+pub enum Stepped {
+    /// It committed an action or a test.
+    Step,
+    /// It committed nothing: the program waits for a device.
+    Waiting,
+    /// The program has ended with this answer.
+    Ended(Answer),
+}
+
+/// Drives the program of an agent without search blocks: it copies what devices post, and commits what it decides
+/// at the whole list that it has seen. Contracts see it as the agent and the entries so far.
+#[derive(Drop)]
+pub struct Runner<'a> {
+    agent: &'a Agent,
+    alloc: Global,
+    journal: Journal,
+    /// What is known after the entries.
+    state: State,
+    /// The program left after them.
+    left: Prog,
+    /// The device whose result is still to come.
+    awaited: Option<u8>,
+    /// How the program ended.
+    ended: Option<Answer>,
+}
+
+impl<'a> Model for Runner<'a> {
+    ghost use Rattle.std.specs.Prelude.{◌≡◌};
+    ghost use Rattle.golog_agent.specs.Turns.{Course};
+    ghost use Rattle.golog_agent.specs.Keeping.{KeepsUp};
+    ghost use Rattle.std.specs.Coded.{codes};
+    ghost use Rattle.golog_tree.specs.contracts.cond.Cond as cond;
+    ghost use Rattle.golog_tree.specs.contracts.cond.Term as term;
+    ghost use Rattle.golog_tree.specs.contracts.prog.Prog as prog;
+    ghost use Rattle.golog_tree.specs.contracts.prog.Way as way;
+
+    ghost Value = { Course };
+
+    ghost coded = { Prim.hlevel (codes, cond.the_row.coded, term.the_row.coded, prog.the_row.coded, way.the_row.coded) };
+
+    ghost view = { λ runner. record { agent = runner.agent.now; list = runner.journal.entries } };
+
+    ghost invariant = { λ runner.
+        (runner.journal.agent ≡ runner.agent.now)
+        × KeepsUp runner.agent.now runner.journal.entries runner.state runner.left runner.awaited runner.ended };
+}
+
+/// The device whose result is still to come after one more entry.
+fn awaited_after(journal: &Journal, awaited: Option<u8>, entry: Entry) -> Option<u8>
+    ensures { result ≡ awaited_by journal.now.agent awaited entry }
+{
+    match entry {
+        Entry::Do { action } => journal.asked_of(action),
+        Entry::Sense { .. } => None,
+        Entry::Test
+        | Entry::Exo { .. }
+        | Entry::Rest { .. }
+        | Entry::Close { .. }
+        | Entry::End { .. } => awaited,
+    }
+}
+
+/// How the program ended, after one more entry.
+fn ended_after(ended: Option<Answer>, entry: Entry) -> Option<Answer>
+    ensures { result ≡ ended_by ended entry }
+{
+    match entry {
+        Entry::End { answer } => Some(answer),
+        Entry::Do { .. }
+        | Entry::Test
+        | Entry::Exo { .. }
+        | Entry::Sense { .. }
+        | Entry::Rest { .. }
+        | Entry::Close { .. } => ended,
+    }
+}
+
+/// The entry of a step.
+fn entry_of(label: Label) -> Entry
+    ensures { result ≡ entry_for label }
+{
+    match label {
+        Label::Do(action) => Entry::Do { action },
+        Label::Quiet => Entry::Test,
+    }
+}
+
+/// Puts the new program in the place of the old, if there is one.
+fn replace(left: &mut Prog, new: Option<Prog>)
+    ensures { left.new ≡ unwrap_or new left.old }
+{
+    if let Some(new) = new {
+        *left = new;
+    }
+}
+
+impl<'a> Runner<'a> {
+    /// A runner of this agent that has seen nothing, with room for the longest journal.
+    pub fn new(alloc: Global, agent: &'a Agent) -> Result<Runner<'a>, NoMemory>
+        requires formed { WellFormed agent.now }
+        requires blockless { IsTrue (not (has_block agent.now agent.now.main)) }
+        ensures { IfOk result (λ runner. runner ≡ record { agent = agent.now; list = [] }) }
+    {
+        let journal = Journal::new(alloc, agent)?;
+        let state = start(alloc, agent)?;
+        let left = copy_prog(alloc, &agent.main)?;
+        Ok(Runner {
+            agent,
+            alloc,
+            journal,
+            state,
+            left,
+            awaited: None,
+            ended: None,
+        })
+    }
+
+    /// The report of the run so far, an online execution so far: without search blocks it begins no run. Takes no
+    /// memory.
+    pub fn report(self) -> Report
+        ensures entries { result ≡ with_runs [] self.entry.list }
+        ensures online { IsOnlineSoFar self.entry.agent result }
+    {
+        let runs = List::new(self.alloc);
+        Report {
+            entries: self.journal.into_entries(),
+            runs,
+        }
+    }
+
+    // What is so of the entries.
+    pub(crate) fn keeps_rules(&self)
+        ensures under_way { IsUnderWay self.now.agent self.now.list }
+        ensures short { length self.now.list ≤ 65553 }
+    {
+        let _length = self.journal.len();
+    }
+
+    // The number of entries.
+    fn len(&self) -> u32
+        ensures number { result ≡ length self.now.list }
+        ensures most { length self.now.list ≤ 65553 }
+    {
+        self.journal.len()
+    }
+
+    // Takes one more entry, which keeps the rules, and the program left after it, where that is another.
+    fn take(&mut self, entry: Entry, left: Option<Prog>)
+        requires lawful { IsBoardList self.old.agent (self.old.list ++ entry ∷ []) }
+        requires online { fault_at self.old.agent None [] self.old.list entry ≡ None }
+        requires left { left_after self.old.agent (self.old.list ++ entry ∷ []) ≡ unwrap_or left (left_after self.old.agent self.old.list) }
+        ensures { self.new ≡ record { agent = self.old.agent; list = self.old.list ++ entry ∷ [] } }
+    {
+        let awaited = awaited_after(&self.journal, self.awaited, entry);
+        let ended = ended_after(self.ended, entry);
+        self.state.roll(self.agent, &[entry]);
+        self.journal.add(entry);
+        replace(&mut self.left, left);
+        self.awaited = awaited;
+        self.ended = ended;
+    }
+
+    // Takes what devices have posted.
+    fn take_all(&mut self, entries: &[Entry])
+        requires lawful { IsBoardList self.old.agent (self.old.list ++ entries.now) }
+        requires of_devices { list_any is_of_program entries.now ≡ false }
+        ensures { self.new ≡ record { agent = self.old.agent; list = self.old.list ++ entries.now } }
+    {
+        for entry in entries {
+            self.take(*entry, None);
+        }
+    }
+
+    // How the program ended, if it has.
+    fn answer(&self) -> Option<Answer>
+        ensures { EndsBy self.now.list result }
+    {
+        self.ended
+    }
+
+    // Copies all that it lacks.
+    fn catch_up<B: Board>(&mut self, board: &mut B)
+        requires over { IsOver self.old (B.sight board.old) }
+        ensures same { self.new.agent ≡ self.old.agent }
+        ensures current { IsCurrent self.new (B.sight board.new) }
+        ensures follows { Follows (B.sight board.old) (B.sight board.new) [] }
+    {
+        let mut batch = board.copy_since(self.len());
+        while batch.count > 0 {
+            self.take_all(&batch.entries[..batch.count as usize]);
+            batch = board.copy_since(self.len());
+        }
+    }
+
+    // What the program is to do, where no result is awaited and there is room.
+    fn decided_plan(&self) -> Plan
+        requires settled { IsTrue (is_settled self.now.agent self.now.list) }
+        requires answered { is_unanswered self.now.agent self.now.list ≡ false }
+        requires room { is_full self.now.list ≡ false }
+        ensures { PlanIs self.now.agent self.now.list result }
+    {
+        match decide(self.alloc, self.agent, &self.left, &self.state) {
+            Ok(decision) => planned(decision, self.journal.is_quiet()),
+            Err(_) => Plan::End(Answer::Memory),
+        }
+    }
+
+    // What the program is to do next.
+    fn plan(&self) -> Plan
+        requires { has_end self.now.list ≡ false }
+        ensures { PlanIs self.now.agent self.now.list result }
+    {
+        if self.journal.is_full() {
+            return Plan::End(Answer::Full);
+        }
+        match self.awaited {
+            Some(device) if self.journal.is_open(device) => Plan::Wait,
+            Some(_) => Plan::End(Answer::Unanswered),
+            None => self.decided_plan(),
+        }
+    }
+
+    // Commits what was decided for all that it has seen, and takes it into its copy. Nothing where entries came
+    // before it.
+    fn commit<B: Board>(&mut self, board: &mut B, entry: Entry, left: Option<Prog>) -> bool
+        requires current { IsCurrent self.old (B.sight board.old) }
+        requires goes_on { has_end self.old.list ≡ false }
+        requires of_program { IsOfProgram self.old.agent self.old.list 0 entry entry }
+        requires room { IsTrue (is_counted entry) → count self.old.list < limit }
+        requires online { fault_at self.old.agent None [] self.old.list entry ≡ None }
+        requires left { left_after self.old.agent (self.old.list ++ entry ∷ []) ≡ unwrap_or left (left_after self.old.agent self.old.list) }
+        ensures same { self.new.agent ≡ self.old.agent }
+        ensures commits { CommitGives entry (B.sight board.old) (B.sight board.new) result }
+        ensures behind { IsOver self.new (B.sight board.new) }
+        ensures whole { result ≡ true → self.new.list ≡ (B.sight board.new).seen }
+    {
+        let at = self.len();
+        match board.commit(at, entry) {
+            Commit::Taken => {
+                self.take(entry, left);
+                true
+            }
+            Commit::Moved { .. } => false,
+        }
+    }
+
+    // Ends the program.
+    fn commit_end<B: Board>(&mut self, board: &mut B, answer: Answer) -> Option<Stepped>
+        requires current { IsCurrent self.old (B.sight board.old) }
+        requires goes_on { has_end self.old.list ≡ false }
+        requires answered { MayAnswer self.old.agent self.old.list answer }
+        ensures same { self.new.agent ≡ self.old.agent }
+        ensures attempt { AttemptIs (B.sight board.old) (B.sight board.new) result }
+        ensures behind { IsOver self.new (B.sight board.new) }
+        ensures whole { IfSome result (λ _. self.new.list ≡ (B.sight board.new).seen) }
+    {
+        if self.commit(board, Entry::End { answer }, None) {
+            Some(Stepped::Ended(answer))
+        } else {
+            None
+        }
+    }
+
+    // Takes the next step of the program.
+    fn commit_step<B: Board>(&mut self, board: &mut B, step: Move) -> Option<Stepped>
+        requires current { IsCurrent self.old (B.sight board.old) }
+        requires goes_on { has_end self.old.list ≡ false }
+        requires next { IsNextStep self.old.agent self.old.list step }
+        ensures same { self.new.agent ≡ self.old.agent }
+        ensures attempt { AttemptIs (B.sight board.old) (B.sight board.new) result }
+        ensures behind { IsOver self.new (B.sight board.new) }
+        ensures whole { IfSome result (λ _. self.new.list ≡ (B.sight board.new).seen) }
+    {
+        self.keeps_rules();
+        if self.commit(board, entry_of(step.label), Some(step.left)) {
+            Some(Stepped::Step)
+        } else {
+            None
+        }
+    }
+
+    // Decides at all that it has seen, and commits that.
+    fn go_on<B: Board>(&mut self, board: &mut B) -> Option<Stepped>
+        requires current { IsCurrent self.old (B.sight board.old) }
+        requires goes_on { has_end self.old.list ≡ false }
+        ensures same { self.new.agent ≡ self.old.agent }
+        ensures attempt { AttemptIs (B.sight board.old) (B.sight board.new) result }
+        ensures behind { IsOver self.new (B.sight board.new) }
+        ensures whole { IfSome result (λ _. self.new.list ≡ (B.sight board.new).seen) }
+    {
+        match self.plan() {
+            Plan::Wait => Some(Stepped::Waiting),
+            Plan::End(answer) => self.commit_end(board, answer),
+            Plan::Step(step) => self.commit_step(board, step),
+        }
+    }
+
+    // Copies what is new, and goes on. `None` where entries came before it could commit.
+    fn attempt<B: Board>(&mut self, board: &mut B) -> Option<Stepped>
+        requires over { IsOver self.old (B.sight board.old) }
+        ensures same { self.new.agent ≡ self.old.agent }
+        ensures attempt { AttemptIs (B.sight board.old) (B.sight board.new) result }
+        ensures behind { IsOver self.new (B.sight board.new) }
+        ensures whole { IfSome result (λ _. self.new.list ≡ (B.sight board.new).seen) }
+    {
+        self.catch_up(board);
+        match self.answer() {
+            Some(answer) => Some(Stepped::Ended(answer)),
+            None => self.go_on(board),
+        }
+    }
+
+    /// Copies what is new, decides at the whole list, and commits what it decided, at that length: where others
+    /// added entries meanwhile, it copies and decides again. `Step` exactly where it committed an action or a test;
+    /// `Waiting` exactly where it committed nothing and no end stands, and then the program waits for a device at
+    /// all that was seen; `Ended` exactly where the end stands, with its answer. The end is the answer after all
+    /// entries before it, or `Memory` for want of memory. Its copy is then all that was seen, and an online
+    /// execution so far.
+    pub fn turn<B: Board>(&mut self, board: &mut B) -> Stepped
+        requires agent { self.old.agent ≡ (B.sight board.old).agent }
+        requires held { (B.sight board.old).holds program ≡ true }
+        requires behind { IsBehind self.old.list (B.sight board.old).seen }
+        ensures same { self.new.agent ≡ self.old.agent }
+        ensures whole { self.new.list ≡ (B.sight board.new).seen }
+        ensures turn { TurnIs (B.sight board.old) (B.sight board.new) result }
+        ensures online { IsOnlineSoFar self.new.agent (with_runs [] self.new.list) }
+    {
+        loop {
+            if let Some(stepped) = self.attempt(board) {
+                self.keeps_rules();
+                return stepped;
+            }
+        }
+    }
+}
+
+impl<'a> Lead for Runner<'a> {
+    ghost use Rattle.std.specs.Prelude.{◌≡◌, IsTrue, false};
+    ghost use Rattle.golog_semantics.specs.Journal.{Journal, is_quiet};
+    ghost use Rattle.golog_journal.specs.Leading.{Mind};
+    ghost use Rattle.golog_agent.specs.Waiting.{waits};
+    ghost use Rattle.golog_agent.specs.Laws.{quiet_goes_on};
+
+    ghost mind = { λ runner. record { agent = runner.agent; list = runner.list; waits = waits runner.agent } };
+
+    fn turn<B: Board>(&mut self, board: &mut B) -> Led {
+        match Runner::turn(self, board) {
+            Stepped::Ended(_) => Led::Ended,
+            Stepped::Step | Stepped::Waiting => Led::More,
+        }
+    }
+
+    fn gather<B: Board>(&mut self, board: &mut B) {
+        self.catch_up(board);
+    }
+
+    ghost goes_on = { λ runner journal quiet. quiet_goes_on runner.agent journal quiet };
+}
+
+impl<'a> Runner<'a> {
+    /// Whether the program has ended.
+    pub fn has_ended(&self) -> bool
+        ensures { result ≡ has_end self.now.list }
+    {
+        self.ended.is_some()
+    }
+
+    /// Whether the device is open after the entries so far.
+    pub fn is_open(&self, device: u8) -> bool
+        requires { device < length self.now.agent.devices }
+        ensures { result ≡ is_open device self.now.list }
+    {
+        self.journal.is_open(device)
+    }
+}

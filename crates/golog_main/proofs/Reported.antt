@@ -1,0 +1,151 @@
+-- From a journal to its report, and to what a run of it comes to.
+use Rattle.std.proofs.Common.{◌≡◌, ℕ, zero, suc, ◌+◌, ◌<◌, ◌≤◌, Bool, true, false, not, ◌&&◌, ◌||◌, List, [], ◌∷◌, ◌++◌, length, map, Option, Some, None, refl, sym, ap, ◌∙◌, subst, arith, inl, inr, ◌⊎◌}
+use Rattle.std.specs.Prelude.{Contains, IsTrue, nat_le}
+use Rattle.std.specs.List.{list_any, list_all}
+use Rattle.std.proofs.lemmas.Bool.{le-leb}
+use Rattle.std.proofs.lemmas.List.Elements.{Contains-append_cases}
+use Rattle.golog_tree.specs.declared.agent.Agent.{Agent}
+use Rattle.golog_semantics.specs.declared.journal.Entry.{Entry}
+use Rattle.golog_semantics.specs.declared.journal.Entry.TheVariants.{End}
+use Rattle.golog_semantics.specs.declared.journal.Answer.{Answer}
+use Rattle.golog_semantics.specs.declared.journal.Answer.TheVariants.{Memory}
+use Rattle.golog_semantics.specs.declared.journal.Report.{Report}
+use Rattle.golog_semantics.specs.BlockFree.{has_block}
+use Rattle.golog_semantics.specs.Journal.{Journal, devices, has_end, is_end, is_close, is_open}
+use Rattle.golog_semantics.specs.OneMore.{with_runs}
+use Rattle.golog_semantics.specs.Inline.{rounds, inline_journal, Scripted}
+use Rattle.golog_semantics.specs.InlineText.{scripted}
+use Rattle.golog_semantics.specs.Dealt.{Script}
+use Rattle.golog_semantics.specs.Text.{Text, at_each, report_text}
+use Rattle.golog_semantics.specs.Reports.{fits_entry, IsReport}
+use Rattle.golog_semantics.specs.Execution.{Ends, IsOnlineRun, status_of}
+use Rattle.golog_semantics.proofs.Tests.{and_both, and_cases, or_first, or_second}
+use Rattle.golog_semantics.proofs.LaterRuns.{whole_is_online}
+use Rattle.golog_journal.specs.Boards.{IsBoardList, is_lawful}
+use Rattle.golog_journal.proofs.Lawful.{lawful-parts}
+use Rattle.golog_device.specs.Slots.{Standing, HaveBegun}
+use Rattle.golog_agent.specs.Rounds.{FollowsRounds}
+use Rattle.golog_main.specs.Runs.{AreTextsOf, AllTellLeft, FollowsScripts, IsReportOf, IsRunOf, ReportsRun, RunsOn}
+use Rattle.golog_main.proofs.Begun.{as-many, dealt-with, tell-left, none-stands}
+use Rattle.golog_main.proofs.Inlined.{all-the-way, at_each-append, cut-short}
+
+-- ---- the report of a journal
+
+module _ (agent : Agent) where
+  fits-each : (before rest : Journal) → list_all (λ b. b) (at_each (is_lawful agent) before rest) ≡ true → list_all (λ b. b) (at_each (fits_entry agent) before rest) ≡ true
+  fits-each before [] h = refl
+  fits-each before (e ∷ rest) h =
+      let k = and_cases (is_lawful agent before e) (list_all (λ b. b) (at_each (is_lawful agent) (before ++ e ∷ []) rest)) h in
+      and_both (fits_entry agent before e) (list_all (λ b. b) (at_each (fits_entry agent) (before ++ e ∷ []) rest))
+      (lawful-parts agent before e k.0).of_agent (fits-each (before ++ e ∷ []) rest k.1)
+
+  is-report : (journal : Journal) → IsBoardList agent journal → length journal ≤ 65553 → IsReport agent (with_runs [] journal)
+  is-report journal lawful short = record {
+    entries = fits-each [] journal lawful.lawful;
+    runs = refl;
+    in_order = refl;
+    in_bounds = le-leb (length journal) 1048576 (omega (arith, short));
+  }
+
+  -- what has been run is reported
+  pub reports-run : (texts : List Text) (before : Journal) (olds mids news : List Standing) (report : Report) → length texts ≡ length agent.devices
+      → HaveBegun (length texts) texts before olds mids → RunsOn agent before mids news report → ReportsRun agent texts olds news report
+  reports-run texts before olds mids news report one_each begun_texts on scripts are = record {
+    journal = on.journal;
+    is = on.is;
+    fits = is-report on.journal on.lawful on.short;
+    lawful = on.lawful;
+    online = on.ran.online;
+    dealt = dealt-with agent texts scripts are before olds mids begun one_each on.journal news on.ran.run;
+    scripted = λ tell.
+        subst (λ j. FollowsRounds agent scripts j on.journal) (none-stands agent texts scripts are before olds mids begun one_each tell)
+        (on.ran.scripted scripts (sym (as-many texts scripts are) ∙ one_each) (tell-left agent texts scripts are before olds mids begun one_each tell));
+  }
+    where
+      begun : HaveBegun (length agent.devices) texts before olds mids
+      begun = subst (λ n. HaveBegun n texts before olds mids) one_each begun_texts
+
+-- ---- the end
+
+any-contains : (f : Entry → Bool) (xs : List Entry) (x : Entry) → Contains xs x → f x ≡ true → list_any f xs ≡ true
+any-contains f [] x (k, l, e) h = absurd (omega (arith, l))
+any-contains f (y ∷ xs) x (zero, l, e) h = or_first (f y) (list_any f xs) (subst (λ z. f z ≡ true) (sym e) h)
+any-contains f (y ∷ xs) x (suc k, l, e) h = or_second (f y) (list_any f xs) (any-contains f xs x (k, omega (arith, l), e) h)
+
+all-contains : (f : Entry → Bool) (xs : List Entry) (x : Entry) → Contains xs x → list_all f xs ≡ true → f x ≡ true
+all-contains f [] x (k, l, e) h = absurd (omega (arith, l))
+all-contains f (y ∷ xs) x (zero, l, e) h = subst (λ z. f z ≡ true) e (and_cases (f y) (list_all f xs) h).0
+all-contains f (y ∷ xs) x (suc k, l, e) h = all-contains f xs x (k, omega (arith, l), e) (and_cases (f y) (list_all f xs) h).1
+
+all-behind : (xs ys : List Bool) → list_all (λ b. b) (xs ++ ys) ≡ true → list_all (λ b. b) ys ≡ true
+all-behind [] ys h = h
+all-behind (x ∷ xs) ys h = all-behind xs ys (and_cases x (list_all (λ b. b) (xs ++ ys)) h).1
+
+module _ (agent : Agent) where
+  -- where an end stands none stands before it
+  unended : (before closings : Journal) (a : Answer) → IsBoardList agent (before ++ End a ∷ closings) → has_end before ≡ false
+  unended before closings a lawful =
+      let all = ap (list_all (λ b. b)) (sym (at_each-append (is_lawful agent) [] before (End a ∷ closings))) ∙ lawful.lawful in
+      let here = and_cases (is_lawful agent before (End a)) (list_all (λ b. b) (at_each (is_lawful agent) (before ++ End a ∷ []) closings)) (all-behind (at_each (is_lawful agent) [] before) (at_each (is_lawful agent) before (End a ∷ closings)) all) in
+      let after = (lawful-parts agent before (End a) here.0).after in
+      closed (has_end before) after
+    where
+      closed : (b : Bool) → (not b || false) ≡ true → b ≡ false
+      closed true h = absurd (cc)
+      closed false h = refl
+
+  -- so it is the only one
+  only-end : (before closings : Journal) (a b : Answer) → IsBoardList agent (before ++ End a ∷ closings) → list_all is_close closings ≡ true
+      → Contains (before ++ End a ∷ closings) (End b) → b ≡ a
+  only-end before closings a b lawful closes there = by (Contains-append_cases before (End a ∷ closings) (End b) there)
+    where
+      behind : Contains (End a ∷ closings) (End b) → b ≡ a
+      behind (zero, l, e) = cc
+      behind (suc k, l, e) = let no : false ≡ true = all-contains is_close closings (End b) (k, omega (arith, l), e) closes in absurd (cc)
+
+      by : Contains before (End b) ⊎ Contains (End a ∷ closings) (End b) → b ≡ a
+      by (inl c) = let no : false ≡ true = sym (unended before closings a lawful) ∙ any-contains is_end before (End b) c refl in absurd (cc)
+      by (inr c) = behind c
+
+  inline-is : (scripts : List Scripted) → (rounds agent 200000 (record { journal = []; devices = scripts })).journal ≡ inline_journal agent scripts
+  unfolding inline_journal
+  inline-is scripts = refl
+
+  follows : not (has_block agent agent.main) ≡ true → (scripts : List Script) (journal : Journal) (text : Text) (answer : Answer)
+      → IsBoardList agent journal → Contains journal (End answer) → text ≡ report_text agent (with_runs [] journal)
+      → FollowsRounds agent scripts [] journal → FollowsScripts agent scripts text (status_of answer)
+  follows free scripts journal text answer lawful ends is (inl whole) =
+      inl (all-the-way agent free scripts journal text (status_of answer) (whole ∙ inline-is (map scripted scripts)) is (record { answer = answer; stands = ends; shown = refl }))
+  follows free scripts journal text answer lawful ends is (inr (before, later, closings, whole, closes, cut)) =
+      let memory : answer ≡ Memory =
+      only-end before closings Memory answer (subst (IsBoardList agent) cut lawful) closes (subst (λ j. Contains j (End answer)) cut ends) in
+      inr
+      (cut-short agent free scripts before later closings text (status_of answer) (sym (inline-is (map scripted scripts)) ∙ whole)
+      (is ∙ ap (λ j. report_text agent (with_runs [] j)) cut) (ap status_of memory))
+
+  -- what a report comes to that is written
+  pub run-of : not (has_block agent agent.main) ≡ true → (scripts : List Script) (olds news : List Standing) (report : Report) (text : Text) (answer : Answer)
+      → IsReportOf agent scripts olds news report → text ≡ report_text agent report → Contains report.entries (End answer)
+      → IsRunOf agent scripts olds news text (status_of answer)
+  run-of free scripts olds news report text answer of_journal is ends =
+      let journal = of_journal.journal in
+      let text_is : text ≡ report_text agent (with_runs [] journal) = is ∙ ap (report_text agent) of_journal.is in
+      let there : Contains journal (End answer) = subst (λ (r : Report). Contains r.entries (End answer)) of_journal.is ends in
+      record {
+        online = record {
+          report = with_runs [] journal;
+          spelled = record { fits = of_journal.fits; text = text_is };
+          online = of_journal.online;
+          ended = record { answer = answer; stands = there; shown = refl };
+        };
+        dealt = of_journal.dealt;
+        scripted = λ tell. follows free scripts journal text answer of_journal.lawful there text_is (of_journal.scripted tell);
+      }
+
+-- a report of a run has ended
+pub ended : (agent : Agent) (scripts : List Script) (olds news : List Standing) (report : Report) → IsReportOf agent scripts olds news report
+    → has_end report.entries ≡ true
+ended agent scripts olds news report of_journal =
+    let journal = of_journal.journal in
+    let whole = (whole_is_online agent (with_runs [] journal)).ended of_journal.online in
+    ap (λ (r : Report). has_end r.entries) of_journal.is ∙ (and_cases (has_end journal) (not (list_any (λ d. is_open d journal) (devices agent))) whole).0

@@ -1,0 +1,90 @@
+-- What the files of a run hold: an agent, and the scripts of its devices.
+use Rattle.std.specs.Prelude.{◌≡◌, ◌⊎◌, ℕ, ◌<◌, ◌≤◌, ◌^◌, List, [], ◌∷◌, ◌++◌, Option, None, Some, Ok, Err, length, map, find, codes, decimal}
+use Rattle.std.specs.Option.{option_map_or}
+use Rattle.golog_base.specs.Faults.{Rose}
+use Rattle.golog_base.specs.Files.{HasNone, FileHas}
+use Rattle.golog_base.specs.declared.mem_files.HeldFile.{HeldFile}
+use Rattle.golog_tree.specs.declared.agent.Agent.{Agent}
+use Rattle.golog_semantics.specs.Text.{Text}
+use Rattle.golog_semantics.specs.Same.{same_values}
+use Rattle.golog_semantics.specs.Dealt.{Script}
+use Rattle.golog_script.specs.declared.scripts.Script.{Script as Named}
+use Rattle.golog_script.specs.Reading.{first}
+use Rattle.golog_script.specs.DevicesFile.{scripts_of}
+use Rattle.golog_script.specs.ScriptTexts.{script_of_named}
+use Rattle.golog_agent.specs.Spelled.{SpellsAgent}
+use Rattle.golog_main.specs.declared.outcome.Input.{Input}
+use Rattle.golog_main.specs.declared.outcome.Input.TheVariants.{Agent as AgentFile, Devices as DevicesFile}
+
+-- ---- scripts
+
+-- the script of a device that has none
+abbrev pub empty_script : Script
+empty_script = record { answers = []; idle = [] }
+
+-- the script under the name of a device, the empty one where there is none
+abbrev pub script_under : List Named → Text → Script
+script_under listed name =
+    option_map_or script_of_named (find (λ (s : Named). same_values name s.name) listed) empty_script
+
+-- the scripts of the devices of an agent, in the order of the devices
+abbrev pub scripts_for : Agent → List Named → List Script
+scripts_for agent listed = map (script_under listed) agent.devices
+
+-- the bytes of a devices file are within the limit and spell these scripts
+pub record SpellsScripts (agent : Agent) (bytes : Text) (listed : List Named) : Type 0 where
+  pub small : length bytes ≤ 2 ^ 20
+  pub spelled : (scripts_of agent.devices bytes).outcome ≡ Ok listed
+
+-- the first refusal of the bytes of a devices file: they are above the limit, or the first row fits of those that
+-- refuse scripts
+pub data RefusesScripts (agent : Agent) (bytes : Text) : ℕ → ℕ → Type 0 where
+  too_long : 2 ^ 20 < length bytes → RefusesScripts agent bytes 5 1048576
+  of_row : (code at : ℕ) → length bytes ≤ 2 ^ 20 → (scripts_of agent.devices bytes).outcome ≡ Err (code, at)
+      → first (scripts_of agent.devices bytes).rows ≡ Some (code, at) → RefusesScripts agent bytes code at
+
+-- ---- files
+
+-- the file has bytes of which this is so; they are the bytes held, where files tell them
+pub record Reads (held : Option (List HeldFile)) (name : Text) (P : Text → Type 0) : Type 0 where
+  pub bytes : Text
+  pub has : FileHas held name (λ told. told ≡ bytes)
+  pub so : P bytes
+
+-- the agent file spells the agent
+abbrev pub ReadsAgent : Option (List HeldFile) → Text → Agent → Type 0
+ReadsAgent held name agent = Reads held name (λ bytes. SpellsAgent bytes agent)
+
+-- the devices file spells these scripts; without a devices file there are none
+abbrev pub ReadsScripts : Option (List HeldFile) → Agent → Option Text → List Named → Type 0
+ReadsScripts held agent None listed = listed ≡ []
+ReadsScripts held agent (Some name) listed = Reads held name (λ bytes. SpellsScripts agent bytes listed)
+
+-- ---- refusals and faults
+
+-- the text of a line
+abbrev pub line : Text → Text
+line text = text ++ 10 ∷ []
+
+abbrev pub input_name : Input → Text
+input_name AgentFile = codes "agent"
+input_name DevicesFile = codes "devices"
+
+-- the refusal of a file, with its code and its place or position
+abbrev pub refusal_text : Input → ℕ → ℕ → Text
+refusal_text input code at =
+    line (codes "refused " ++ input_name input ++ codes " " ++ decimal code ++ codes " at " ++ decimal at)
+
+abbrev pub fault_text : Input → Text
+fault_text input = line (codes "read fault " ++ input_name input)
+
+-- the text tells a refusal of the file by its code and its place
+pub record Tells (input : Input) (Refuses : ℕ → ℕ → Type 0) (text : Text) : Type 0 where
+  pub code : ℕ
+  pub at : ℕ
+  pub refused : Refuses code at
+  pub is : text ≡ refusal_text input code at
+
+-- no file of this name is held, or a call of the files failed
+abbrev pub IsUnread : Option (List HeldFile) → Text → ℕ → ℕ → Type 0
+IsUnread held name faults_before faults_after = HasNone held name ⊎ Rose faults_before faults_after

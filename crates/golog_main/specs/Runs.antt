@@ -1,0 +1,94 @@
+-- What a run of an agent comes to.
+use Rattle.std.specs.Prelude.{◌≡◌, ◌⊎◌, ℕ, ◌<◌, ◌≤◌, nat_lt, IsSome, IfSome, Some, List, [], ◌∷◌, ◌++◌, length, map, codes, decimal, slice_get}
+use Rattle.std.specs.List.{flat_map}
+use Rattle.golog_tree.specs.declared.agent.Agent.{Agent}
+use Rattle.golog_semantics.specs.declared.journal.Report.{Report}
+use Rattle.golog_semantics.specs.Journal.{Journal}
+use Rattle.golog_semantics.specs.Text.{Text, with_line_feed}
+use Rattle.golog_semantics.specs.Reports.{IsReport}
+use Rattle.golog_semantics.specs.Online.{IsOnline}
+use Rattle.golog_semantics.specs.Execution.{IsOnlineRun, Ends}
+use Rattle.golog_semantics.specs.OneMore.{with_runs}
+use Rattle.golog_semantics.specs.InlineText.{inline_report, inline_text}
+use Rattle.golog_semantics.specs.Dealt.{Script, Dealt}
+use Rattle.golog_journal.specs.Boards.{IsBoardList}
+use Rattle.golog_device.specs.Scripts.{script_spelled}
+use Rattle.golog_device.specs.Slots.{Standing, EachSlot, ChangesIf, HasAt}
+use Rattle.golog_agent.specs.Rounds.{FollowsRounds, RunsToEnd}
+
+-- ---- the devices
+
+-- what a device was given and told fits the journal, with its script
+abbrev pub IsDealt : Agent → List Script → Journal → ℕ → Standing → Type 0
+IsDealt agent scripts journal device standing =
+    IfSome (slice_get scripts device) (λ script. Dealt agent device journal script standing.meaning)
+
+-- each device of the agent was dealt with, and the box that no device needs is as it was
+abbrev pub AreDealtWith : Agent → List Script → Journal → List Standing → List Standing → Type 0
+AreDealtWith agent scripts journal =
+    EachSlot (λ slot. ChangesIf (nat_lt slot (length agent.devices))
+    (λ was is. IsDealt agent scripts journal slot is))
+
+-- each device of the agent tells what is left of its script
+abbrev pub AllTellLeft : Agent → List Standing → Type 0
+AllTellLeft agent standings =
+    (slot : ℕ) → slot < length agent.devices → HasAt standings slot (λ s. IsSome s.meaning.left)
+
+-- ---- the text, where all devices tell what is left of their scripts
+
+-- the text is that of the rounds with these scripts, and the status that of its end
+pub record IsInline (agent : Agent) (scripts : List Script) (text : Text) (status : ℕ) : Type 0 where
+  pub is : text ≡ inline_text agent scripts
+  pub ended : Ends (inline_report agent scripts).entries status
+
+-- memory was wanted, and the lines before `end memory` are the first lines of the text of the rounds
+pub record IsCutShort (agent : Agent) (scripts : List Script) (text : Text) (status : ℕ) : Type 0 where
+  pub before : List Text
+  pub later : List Text
+  pub closings : List Text
+  pub whole : inline_text agent scripts ≡ flat_map (with_line_feed agent) (before ++ later)
+  pub is : text ≡ flat_map (with_line_feed agent)
+      (before ++ (decimal (length before) ++ codes " end memory") ∷ closings)
+  pub wanted : status ≡ 6
+
+abbrev pub FollowsScripts : Agent → List Script → Text → ℕ → Type 0
+FollowsScripts agent scripts text status =
+    IsInline agent scripts text status ⊎ IsCutShort agent scripts text status
+
+-- ---- a run
+
+-- The text is that of an online execution of the agent's program, and the status that of its end. Each device was
+-- dealt with, with its script. Where all devices tell what is left of their scripts, the text is that of the rounds.
+pub record IsRunOf (agent : Agent) (scripts : List Script) (olds news : List Standing) (text : Text) (status : ℕ)
+    : Type 0 where
+  pub online : IsOnlineRun agent text status
+  pub dealt : AreDealtWith agent scripts online.report.entries olds news
+  pub scripted : AllTellLeft agent olds → FollowsScripts agent scripts text status
+
+-- these are texts of the scripts
+abbrev pub AreTextsOf : List Text → List Script → Type 0
+AreTextsOf texts scripts = map script_spelled texts ≡ map Some scripts
+
+-- the same of a report, that of a journal without runs
+pub record IsReportOf (agent : Agent) (scripts : List Script) (olds news : List Standing) (report : Report)
+    : Type 0 where
+  pub journal : Journal
+  pub is : report ≡ with_runs [] journal
+  pub fits : IsReport agent (with_runs [] journal)
+  pub lawful : IsBoardList agent journal
+  pub online : IsOnline agent (with_runs [] journal)
+  pub dealt : AreDealtWith agent scripts journal olds news
+  pub scripted : AllTellLeft agent olds → FollowsRounds agent scripts [] journal
+
+-- and so for the scripts that these texts are of
+abbrev pub ReportsRun : Agent → List Text → List Standing → List Standing → Report → Type 0
+ReportsRun agent texts olds news report =
+    (scripts : List Script) → AreTextsOf texts scripts → IsReportOf agent scripts olds news report
+
+-- the report is of a journal, without runs, to which a run has gone on from these entries
+pub record RunsOn (agent : Agent) (before : Journal) (olds news : List Standing) (report : Report) : Type 0 where
+  pub journal : Journal
+  pub is : report ≡ with_runs [] journal
+  pub lawful : IsBoardList agent journal
+  pub short : length journal ≤ 65553
+  pub ran : RunsToEnd agent before journal olds news
