@@ -9,8 +9,8 @@ use std::process::ExitCode;
 use std::thread::{Builder, Threads};
 use std::{env, io};
 
-/// How many bytes of stack the work has. The longest agent file holds programs that nest about 262,000 deep before
-/// they are refused, and a recursion over them takes at most some hundred bytes for each level.
+/// How many bytes of stack the work has. The longest agent file holds programs that nest about 262,000 deep
+/// before they are refused, and a recursion over them takes at most some hundred bytes for each level.
 const STACK: usize = 1 << 30;
 
 fn main(rt: HostRuntime) -> ExitCode {

@@ -1,5 +1,5 @@
 -- What a reader of files answers, stage by stage.
-use Rattle.std.proofs.Common.{◌≡◌, ℕ, Bool, true, false, List, refl, sym, ap, ◌∙◌, subst, Result, Ok, Err}
+use Rattle.std.proofs.Common.{◌≡◌, ℕ, true, false, List, sym, ap, ◌∙◌, Result, Ok, Err}
 use Rattle.golog_form.specs.declared.form.Form.{Form}
 use Rattle.golog_form.specs.declared.fault.FormFault.{FormFault}
 use Rattle.golog_form.specs.declared.fault.FormFault.TheVariants as form
@@ -22,7 +22,7 @@ use Rattle.golog_agent.specs.declared.fault.AgentFault.TheVariants.{Refused, Mem
 use Rattle.golog_agent.specs.declared.fault.TheConstants.{UNBUILT}
 use Rattle.golog_agent.specs.Faults.{fault_of_form, fault_of_theory, fault_of_check}
 use Rattle.golog_agent.specs.Built.{is_unbuilt}
-use Rattle.golog_agent.specs.Spelled.{DraftSpells, DraftRefuses, DraftAnswers, of_check, of_stage, SpellsDraft, FormSpells, of_theory, of_program, of_draft, FormAnswers, of_bytes, of_form, Reads}
+use Rattle.golog_agent.specs.Spelled.{DraftSpells, DraftRefuses, DraftAnswers, of_check, of_stage, SpellsDraft, of_theory, of_program, of_draft, FormAnswers, of_bytes, of_form, Reads}
 
 module _ (theory : DraftTheory) (program : DraftProgram) where
   pub spells : (agent : Agent) → Checks (Ok agent) theory program → IsLeastChecked {A = Agent} (Ok agent) (all_rows theory program) → is_unbuilt agent ≡ false → DraftSpells theory program agent

@@ -1,15 +1,16 @@
 -- The rounds of a run without threads, up to its end.
-use Rattle.std.proofs.Common.{◌≡◌, ℕ, zero, suc, ◌+◌, ◌-◌, ◌<◌, ◌≤◌, Bool, true, false, ◌||◌, Option, Some, None, List, [], ◌∷◌, ◌++◌, length, map, replicate, get_or, refl, sym, ap, ◌∙◌, subst, append_assoc, inl, inr, arith, nat_lt}
+use Rattle.std.proofs.Common.{◌≡◌, ℕ, zero, suc, ◌+◌, ◌<◌, ◌≤◌, Bool, true, false, not, ◌||◌, Option, Some, None, List, [], ◌∷◌, ◌++◌, length, map, replicate, get_or, refl, sym, ap, ◌∙◌, subst, append_assoc, inl, inr, arith, nat_lt}
 use Rattle.std.specs.Prelude.{slice_get, IsSomeAnd, option_map, option_and_then}
 use Rattle.std.specs.List.{list_any}
-use Rattle.std.proofs.lemmas.Bool.{and_from, or_right, ltb-true}
+use Rattle.std.proofs.lemmas.Bool.{and_from, or_from, or_left, or_right, ltb-true}
 use Rattle.std.proofs.lemmas.Option.{slice_get-map, slice_get-get_or}
 use Rattle.std.proofs.lemmas.List.{append-nil, length-map, get_or_default}
+use Rattle.std.proofs.lemmas.List.Elements.{filter-append}
 use Rattle.std.proofs.lemmas.List.Folds.{list_any-append, list_all-append}
 use Rattle.golog_tree.specs.declared.agent.Agent.{Agent}
 use Rattle.golog_semantics.specs.declared.journal.Entry.TheVariants.{End}
 use Rattle.golog_semantics.specs.declared.journal.Answer.TheVariants.{Memory}
-use Rattle.golog_semantics.specs.Journal.{Journal, is_close, is_end, has_end, commands}
+use Rattle.golog_semantics.specs.Journal.{Journal, is_close, is_end, is_open, is_posted_by, has_end, commands, posted}
 use Rattle.golog_semantics.specs.Inline.{Scripted, Stage, turns_from, round, rounds}
 use Rattle.golog_semantics.specs.InlineText.{scripted as begun_script}
 use Rattle.golog_semantics.specs.Dealt.{Script}
@@ -20,7 +21,7 @@ use Rattle.golog_journal.specs.Taken.{IsReady}
 use Rattle.golog_device.specs.Dealing.{scripted, DealtIf, DealtNow}
 use Rattle.golog_device.specs.Slots.{Standing, Both, EachSlot, ChangesIf}
 use Rattle.golog_device.proofs.Standings.{EachSlot-then, EachSlot-same}
-use Rattle.golog_agent.specs.Rounds.{AreReady, IsDealtWith, HasRun, TellLeft, FollowsRounds, RunsToEnd}
+use Rattle.golog_agent.specs.Rounds.{AreReady, HasServed, HasRun, is_refusal, TellLeft, FollowsRounds, RunsToEnd}
 use Rattle.golog_agent.specs.Moments.{Moment, taken_by, progress, MayGoOn, StaysDealt, DealsOn, AreScripted, IsStage, RoundIs, RoundMade, Starved, RoundsAre, RoundsMade}
 use Rattle.golog_agent.proofs.Adding.{one_round_more}
 use Rattle.golog_agent.proofs.CommandsFew.{taken_within}
@@ -46,7 +47,7 @@ module _ (agent : Agent) where
   deals-same m = EachSlot-same _ m.standings same
     where
       by : (b : Bool) (j : ℕ) (s : Standing) → ChangesIf b (StaysDealt agent m m j) s s
-      by true j s = λ script far. far
+      by true j s = record { dealt = λ script far. far; shut = λ closed. refl }
       by false j s = refl
 
       same : (j : ℕ) (s : Standing) → ChangesIf (nat_lt j (length agent.devices)) (StaysDealt agent m m j) s s
@@ -57,6 +58,7 @@ module _ (agent : Agent) where
   rounds-none m on = record {
     since = [];
     grows = sym (append-nil m.journal);
+    unrefused = refl;
     on = on;
     deals = deals-same m;
     count = 0;
@@ -64,12 +66,25 @@ module _ (agent : Agent) where
     scripted = λ ds are. inl (record { entries = refl; devices = are });
   }
 
-  deals-then : (old mid new : Moment) → DealsOn agent old mid → DealsOn agent mid new → DealsOn agent old new
-  deals-then old mid new first second = EachSlot-then _ _ _ old.standings mid.standings new.standings step first second
+  -- what was closed stays closed
+  shut-later : (device : ℕ) (journal since : Journal) → is_open device journal ≡ false → is_open device (journal ++ since) ≡ false
+  shut-later device journal since shut =
+      ap (λ j. not (list_any is_close j)) (filter-append (is_posted_by device) journal since)
+      ∙ ap not (list_any-append is_close (posted device journal) (posted device since) ∙ or_left _ _ (opposite (list_any is_close (posted device journal)) shut))
+    where
+      opposite : (b : Bool) → not b ≡ false → b ≡ true
+      opposite true h = refl
+      opposite false h = absurd (cc)
+
+  deals-then : (old mid new : Moment) (since : Journal) → mid.journal ≡ old.journal ++ since → DealsOn agent old mid → DealsOn agent mid new → DealsOn agent old new
+  deals-then old mid new since grows first second = EachSlot-then _ _ _ old.standings mid.standings new.standings step first second
     where
       by : (x : Bool) (j : ℕ) (a b c : Standing) → ChangesIf x (StaysDealt agent old mid j) a b → ChangesIf x (StaysDealt agent mid new j) b c
           → ChangesIf x (StaysDealt agent old new j) a c
-      by true j a b c before now = λ script far. now script (before script far)
+      by true j a b c before now = record {
+        dealt = λ script far. now.dealt script (before.dealt script far);
+        shut = λ shut. now.shut (ap (is_open j) grows ∙ shut-later j old.journal since shut) ∙ before.shut shut;
+      }
       by false j a b c before now = now ∙ before
 
       step : (j : ℕ) (a b c : Standing) → ChangesIf (nat_lt j (length agent.devices)) (StaysDealt agent old mid j) a b
@@ -129,7 +144,8 @@ module _ (agent : Agent) where
       since = made.since ++ one.since;
       grows = one.grows ∙ ap (λ j. j ++ one.since) made.grows ∙ append_assoc start.journal made.since one.since;
       on = one.on;
-      deals = deals-then start mid new made.deals one.deals;
+      unrefused = list_any-append is_refusal made.since one.since ∙ or_from _ _ made.unrefused one.unrefused;
+      deals = deals-then start mid new made.since made.grows made.deals one.deals;
       count = made.count + 1;
       goes = let m = made.goes in let o = one.goes in omega (arith, m, o);
       scripted = λ ds are. next-are ds (made.scripted ds are);
@@ -147,16 +163,19 @@ module _ (agent : Agent) where
   -- a run that is over
   module _ (start now : Moment) (none_taken : (device : ℕ) → taken_by start.taken device ≡ 0) (list : IsBoardList agent now.journal) (short : length now.journal ≤ 65553)
       (online : IsOnlineSoFar agent (with_runs [] now.journal)) (over : IsOverAll now.journal (length agent.devices)) (made : RoundsMade agent start now) where
-    ran-slot : (j : ℕ) → j < length agent.devices → (a b : Standing) → StaysDealt agent start now j a b → IsDealtWith agent start.journal now.journal j a b
-    ran-slot j below a b stays script far =
-        subst (λ o. DealtIf agent j o now.journal (taken_by now.taken j) script b.meaning) (over.shut j below)
-        (stays script (subst (λ n. DealtNow agent j start.journal n script a.meaning) (sym (none_taken j)) far))
+    ran-slot : (j : ℕ) → j < length agent.devices → (a b : Standing) → StaysDealt agent start now j a b → HasServed agent start.journal now.journal j a b
+    ran-slot j below a b stays = record {
+      dealt = λ script far.
+          subst (λ o. DealtIf agent j o now.journal (taken_by now.taken j) script b.meaning) (over.shut j below)
+          (stays.dealt script (subst (λ n. DealtNow agent j start.journal n script a.meaning) (sym (none_taken j)) far));
+      shut = stays.shut;
+    }
 
     ran-each : EachSlot (HasRun agent start.journal now.journal) start.standings now.standings
     ran-each = record { at = λ j. at j (slice_get start.standings j) (slice_get now.standings j) ((made.deals).at j) }
       where
         by : (j : ℕ) (x : Bool) → nat_lt j (length agent.devices) ≡ x → (a b : Standing) → ChangesIf x (StaysDealt agent start now j) a b
-            → ChangesIf x (IsDealtWith agent start.journal now.journal j) a b
+            → ChangesIf x (HasServed agent start.journal now.journal j) a b
         by j true below a b stays = ran-slot j (ltb-true j (length agent.devices) below) a b stays
         by j false past a b stays = stays
 
@@ -209,6 +228,7 @@ module _ (agent : Agent) where
     runs-to-end = record {
       since = made.since;
       grows = made.grows;
+      unrefused = made.unrefused;
       online = over_online agent now.journal online over;
       run = ran-each;
       scripted = λ scripts many tell. follows scripts many (made.scripted (map begun_script scripts) (tell-scripts scripts many tell));

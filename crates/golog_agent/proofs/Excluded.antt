@@ -1,5 +1,5 @@
 -- Bytes that spell an agent are not refused.
-use Rattle.std.proofs.Common.{◌≡◌, ℕ, zero, suc, ◌+◌, ◌≤◌, ◌<◌, ◌^◌, ◌⊎◌, Bool, true, false, ◌||◌, List, [], ◌∷◌, length, refl, sym, ap, ◌∙◌, subst, arith, inl, inr, Option, Some, None, Result, Ok, Err, get_or}
+use Rattle.std.proofs.Common.{◌≡◌, ℕ, zero, suc, ◌<◌, true, false, List, [], ◌∷◌, length, refl, sym, ap, ◌∙◌, subst, arith, inl, inr, Result, Ok, Err, get_or}
 use Rattle.std.specs.List.{list_all}
 use Rattle.golog_form.specs.declared.form.Form.{Form}
 use Rattle.golog_form.specs.declared.fault.FormFault.TheVariants.{Refused as FormRefused}
@@ -7,7 +7,7 @@ use Rattle.golog_form.specs.Gives.{Fault}
 use Rattle.golog_form.specs.Tokens.{tokens}
 use Rattle.golog_form.specs.Parsing.{parse, start}
 use Rattle.golog_form.specs.Spelling.{Spells}
-use Rattle.golog_form.specs.Faults.{Fits, IsFirst, IsAnswer}
+use Rattle.golog_form.specs.Faults.{Fits}
 use Rattle.golog_form.proofs.Least.{answer}
 use Rattle.golog_form.proofs.Only.{only}
 use Rattle.golog_tree.specs.declared.agent.Agent.{Agent}

@@ -2,16 +2,18 @@
 use Rattle.std.proofs.Common.{◌≡◌, ◌≢◌, ℕ, ◌+◌, ◌≤◌, Bool, true, false, ◌==◌, if◌then◌else◌, Option, Some, None, [], ◌∷◌, ◌++◌, length, length-append, refl, sym, ap, ◌∙◌, subst, inl, inr, arith}
 use Rattle.std.specs.Prelude.{slice_get}
 use Rattle.std.specs.Option.{option_map_or}
-use Rattle.std.proofs.lemmas.Bool.{and_from, eq-eqb}
+use Rattle.std.proofs.lemmas.Bool.{and_from, or_from, eq-eqb}
 use Rattle.std.proofs.lemmas.Option.{slice_get_within}
 use Rattle.std.proofs.lemmas.List.{append-nil}
 use Rattle.golog_tree.specs.declared.agent.Agent.{Agent}
+use Rattle.golog_semantics.specs.declared.journal.Entry.{Entry}
 use Rattle.golog_semantics.specs.declared.journal.Entry.TheVariants.{Rest, Close}
 use Rattle.golog_semantics.specs.declared.journal.Item.{Item}
 use Rattle.golog_semantics.specs.declared.journal.Item.TheVariants as item
 use Rattle.golog_semantics.specs.declared.journal.Reason.{Reason}
-use Rattle.golog_semantics.specs.Journal.{Journal, Command, commands, is_sensing, is_posted_by, posted, is_open, has_end, last_of, is_rest_after}
-use Rattle.golog_semantics.specs.Posts.{awaited, closing, result_of, entry_of, posted_entry}
+use Rattle.golog_semantics.specs.declared.journal.Reason.TheVariants as reason
+use Rattle.golog_semantics.specs.Journal.{Journal, Command, commands, is_sensing, is_posted_by, posted, is_open, is_full, has_end, last_of, is_rest_after}
+use Rattle.golog_semantics.specs.Posts.{awaited, closing, is_bad, result_of, entry_of, posted_entry}
 use Rattle.golog_semantics.specs.Dealt.{Meaning, Script}
 use Rattle.golog_journal.specs.declared.board.Next.{Next}
 use Rattle.golog_journal.specs.declared.board.Next.TheVariants.{Command as Commanded, Nothing as NoCommand, Ended}
@@ -26,6 +28,8 @@ use Rattle.golog_device.specs.Turns.{SameBoard, PostsItem, answer_item, idle_ite
 use Rattle.golog_device.specs.Dealing.{DealtSoFar, DealtAfter, DealtIf, DealtNow}
 use Rattle.golog_device.proofs.DealtTurn.{few-of, all-taken}
 use Rattle.golog_device.proofs.Asked.{done-by}
+use Rattle.golog_device.proofs.Told.{answer-plain, idle-plain, not-refused}
+use Rattle.golog_agent.specs.Rounds.{is_refusal}
 use Rattle.golog_agent.specs.Moments.{RestsAt, TurnMade}
 
 -- a device has no fewer commands behind more entries
@@ -62,6 +66,42 @@ module _ (agent : Agent) (device : ℕ) where
       by : (o : Option Reason) → is_posted_by device (option_map_or (λ r. Close device r n) o (entry_of agent journal device n i)) ≡ true
       by None = entry i
       by (Some r) = itself
+
+  -- what is put in for an item that refuses no script refuses none
+  reason-unrefused : (n : ℕ) (b c d : Bool) (e : Entry) → is_refusal e ≡ false
+      → is_refusal
+      (option_map_or (λ r. Close device r n)
+      (if b then Some reason.Late else (if c then Some reason.Full else (if d then Some reason.Bad else None))) e)
+      ≡ false
+  reason-unrefused n true c d e h = refl
+  reason-unrefused n false true d e h = refl
+  reason-unrefused n false false true e h = refl
+  reason-unrefused n false false false e h = h
+
+  entry-unrefused : (journal : Journal) (n : ℕ) (i : Item) → i ≢ item.Refused → is_refusal (posted_entry agent journal device n i) ≡ false
+  entry-unrefused journal n i other = by i other
+    where
+      result : (value : ℕ) (o : Option Command) → is_refusal (option_map_or (result_of agent journal device n value) o (Rest device n)) ≡ false
+      result value None = refl
+      result value (Some c) = refl
+
+      later : (x : Item) → is_refusal (entry_of agent journal device n x) ≡ false
+          → is_refusal
+          (option_map_or (λ r. Close device r n)
+          (if has_end journal then Some reason.Late else (if is_full journal then Some reason.Full else (if is_bad agent journal device n x then Some reason.Bad else None)))
+          (entry_of agent journal device n x))
+          ≡ false
+      later x h = reason-unrefused n (has_end journal) (is_full journal) (is_bad agent journal device n x) (entry_of agent journal device n x) h
+
+      by : (x : Item) → x ≢ item.Refused → is_refusal (posted_entry agent journal device n x) ≡ false
+      by (item.Exo action) h = later (item.Exo action) refl
+      by (item.Value value) h = later (item.Value value) (result value (awaited agent journal device n))
+      by item.Rest h = later item.Rest refl
+      by item.Close h = refl
+      by item.Unreadable h = later item.Unreadable refl
+      by item.Silent h = later item.Silent refl
+      by item.Stop h = refl
+      by item.Refused h = absurd (h refl)
 
   -- what was posted is the entry at the list as it was
   post-alone : (n : ℕ) (i : Item) (done result : Turned) (mid new : Sight) → mid.agent ≡ agent → mid.alone ≡ true
@@ -100,9 +140,9 @@ module _ (agent : Agent) (device : ℕ) where
     few-old n few = subst (λ j. n ≤ length (commands agent device j)) same few
 
     -- an entry was posted
-    with-entry : (n : ℕ) (i : Item) (done : Turned) → count ≡ n → taken ≤ n → n ≤ length (commands agent device mid.seen)
+    with-entry : (n : ℕ) (i : Item) (done : Turned) → i ≢ item.Refused → count ≡ n → taken ≤ n → n ≤ length (commands agent device mid.seen)
         → PostsItem device n (Some i) done result mid new → TurnMade agent device old.seen taken new.seen count
-    with-entry n i done is_n more few posts =
+    with-entry n i done other is_n more few posts =
         let e = posted_entry agent mid.seen device n i in
         let grown : new.seen ≡ old.seen ++ e ∷ [] = post-alone n i done result mid new mid-own mid-alone posts ∙ ap (λ j. j ++ e ∷ []) same in
         let longer : length new.seen ≡ length old.seen + 1 = ap (λ j. length j) grown ∙ length-append old.seen (e ∷ []) in
@@ -110,6 +150,7 @@ module _ (agent : Agent) (device : ℕ) where
           since = e ∷ [];
           grows = grown;
           own = and_from _ _ (entry-own mid.seen n i) refl;
+          unrefused = or_from _ _ (entry-unrefused mid.seen n i other) refl;
           few =
               subst (λ k. k ≤ length (commands agent device new.seen)) (sym is_n)
               (subst (λ j. n ≤ length (commands agent device j)) (sym grown) (few-more agent device n old.seen (e ∷ []) (few-old n few)));
@@ -129,6 +170,7 @@ module _ (agent : Agent) (device : ℕ) where
           since = [];
           grows = here ∙ sym (append-nil old.seen);
           own = refl;
+          unrefused = refl;
           few =
               subst (λ k. k ≤ length (commands agent device new.seen)) (sym more)
               (subst (λ j. taken + 1 ≤ length (commands agent device j)) (sym here) (few-old (taken + 1) few));
@@ -146,6 +188,7 @@ module _ (agent : Agent) (device : ℕ) where
           since = [];
           grows = here ∙ sym (append-nil old.seen);
           own = refl;
+          unrefused = refl;
           few =
               subst (λ k. k ≤ length (commands agent device new.seen)) (sym as_many)
               (subst (λ j. taken ≤ length (commands agent device j)) (sym here) (few-old taken few-mid));
@@ -168,17 +211,17 @@ module _ (agent : Agent) (device : ℕ) where
     within : (c : Command) → slice_get (commands agent device mid.seen) taken ≡ Some c → taken + 1 ≤ length (commands agent device mid.seen)
     within c next = let k = slice_get_within (commands agent device mid.seen) taken c next in omega (arith, k)
 
-    by-command : (c : Command) → slice_get (commands agent device mid.seen) taken ≡ Some c → count ≡ taken + 1 → (o : Option Item)
+    by-command : (c : Command) → slice_get (commands agent device mid.seen) taken ≡ Some c → count ≡ taken + 1 → (o : Option Item) → ((i : Item) → o ≡ Some i → i ≢ item.Refused)
         → PostsItem device (taken + 1) o turned.Served result mid new → TurnMade agent device old.seen taken new.seen count
-    by-command c next more None (done, stays) = with-command more (within c next) stays
-    by-command c next more (Some i) posts = with-entry (taken + 1) i turned.Served more (omega arith) (within c next) posts
+    by-command c next more None told (done, stays) = with-command more (within c next) stays
+    by-command c next more (Some i) told posts = with-entry (taken + 1) i turned.Served (told i refl) more (omega arith) (within c next) posts
 
     by-none : slice_get (commands agent device mid.seen) taken ≡ None → (e : Bool) → has_end mid.seen ≡ e → (r : Bool) → is_resting agent mid.seen device taken ≡ r
         → TurnsBy agent device taken (if e then Ended else NoCommand r) result count mid new was is → TurnMade agent device old.seen taken new.seen count
-    by-none next true ends r rests (as_many, stays, posts) = with-entry taken item.Stop turned.Posted as_many (omega arith) few-mid posts
+    by-none next true ends r rests (as_many, stays, posts) = with-entry taken item.Stop turned.Posted (λ e. absurd (cc)) as_many (omega arith) few-mid posts
     by-none next false ends true rests (as_many, stays, posts) = with-nothing as_many posts.1 ends rests next
     by-none next false ends false rests (as_many, (answer, idles, posts)) =
-        with-entry taken (idle_item agent answer) (idle_turn answer) as_many (omega arith) few-mid posts
+        with-entry taken (idle_item agent answer) (idle_turn answer) (not-refused (idle_item agent answer) (idle-plain agent answer)) as_many (omega arith) few-mid posts
 
     pub turn-made : TurnMade agent device old.seen taken new.seen count
     turn-made = go (slice_get (commands agent device mid.seen) taken) refl
@@ -188,7 +231,10 @@ module _ (agent : Agent) (device : ℕ) where
         does o next = done-by agent device taken count result old new was is own held ready turns o next
 
         go : (o : Option Command) → slice_get (commands agent device mid.seen) taken ≡ o → TurnMade agent device old.seen taken new.seen count
-        go (Some c) next = let d = does (Some c) next in by-command c next d.0 (answer_item agent device c.action (is_sensing agent c.action) d.1.0) d.1.2
+        go (Some c) next =
+            let d = does (Some c) next in
+            by-command c next d.0 (answer_item agent device c.action (is_sensing agent c.action) d.1.0)
+            (λ i is. not-refused i (answer-plain agent device c.action (is_sensing agent c.action) d.1.0 i is)) d.1.2
         go None next = by-none next (has_end mid.seen) refl (is_resting agent mid.seen device taken) refl (does None next)
 
   -- a device that was dealt with over its turn is dealt with now

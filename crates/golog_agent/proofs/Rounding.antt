@@ -1,9 +1,10 @@
 -- A round of a run without threads, and the rounds so far.
-use Rattle.std.proofs.Common.{◌≡◌, ℕ, zero, suc, ◌+◌, ◌-◌, ◌<◌, ◌≤◌, Bool, true, false, not, ◌||◌, ◌⊎◌, None, List, [], ◌∷◌, ◌++◌, length, length-append, drop, refl, sym, ap, ◌∙◌, subst, append_assoc, inl, inr, arith, nat_lt}
+use Rattle.std.proofs.Common.{◌≡◌, ℕ, zero, suc, ◌+◌, ◌<◌, ◌≤◌, Bool, true, false, not, ◌||◌, ◌⊎◌, None, List, [], ◌∷◌, ◌++◌, length, length-append, drop, refl, sym, ap, ◌∙◌, subst, append_assoc, inl, inr, arith, nat_lt}
 use Rattle.std.specs.Prelude.{slice_get, option_map, option_and_then}
 use Rattle.std.specs.List.{list_all, list_any, range_with_len, sum}
 use Rattle.std.proofs.lemmas.Bool.{and_from, and_left, or_left, or_right, or_from, cases_lt, false_from_ne_true}
 use Rattle.std.proofs.lemmas.List.{append-nil, take_all}
+use Rattle.std.proofs.lemmas.List.Folds.{list_any-append}
 use Rattle.std.proofs.Math.ListN.{drop_of_length-le}
 use Rattle.golog_tree.specs.declared.agent.Agent.{Agent}
 use Rattle.golog_semantics.specs.declared.journal.Entry.{Entry}
@@ -11,7 +12,7 @@ use Rattle.golog_semantics.specs.declared.journal.Entry.TheVariants.{Do, Test, E
 use Rattle.golog_semantics.specs.declared.journal.Answer.{Answer}
 use Rattle.golog_semantics.specs.declared.journal.Answer.TheVariants.{Memory}
 use Rattle.golog_semantics.specs.Journal.{Journal, devices, is_posted_by, is_open, is_at_rest, is_quiet, has_end}
-use Rattle.golog_semantics.specs.Inline.{Scripted, lead, led, turns_from, round, rounds}
+use Rattle.golog_semantics.specs.Inline.{Scripted, lead, led, turns_from}
 use Rattle.golog_semantics.specs.Online.{is_whole}
 use Rattle.golog_journal.specs.Boards.{IsBoardList}
 use Rattle.golog_journal.specs.Growing.{Sight}
@@ -28,6 +29,7 @@ use Rattle.golog_agent.specs.Run.{is_step_entry}
 use Rattle.golog_agent.specs.Waiting.{waits}
 use Rattle.golog_agent.specs.Laws.{quiet_goes_on}
 use Rattle.golog_agent.specs.Turns.{Follows, EndStood, CommitsEnd, TurnIs}
+use Rattle.golog_agent.specs.Rounds.{is_refusal}
 use Rattle.golog_agent.specs.Moments.{Moment, taken_by, progress, told_at, MayGoOn, RestsAt, StaysDealt, DealsOn, AreScripted, IsStage, turned, LeaveAll, TurnsMade, RoundIs, RoundMade}
 use Rattle.golog_agent.proofs.Over.{over_is, whole_is}
 use Rattle.golog_agent.proofs.OneTurn.{few-more}
@@ -83,6 +85,7 @@ module _ (agent : Agent) where
     pub since : Journal
     pub grows : new ≡ old ++ since
     pub foreign : (device : ℕ) → AreNotOf device since
+    pub unrefused : list_any is_refusal since ≡ false
     pub goes : (length old < length new) ⊎ ((new ≡ old) × ((has_end old ≡ true) ⊎ (waits agent old ≡ true)))
 
   module _ (old new : Sight) (own : old.agent ≡ agent) (alone : old.alone ≡ true) where
@@ -99,14 +102,16 @@ module _ (agent : Agent) where
       since = [];
       grows = adds [] follows;
       foreign = λ device. refl;
+      unrefused = refl;
       goes = inr (none-adds follows, why);
     }
 
-    with-one : (e : Entry) → ((device : ℕ) → is_posted_by device e ≡ false) → Follows old new (e ∷ []) → ProgramMade old.seen new.seen
-    with-one e foreign follows = record {
+    with-one : (e : Entry) → ((device : ℕ) → is_posted_by device e ≡ false) → is_refusal e ≡ false → Follows old new (e ∷ []) → ProgramMade old.seen new.seen
+    with-one e foreign plain follows = record {
       since = e ∷ [];
       grows = adds (e ∷ []) follows;
       foreign = λ device. or_from _ _ (foreign device) refl;
+      unrefused = or_from _ _ plain refl;
       goes =
           inl (let l : length new.seen ≡ length old.seen + 1 = ap (λ j. length j) (adds (e ∷ []) follows) ∙ length-append old.seen (e ∷ []) in
           omega (arith, l));
@@ -121,8 +126,17 @@ module _ (agent : Agent) where
     step-foreign (Close p r t) is device = absurd (cc)
     step-foreign (End a) is device = absurd (cc)
 
+    step-plain : (e : Entry) → is_step_entry e ≡ true → is_refusal e ≡ false
+    step-plain (Do action) is = refl
+    step-plain Test is = refl
+    step-plain (Exo p a) is = absurd (cc)
+    step-plain (Sense p at f v) is = absurd (cc)
+    step-plain (Rest p t) is = absurd (cc)
+    step-plain (Close p r t) is = absurd (cc)
+    step-plain (End a) is = absurd (cc)
+
     pub program-made : (result : Stepped) → TurnIs old new result → ProgramMade old.seen new.seen
-    program-made Step turn = with-one turn.entry (step-foreign turn.entry turn.is_step) turn.follows
+    program-made Step turn = with-one turn.entry (step-foreign turn.entry turn.is_step) (step-plain turn.entry turn.is_step) turn.follows
     program-made Waiting turn =
         with-none (inr (ap (λ a. waits a old.seen) (sym ((turn.follows).same_agent ∙ own)) ∙ ap (waits new.agent) (sym (none-adds turn.follows)) ∙ turn.is_waiting))
         turn.follows
@@ -130,7 +144,7 @@ module _ (agent : Agent) where
       where
         by : EndStood old new ⊎ CommitsEnd answer old new → ProgramMade old.seen new.seen
         by (inl stood) = with-none (inl stood.ended) stood.follows
-        by (inr commits) = with-one (End answer) (λ device. refl) commits.follows
+        by (inr commits) = with-one (End answer) (λ device. refl) refl commits.follows
 
   -- all devices' turns
   turned-all : (journal : Journal) (ds : List Scripted) → length ds ≡ length agent.devices
@@ -160,10 +174,13 @@ module _ (agent : Agent) where
         (subst (EachSlot (λ j b c. c ≡ b) mid.standings) (sym same_standings) (EachSlot-same _ mid.standings (λ j s. refl)))
       where
         on-one : (j : ℕ) (a b : Standing) → StaysDealt agent old mid j a b → StaysDealt agent old new j a b
-        on-one j a b before script far =
-            subst (λ l. DealtNow agent j new.journal (taken_by l j) script b.meaning) (sym same_taken)
-            (subst (λ l. DealtNow agent j l (taken_by mid.taken j) script b.meaning) (sym grows)
-            (dealt_stays agent mid.journal since j (taken_by mid.taken j) script b.meaning (foreign j) (on.few j) (before script far)))
+        on-one j a b before = record {
+          dealt = λ script far.
+              subst (λ l. DealtNow agent j new.journal (taken_by l j) script b.meaning) (sym same_taken)
+              (subst (λ l. DealtNow agent j l (taken_by mid.taken j) script b.meaning) (sym grows)
+              (dealt_stays agent mid.journal since j (taken_by mid.taken j) script b.meaning (foreign j) (on.few j) (before.dealt script far)));
+          shut = before.shut;
+        }
 
         by : (x : Bool) (j : ℕ) (a b : Standing) → ChangesIf x (StaysDealt agent old mid j) a b → ChangesIf x (StaysDealt agent old new j) a b
         by true j a b before = on-one j a b before
@@ -225,6 +242,7 @@ module _ (agent : Agent) where
   round-made old mid new same_taken same_standings list goes_on made turn leads = record {
     since = made.since ++ turn.since;
     grows = turn.grows ∙ ap (λ j. j ++ turn.since) made.grows ∙ append_assoc old.journal made.since turn.since;
+    unrefused = list_any-append is_refusal made.since turn.since ∙ or_from _ _ made.unrefused turn.unrefused;
     on = on-still old mid new same_taken same_standings turn.since turn.grows turn.foreign list made.on;
     deals = deals-still old mid new same_taken same_standings turn.since turn.grows turn.foreign made.on made.deals;
     scripted = λ ds are. rounded old mid new same_taken same_standings ds are (made.scripted ds are) leads;

@@ -7,7 +7,7 @@ use Rattle.std.proofs.lemmas.Bool.{and_from, and_parts, or_from, lt-ltb, eq-eqb,
 use Rattle.std.proofs.lemmas.Bool.Decides.{eqb_tells, leb_tells}
 use Rattle.std.proofs.lemmas.Option.{slice_get_within, slice_get-get_or}
 use Rattle.std.proofs.lemmas.List.{append-nil, length-take-le, get_or-set_other, set-get_or}
-use Rattle.std.proofs.lemmas.List.Folds.{list_all-append}
+use Rattle.std.proofs.lemmas.List.Folds.{list_all-append, list_any-append}
 use Rattle.std.proofs.lemmas.List.Sums.{sum_by-set}
 use Rattle.golog_tree.specs.declared.agent.Agent.{Agent}
 use Rattle.golog_semantics.specs.Journal.{Journal, commands, poster_of, is_posted_by, is_close, is_open}
@@ -24,6 +24,7 @@ use Rattle.golog_device.specs.Slots.{Standing, Both, ChangesIf, OnlySlot}
 use Rattle.golog_device.proofs.Taking.{all-more, take-next}
 use Rattle.golog_device.proofs.Standings.{EachSlot-then, EachSlot-same}
 use Rattle.golog_device.proofs.DealtFirst.{dealt_stays}
+use Rattle.golog_agent.specs.Rounds.{is_refusal}
 use Rattle.golog_agent.specs.Moments.{Moment, taken_by, progress, is_of_first, told_at, MayGoOn, RestsAt, LeavesAll, TurnMade, DeviceMade, StaysDealt, DealsOn, AreScripted, IsStage, turned, LeaveAll, TurnsMade}
 use Rattle.golog_agent.proofs.Adding.{turns_keep, turns_push, turn_if_open}
 use Rattle.golog_agent.proofs.OneTurn.{few-more}
@@ -272,29 +273,38 @@ module _ (agent : Agent) where
               ∙ other-place made rest d one.now j (λ e. other (e ∙ long))
 
   -- the devices are dealt with on
-  deals-next : (k : ℕ) (old mid new : Moment) (count : ℕ) (since : Journal) → k < length agent.devices → k < length mid.taken
+  deals-next : (k : ℕ) (old mid new : Moment) (count : ℕ) (since : Journal) → is_open k old.journal ≡ true → k < length agent.devices → k < length mid.taken
       → MayGoOn agent mid.journal mid.taken → new.taken ≡ set mid.taken k count → new.journal ≡ mid.journal ++ since → list_all (is_posted_by k) since ≡ true
       → OnlySlot k (DeviceMade agent k mid.journal (taken_by mid.taken k) new.journal count) mid.standings new.standings
       → DealsOn agent old mid → DealsOn agent old new
-  deals-next k old mid new count since within room on is grows own only deals =
+  deals-next k old mid new count since opened within room on is grows own only deals =
       EachSlot-then _ _ _ old.standings mid.standings new.standings step deals only
     where
       one : (j : ℕ) → ((j == k) ≡ true) × (j ≡ k) ⊎ ((j == k) ≡ false) × (j ≢ k) → (a b c : Standing) → StaysDealt agent old mid j a b
           → ChangesIf (j == k) (DeviceMade agent k mid.journal (taken_by mid.taken k) new.journal count) b c → StaysDealt agent old new j a c
       one j (inl (is_it, here)) a b c before now =
           subst (λ i. StaysDealt agent old new i a c) (sym here)
-          (λ script far.
-          subst (λ n. DealtNow agent k new.journal n script c.meaning) (sym (ap (λ l. taken_by l k) is ∙ get_or-set_same mid.taken k count 0 room))
-          ((made.dealt) script ((subst (λ i. StaysDealt agent old mid i a b) here before) script far)))
+          (record {
+            dealt = λ script far.
+                subst (λ n. DealtNow agent k new.journal n script c.meaning) (sym (ap (λ l. taken_by l k) is ∙ get_or-set_same mid.taken k count 0 room))
+                ((made.dealt) script (mine.dealt script far));
+            shut = λ closed. absurd (let k = sym opened ∙ closed in cc);
+          })
         where
+          mine : StaysDealt agent old mid k a b
+          mine = subst (λ i. StaysDealt agent old mid i a b) here before
+
           made : DeviceMade agent k mid.journal (taken_by mid.taken k) new.journal count b c
           made = rw is_it at now
       one j (inr (not_it, other)) a b c before now =
           subst (StaysDealt agent old new j a) (sym same)
-          (λ script far.
-          subst (λ n. DealtNow agent j new.journal n script b.meaning) (sym kept.taken)
-          (subst (λ l. DealtNow agent j l (taken_by mid.taken j) script b.meaning) (sym grows)
-          (dealt_stays agent mid.journal since j (taken_by mid.taken j) script b.meaning (not-own k j since other own) (on.few j) (before script far))))
+          (record {
+            dealt = λ script far.
+                subst (λ n. DealtNow agent j new.journal n script b.meaning) (sym kept.taken)
+                (subst (λ l. DealtNow agent j l (taken_by mid.taken j) script b.meaning) (sym grows)
+                (dealt_stays agent mid.journal since j (taken_by mid.taken j) script b.meaning (not-own k j since other own) (on.few j) (before.dealt script far)));
+            shut = before.shut;
+          })
         where
           same : c ≡ b
           same = rw not_it at now
@@ -356,6 +366,7 @@ module _ (agent : Agent) where
     since = [];
     grows = sym (append-nil m.journal);
     own = refl;
+    unrefused = refl;
     on = on;
     deals = EachSlot-same _ m.standings (λ j s. same j s);
     scripted = λ ds are. record { entries = refl; devices = are };
@@ -366,7 +377,7 @@ module _ (agent : Agent) where
       same j s = by (nat_lt j (length agent.devices))
         where
           by : (b : Bool) → ChangesIf b (StaysDealt agent m m j) s s
-          by true = λ script far. far
+          by true = record { dealt = λ script far. far; shut = λ closed. refl }
           by false = refl
 
   pub open-still : (k : ℕ) (old mid : Moment) → TurnsMade agent k old mid → is_open k mid.journal ≡ is_open k old.journal
@@ -379,6 +390,7 @@ module _ (agent : Agent) where
     since = made.since;
     grows = made.grows;
     own = first-more k made.since made.own;
+    unrefused = made.unrefused;
     on = made.on;
     deals = made.deals;
     scripted = λ ds are. stage-skip k old mid ds are within (open-still k old mid made ∙ shut) (made.scripted ds are);
@@ -406,8 +418,9 @@ module _ (agent : Agent) where
     since = made.since ++ one.since;
     grows = one.grows ∙ ap (λ j. j ++ one.since) made.grows ∙ append_assoc old.journal made.since one.since;
     own = list_all-append (is_of_first (k + 1)) made.since one.since ∙ and_from _ _ (first-more k made.since made.own) (own-first k one.since one.own);
+    unrefused = list_any-append is_refusal made.since one.since ∙ or_from _ _ made.unrefused one.unrefused;
     on = on-next k mid new count room list made.on is one;
-    deals = deals-next k old mid new count one.since within room made.on is one.grows one.own only made.deals;
+    deals = deals-next k old mid new count one.since open_now within room made.on is one.grows one.own only made.deals;
     scripted = λ ds are. stage-next k old mid new count ds are within (open-still k old mid made ∙ open_now) room is only (made.scripted ds are);
     goes = goes made.goes one.goes;
   }

@@ -1,5 +1,5 @@
 -- What a runner keeps of the entries so far.
-use Rattle.std.specs.Prelude.{◌≡◌, ◌≢◌, ℕ, ◌<◌, Bool, true, false, not, IsTrue, Option, Some, None, List, [], ◌∷◌, length, Contains}
+use Rattle.std.specs.Prelude.{◌≡◌, ◌≢◌, ℕ, ◌<◌, false, not, IsTrue, Option, Some, None, [], ◌∷◌, length, Contains}
 use Rattle.golog_tree.specs.declared.agent.Agent.{Agent}
 use Rattle.golog_tree.specs.declared.prog.Prog.{Prog}
 use Rattle.golog_semantics.specs.declared.journal.Entry.{Entry}
@@ -22,7 +22,8 @@ pub record AwaitsOne (agent : Agent) (journal : Journal) (device : ℕ) : Type 0
   pub own : outstanding agent device journal ≡ command ∷ []
   pub others : (d : ℕ) → d ≢ device → outstanding agent d journal ≡ []
 
--- the device whose result is still to come, if one is: the program goes on only after it, so there is one at most
+-- the device whose result is still to come, if one is: the program goes on only after it, so there is one
+-- at most
 abbrev pub AwaitsFrom : Agent → Journal → Option ℕ → Type 0
 AwaitsFrom agent journal None = (d : ℕ) → outstanding agent d journal ≡ []
 AwaitsFrom agent journal (Some device) = AwaitsOne agent journal device

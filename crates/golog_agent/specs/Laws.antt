@@ -9,7 +9,8 @@ use Rattle.golog_agent.specs.Waiting.{has_no_step, waits}
 
 -- bytes that spell an agent have no first refusal
 abbrev pub SpelledIsUnrefused : Type 0
-SpelledIsUnrefused = (bytes : List ℕ) (agent : Agent) → SpellsAgent bytes agent → (code at : ℕ) → ¬ IsFirstRefusal bytes code at
+SpelledIsUnrefused =
+    (bytes : List ℕ) (agent : Agent) → SpellsAgent bytes agent → (code at : ℕ) → ¬ IsFirstRefusal bytes code at
 
 -- bytes spell one agent at most
 abbrev pub OneAgentIsSpelled : Type 0
@@ -25,7 +26,8 @@ awake : (quiet none stuck : Bool) → quiet ≡ true → (not quiet && none && s
 awake true none stuck e = refl
 awake false none stuck e = cc
 
-pub quiet_goes_on : (agent : Agent) (journal : Journal) → IsTrue (is_quiet agent journal) → waits agent journal ≡ false
+pub quiet_goes_on : (agent : Agent) (journal : Journal) → IsTrue (is_quiet agent journal)
+    → waits agent journal ≡ false
 unfolding waits
 quiet_goes_on agent journal quiet =
     awake (is_quiet agent journal) (is_none (answer_after agent journal))

@@ -1,7 +1,7 @@
--- Moments of a run without threads, and what a turn of a device, the turns of all devices, a round, and the rounds so
--- far make of them. (This project's own.)
+-- Moments of a run without threads, and what a turn of a device, the turns of all devices, a round, and the
+-- rounds so far make of them. (This project's own.)
 use Rattle.std.specs.Prelude.{◌≡◌, ◌⊎◌, ℕ, ◌+◌, ◌<◌, ◌≤◌, nat_lt, Bool, true, false, IsTrue, Option, List, [], ◌∷◌, ◌++◌, length, take, drop, option_map, option_and_then, slice_get, slice_index_or}
-use Rattle.std.specs.List.{list_all, sum}
+use Rattle.std.specs.List.{list_all, list_any, sum}
 use Rattle.std.specs.Option.{option_map_or}
 use Rattle.golog_tree.specs.declared.agent.Agent.{Agent}
 use Rattle.golog_semantics.specs.declared.journal.Entry.{Entry}
@@ -13,6 +13,7 @@ use Rattle.golog_semantics.specs.Dealt.{Script}
 use Rattle.golog_journal.specs.Taken.{IsReady}
 use Rattle.golog_device.specs.Dealing.{scripted, DealtNow, ScriptedTurn}
 use Rattle.golog_device.specs.Slots.{Standing, EachSlot, ChangesIf}
+use Rattle.golog_agent.specs.Rounds.{is_refusal}
 
 -- a moment of a run: the entries so far, how many commands each device has taken, and how the devices stand
 pub record Moment : Type 0 where
@@ -61,30 +62,33 @@ module _ (agent : Agent) where
     pub same_taken : count ≡ taken
     pub rests : RestsAt old device
 
-  -- What a turn of an open device made of the entries and of the number of its commands taken: it added entries of the
-  -- device, and the device may have its next turn where it is still open. It went forward unless the device rests.
+  -- What a turn of an open device made of the entries and of the number of its commands taken: it added
+  -- entries of the device, of which none refuses its script, and the device may have its next turn where it
+  -- is still open. It went forward unless the device rests.
   pub record TurnMade (device : ℕ) (old : Journal) (taken : ℕ) (new : Journal) (count : ℕ) : Type 0 where
     pub since : Journal
     pub grows : new ≡ old ++ since
     pub own : IsTrue (list_all (is_posted_by device) since)
+    pub unrefused : list_any is_refusal since ≡ false
     pub few : count ≤ length (commands agent device new)
     pub ready : is_open device new ≡ true → IsReady agent new device count
     pub goes : (length old + taken < length new + count) ⊎ LeavesAll device old taken new count
 
-  -- What it made of the device: it is dealt with as it was, and one that tells its script had the turn of a scripted
-  -- one.
+  -- What it made of the device: it is dealt with as it was, and one that tells its script had the turn of a
+  -- scripted one.
   pub record DeviceMade (device : ℕ) (old : Journal) (taken : ℕ) (new : Journal) (count : ℕ) (was is : Standing)
       : Type 0 where
     pub dealt : (script : Script)
-        → DealtNow agent device old taken script was.meaning → DealtNow agent device new count script is.meaning
+        → DealtNow agent device old taken script was.meaning
+        → DealtNow agent device new count script is.meaning
     pub scripted : ScriptedTurn agent device old taken was.meaning new count is.meaning
 
-  -- the device is dealt with as it was
-  abbrev pub StaysDealt : Moment → Moment → ℕ → Standing → Standing → Type 0
-  StaysDealt old new device was is =
-      (script : Script)
-      → DealtNow agent device old.journal (taken_by old.taken device) script was.meaning
-      → DealtNow agent device new.journal (taken_by new.taken device) script is.meaning
+  -- the device is dealt with as it was, and a closed one stays as it was
+  pub record StaysDealt (old new : Moment) (device : ℕ) (was is : Standing) : Type 0 where
+    pub dealt : (script : Script)
+        → DealtNow agent device old.journal (taken_by old.taken device) script was.meaning
+        → DealtNow agent device new.journal (taken_by new.taken device) script is.meaning
+    pub shut : is_open device old.journal ≡ false → is ≡ was
 
   -- each device of the agent is, and a box that no device needs stays as it was
   abbrev pub DealsOn : Moment → Moment → Type 0
@@ -114,12 +118,14 @@ module _ (agent : Agent) where
     pub same_taken : new.taken ≡ old.taken
     pub rest : (device : ℕ) → device < count → is_open device old.journal ≡ true → RestsAt old.journal device
 
-  -- What one turn of each open device among the first, of so many, made: it added entries of theirs, and went forward
-  -- unless they all are closed or rest. Scripted devices had the turns of scripted ones.
+  -- What one turn of each open device among the first, of so many, made: it added entries of theirs, of
+  -- which none refuses a script, and went forward unless they all are closed or rest. Scripted devices had
+  -- the turns of scripted ones.
   pub record TurnsMade (count : ℕ) (old new : Moment) : Type 0 where
     pub since : Journal
     pub grows : new.journal ≡ old.journal ++ since
     pub own : IsTrue (list_all (is_of_first count) since)
+    pub unrefused : list_any is_refusal since ≡ false
     pub on : MayGoOn new.journal new.taken
     pub deals : DealsOn old new
     pub scripted : (devices : List Scripted) → AreScripted old devices
@@ -132,16 +138,18 @@ module _ (agent : Agent) where
       IsStage new (round agent (record { journal = journal; devices = devices }))
       ⊎ (new.journal ≡ (turns_from agent 0 journal devices).0 ++ End Memory ∷ [])
 
-  -- what a round made: it added entries, and went forward
+  -- what a round made: it added entries, of which none refuses a script, and went forward
   pub record RoundMade (old new : Moment) : Type 0 where
     pub since : Journal
     pub grows : new.journal ≡ old.journal ++ since
+    pub unrefused : list_any is_refusal since ≡ false
     pub on : MayGoOn new.journal new.taken
     pub deals : DealsOn old new
     pub scripted : (devices : List Scripted) → AreScripted old devices → RoundIs old.journal devices new
     pub goes : progress old < progress new
 
-  -- after fewer rounds than so many, memory was wanted for the program's turn in the next; devices were closed since
+  -- after fewer rounds than so many, memory was wanted for the program's turn in the next; devices were
+  -- closed since
   pub record Starved (count : ℕ) (stage : Stage) (journal : Journal) : Type 0 where
     pub before : ℕ
     pub earlier : before < count
@@ -159,6 +167,7 @@ module _ (agent : Agent) where
   pub record RoundsMade (old new : Moment) : Type 0 where
     pub since : Journal
     pub grows : new.journal ≡ old.journal ++ since
+    pub unrefused : list_any is_refusal since ≡ false
     pub on : MayGoOn new.journal new.taken
     pub deals : DealsOn old new
     pub count : ℕ

@@ -1,5 +1,5 @@
 -- What the program is to do after the entries so far.
-use Rattle.std.specs.Prelude.{◌≡◌, ◌<◌, ◌≤◌, true, false, IsTrue, None, List, ◌∷◌}
+use Rattle.std.specs.Prelude.{◌≡◌, ◌<◌, ◌≤◌, false, IsTrue, None, List, ◌∷◌}
 use Rattle.golog_tree.specs.declared.agent.Agent.{Agent}
 use Rattle.golog_tree.specs.Nest.{nest}
 use Rattle.golog_semantics.specs.declared.Mode.TheVariants.{Must}

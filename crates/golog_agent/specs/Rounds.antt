@@ -1,9 +1,11 @@
--- A run without threads: each open device in order has one turn, and then the program has one, until the program has
--- ended and each device is closed. (This project's own.)
-use Rattle.std.specs.Prelude.{◌≡◌, ◌⊎◌, ℕ, ◌<◌, nat_lt, true, IsTrue, IsSomeAnd, List, [], ◌∷◌, ◌++◌, length, map, slice_get}
-use Rattle.std.specs.List.{list_all}
+-- A run without threads: each open device in order has one turn, and then the program has one, until the
+-- program has ended and each device is closed. (This project's own.)
+use Rattle.std.specs.Prelude.{◌≡◌, ◌⊎◌, ℕ, ◌<◌, nat_lt, Bool, true, false, IsTrue, IsSomeAnd, List, [], ◌∷◌, ◌++◌, length, map, slice_get}
+use Rattle.std.specs.List.{list_all, list_any}
 use Rattle.golog_tree.specs.declared.agent.Agent.{Agent}
-use Rattle.golog_semantics.specs.declared.journal.Entry.TheVariants.{End}
+use Rattle.golog_semantics.specs.declared.journal.Entry.{Entry}
+use Rattle.golog_semantics.specs.declared.journal.Entry.TheVariants.{Close, End}
+use Rattle.golog_semantics.specs.declared.journal.Reason.TheVariants.{Refused}
 use Rattle.golog_semantics.specs.declared.journal.Answer.TheVariants.{Memory}
 use Rattle.golog_semantics.specs.Journal.{Journal, is_open, is_close}
 use Rattle.golog_semantics.specs.OneMore.{with_runs}
@@ -18,17 +20,29 @@ use Rattle.golog_device.specs.Slots.{Standing, EachSlot, ChangesIf}
 -- each open device may have its first turn
 abbrev pub AreReady : Agent → Journal → Type 0
 AreReady agent journal =
-    (device : ℕ) → device < length agent.devices → is_open device journal ≡ true → IsReady agent journal device 0
+    (device : ℕ) → device < length agent.devices → is_open device journal ≡ true
+    → IsReady agent journal device 0
 
 -- a device that was dealt with so far, when it had taken no command, is dealt with to its close
 abbrev pub IsDealtWith : Agent → Journal → Journal → ℕ → Standing → Standing → Type 0
 IsDealtWith agent old new device was is =
-    (script : Script) → DealtNow agent device old 0 script was.meaning → Dealt agent device new script is.meaning
+    (script : Script) → DealtNow agent device old 0 script was.meaning
+    → Dealt agent device new script is.meaning
 
--- a device of the agent is dealt with, and a box that no device needs stays as it was
+-- a device is dealt with, and one that was closed at first stays as it was
+pub record HasServed (agent : Agent) (old new : Journal) (device : ℕ) (was is : Standing) : Type 0 where
+  pub dealt : IsDealtWith agent old new device was is
+  pub shut : is_open device old ≡ false → is ≡ was
+
+-- a device of the agent has served the run, and a box that no device needs stays as it was
 abbrev pub HasRun : Agent → Journal → Journal → ℕ → Standing → Standing → Type 0
 HasRun agent old new device was is =
-    ChangesIf (nat_lt device (length agent.devices)) (IsDealtWith agent old new device) was is
+    ChangesIf (nat_lt device (length agent.devices)) (HasServed agent old new device) was is
+
+-- the closing of a device that refused its script
+abbrev pub is_refusal : Entry → Bool
+is_refusal (Close device Refused taken) = true
+is_refusal e = false
 
 -- the device of each slot tells that it has this left of its script
 abbrev pub TellLeft : List Standing → List Script → Type 0
@@ -36,8 +50,8 @@ TellLeft standings scripts =
     (slot : ℕ) → slot < length scripts
     → IsSomeAnd (slice_get standings slot) (λ s. s.meaning.left ≡ slice_get scripts slot)
 
--- Behind these entries stand those of the rounds with these scripts; or memory was wanted, and then the first of
--- those stand, with the end and the closings behind it.
+-- Behind these entries stand those of the rounds with these scripts; or memory was wanted, and then the
+-- first of those stand, with the end and the closings behind it.
 abbrev pub FollowsRounds : Agent → List Script → Journal → Journal → Type 0
 FollowsRounds agent scripts old new =
     let whole = (rounds agent 200000 (record { journal = old; devices = map scripted scripts })).journal in
@@ -45,10 +59,12 @@ FollowsRounds agent scripts old new =
     ⊎ ((before later closings : Journal) × (whole ≡ before ++ later) × IsTrue (list_all is_close closings)
     × (new ≡ before ++ End Memory ∷ closings))
 
--- what a run has made of the journal and the devices
+-- what a run has made of the journal and the devices, all of which had begun: none refuses its script any
+-- more
 pub record RunsToEnd (agent : Agent) (old new : Journal) (olds news : List Standing) : Type 0 where
   pub since : Journal
   pub grows : new ≡ old ++ since
+  pub unrefused : list_any is_refusal since ≡ false
   pub online : IsOnline agent (with_runs [] new)
   pub run : EachSlot (HasRun agent old new) olds news
   pub scripted : (scripts : List Script) → length scripts ≡ length agent.devices → TellLeft olds scripts

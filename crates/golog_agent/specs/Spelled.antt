@@ -77,7 +77,8 @@ pub record SpellsAgent (bytes : List ℕ) (agent : Agent) : Type 0 where
 
 -- the first refusal of the bytes of a file
 pub data IsFirstRefusal (bytes : List ℕ) : ℕ → ℕ → Type 0 where
-  of_bytes : (code at : ℕ) → IsAnswer {A = Form} bytes (Err (FormRefused code at)) → IsFirstRefusal bytes code at
+  of_bytes : (code at : ℕ) → IsAnswer {A = Form} bytes (Err (FormRefused code at))
+      → IsFirstRefusal bytes code at
   of_form : (code at : ℕ) (form : Form) → SpellsForm bytes form → FormRefuses form code at
       → IsFirstRefusal bytes code at
 

@@ -13,8 +13,8 @@ module _ (agent : Agent) (journal : Journal) where
   abbrev pub has_no_step : Bool
   has_no_step = is_empty (moves agent (values_after agent journal) Must (left_after agent journal))
 
-  -- The program has no answer yet, and some device may still post: the program waits for a result, or no step is
-  -- certain.
+  -- The program has no answer yet, and some device may still post: the program waits for a result, or no
+  -- step is certain.
   unfoldable pub waits : Bool
   waits =
       not (is_quiet agent journal) && is_none (answer_after agent journal)

@@ -16,8 +16,8 @@ pub fn all_is_built()
     ensures { AllIsBuilt }
 {}
 
-/// Where no one else adds entries, a turn of a runner is that of the program in a round, or memory was wanted; and it
-/// adds one entry unless the program waits or had ended.
+/// Where no one else adds entries, a turn of a runner is that of the program in a round, or memory was
+/// wanted; and it adds one entry unless the program waits or had ended.
 pub fn leads_alone()
     ensures leads { LeadsAlone }
     ensures one { AddsOneAlone }

@@ -92,11 +92,11 @@ fn agent_in(alloc: Global, form: &Form) -> Result<Agent, AgentFault>
     }
 }
 
-/// The agent that the bytes of a file spell, or the first refusal, with its code and its place. It is looked
-/// for in stages, and in each the least place counts, and there the least code: 1 to 6, the bytes spell no
-/// form; 20 to 26, the form spells no theory; 20 to 27, it spells no program over the theory; 30 to 38, the
-/// theory and the program are not well-formed; and 29 at 0, the file has a `search` form, which can't be run yet.
-/// `Memory` where memory runs out.
+/// The agent that the bytes of a file spell, or the first refusal, with its code and its place. It is
+/// looked for in stages, and in each the least place counts, and there the least code: 1 to 6, the bytes
+/// spell no form; 20 to 26, the form spells no theory; 20 to 27, it spells no program over the theory; 30
+/// to 38, the theory and the program are not well-formed; and 29 at 0, the file has a `search` form, which
+/// can't be run yet. `Memory` where memory runs out.
 pub fn read_agent(alloc: Global, bytes: &[u8]) -> Result<Agent, AgentFault>
     ensures answer { Reads result bytes.now }
     // What a run asks of its agent.

@@ -19,10 +19,11 @@ use golog_tree::Agent;
 /// The most devices.
 const DEVICES: usize = 16;
 
-/// Runs the program of an agent over a board to which no one else adds entries, until the program has ended and each
-/// device is closed: in each round each open device in order has one turn, and then the program has one. The boxes that
-/// no device needs stay as they are. Returns where the calls of the devices and of the board do. Takes memory in the
-/// program's turns alone; where it is wanted the program ends with `Memory`.
+/// Runs the program of an agent over a board to which no one else adds entries, until the program has ended
+/// and each device is closed: in each round each open device in order has one turn, and then the program
+/// has one. The boxes that no device needs stay as they are. Returns where the calls of the devices and of
+/// the board do. Takes memory in the program's turns alone; where it is wanted the program ends with
+/// `Memory`.
 pub fn run_inline<D: Device, B: Board>(
     runner: &mut Runner<'_>,
     devices: &mut [D],
@@ -142,7 +143,8 @@ fn turn_at<D: Device, B: Board>(
     requires ready { IsReady agent.now (B.sight board.old).seen slot taken.old }
     ensures same_board { SameBoard (B.sight board.old) (B.sight board.new) }
     ensures lawful { IsBoardList agent.now (B.sight board.new).seen }
-    ensures made { TurnMade agent.now slot (B.sight board.old).seen taken.old (B.sight board.new).seen taken.new }
+    ensures made { TurnMade agent.now slot
+        (B.sight board.old).seen taken.old (B.sight board.new).seen taken.new }
     ensures device { OnlySlot slot
         (DeviceMade agent.now slot (B.sight board.old).seen taken.old (B.sight board.new).seen taken.new)
         (standings D.fresh D.meaning devices.old) (standings D.fresh D.meaning devices.new) }

@@ -38,8 +38,8 @@ pub enum Stepped {
     Ended(Answer),
 }
 
-/// Drives the program of an agent without search blocks: it copies what devices post, and commits what it decides
-/// at the whole list that it has seen. Contracts see it as the agent and the entries so far.
+/// Drives the program of an agent without search blocks: it copies what devices post, and commits what it
+/// decides at the whole list that it has seen. Contracts see it as the agent and the entries so far.
 #[derive(Drop)]
 pub struct Runner<'a> {
     agent: &'a Agent,
@@ -146,8 +146,8 @@ impl<'a> Runner<'a> {
         })
     }
 
-    /// The report of the run so far, an online execution so far: without search blocks it begins no run. Takes no
-    /// memory.
+    /// The report of the run so far, an online execution so far: without search blocks it begins no run.
+    /// Takes no memory.
     pub fn report(self) -> Report
         ensures entries { result ≡ with_runs [] self.entry.list }
         ensures online { IsOnlineSoFar self.entry.agent result }
@@ -179,7 +179,8 @@ impl<'a> Runner<'a> {
     fn take(&mut self, entry: Entry, left: Option<Prog>)
         requires lawful { IsBoardList self.old.agent (self.old.list ++ entry ∷ []) }
         requires online { fault_at self.old.agent None [] self.old.list entry ≡ None }
-        requires left { left_after self.old.agent (self.old.list ++ entry ∷ []) ≡ unwrap_or left (left_after self.old.agent self.old.list) }
+        requires left { left_after self.old.agent (self.old.list ++ entry ∷ [])
+            ≡ unwrap_or left (left_after self.old.agent self.old.list) }
         ensures { self.new ≡ record { agent = self.old.agent; list = self.old.list ++ entry ∷ [] } }
     {
         let awaited = awaited_after(&self.journal, self.awaited, entry);
@@ -251,15 +252,16 @@ impl<'a> Runner<'a> {
         }
     }
 
-    // Commits what was decided for all that it has seen, and takes it into its copy. Nothing where entries came
-    // before it.
+    // Commits what was decided for all that it has seen, and takes it into its copy. Nothing where entries
+    // came before it.
     fn commit<B: Board>(&mut self, board: &mut B, entry: Entry, left: Option<Prog>) -> bool
         requires current { IsCurrent self.old (B.sight board.old) }
         requires goes_on { has_end self.old.list ≡ false }
         requires of_program { IsOfProgram self.old.agent self.old.list 0 entry entry }
         requires room { IsTrue (is_counted entry) → count self.old.list < limit }
         requires online { fault_at self.old.agent None [] self.old.list entry ≡ None }
-        requires left { left_after self.old.agent (self.old.list ++ entry ∷ []) ≡ unwrap_or left (left_after self.old.agent self.old.list) }
+        requires left { left_after self.old.agent (self.old.list ++ entry ∷ [])
+            ≡ unwrap_or left (left_after self.old.agent self.old.list) }
         ensures same { self.new.agent ≡ self.old.agent }
         ensures commits { CommitGives entry (B.sight board.old) (B.sight board.new) result }
         ensures behind { IsOver self.new (B.sight board.new) }
@@ -341,12 +343,12 @@ impl<'a> Runner<'a> {
         }
     }
 
-    /// Copies what is new, decides at the whole list, and commits what it decided, at that length: where others
-    /// added entries meanwhile, it copies and decides again. `Step` exactly where it committed an action or a test;
-    /// `Waiting` exactly where it committed nothing and no end stands, and then the program waits for a device at
-    /// all that was seen; `Ended` exactly where the end stands, with its answer. The end is the answer after all
-    /// entries before it, or `Memory` for want of memory. Its copy is then all that was seen, and an online
-    /// execution so far.
+    /// Copies what is new, decides at the whole list, and commits what it decided, at that length: where
+    /// others added entries meanwhile, it copies and decides again. `Step` exactly where it committed an
+    /// action or a test; `Waiting` exactly where it committed nothing and no end stands, and then the
+    /// program waits for a device at all that was seen; `Ended` exactly where the end stands, with its
+    /// answer. The end is the answer after all entries before it, or `Memory` for want of memory. Its copy
+    /// is then all that was seen, and an online execution so far.
     pub fn turn<B: Board>(&mut self, board: &mut B) -> Stepped
         requires agent { self.old.agent ≡ (B.sight board.old).agent }
         requires held { (B.sight board.old).holds program ≡ true }

@@ -19,8 +19,9 @@ abbrev pub scripted : Script → ℕ → Scripted
 scripted left taken = record { answers = left.answers; idle = left.idle; taken = taken }
 
 module _ (agent : Agent) (device : ℕ) where
-  -- What an open device was given and told fits the journal, none of its results being awaited: it was given
-  -- the commands that it has taken, it told its items that stand, and it was not asked for more while it rested.
+  -- What an open device was given and told fits the journal, none of its results being awaited: it was
+  -- given the commands that it has taken, it told its items that stand, and it was not asked for more while
+  -- it rested.
   pub record DealtSoFar (journal : Journal) (taken : ℕ) (script : Script) (m : Meaning) : Type 0 where
     pub given : IfSome m.given
         (λ given. let served = map (service agent device) (take taken (commands agent device journal)) in

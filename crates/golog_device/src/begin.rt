@@ -15,9 +15,10 @@ use golog_journal::{Board, Item};
 use golog_tree::Agent;
 use std::alloc::Global;
 
-/// Begins the devices of the agent in order, each under its name with its script. One that refuses its script
-/// is closed. The boxes that no device needs stay as they are. Where memory is wanting, the first devices have
-/// begun, and the others are as they were. Those that are open are then ready for their first turn.
+/// Begins the devices of the agent in order, each under its name with its script. One that refuses its
+/// script is closed. The boxes that no device needs stay as they are. Where memory is wanting, the first
+/// devices have begun, and the others are as they were. Those that are open are then ready for their first
+/// turn.
 pub fn begin_all<D: Device, B: Board>(
     alloc: Global,
     devices: &mut [D],
@@ -36,10 +37,12 @@ pub fn begin_all<D: Device, B: Board>(
     ensures lawful { IsBoardList agent.now (B.sight board.new).seen }
     ensures begun { OnOk result (HaveBegun (length scripts.now) scripts.now (B.sight board.new).seen
         (standings D.fresh D.meaning devices.old) (standings D.fresh D.meaning devices.new)) }
-    ensures memory { OnErr result ((count : ℕ) × HaveBegun count scripts.now (B.sight board.new).seen
+    ensures memory { OnErr result ((count : ℕ) × (count < length scripts.now)
+        × HaveBegun count scripts.now (B.sight board.new).seen
         (standings D.fresh D.meaning devices.old) (standings D.fresh D.meaning devices.new)) }
     ensures ready { OnOk result ((device : ℕ) → device < length agent.now.devices
-        → is_open device (B.sight board.new).seen ≡ true → IsReady agent.now (B.sight board.new).seen device 0) }
+        → is_open device (B.sight board.new).seen ≡ true
+        → IsReady agent.now (B.sight board.new).seen device 0) }
 {
     for (slot, script) in scripts.as_slice().iter().enumerate() {
         begin_at(alloc, devices, agent, slot, script.as_slice(), board)?;
@@ -70,7 +73,8 @@ fn begin_at<D: Device, B: Board>(
     ensures begun { OnOk result (BeginsAt slot script.now (B.sight board.old).seen (B.sight board.new).seen
         (standings D.fresh D.meaning devices.old) (standings D.fresh D.meaning devices.new)) }
     ensures memory { OnErr result ((B.sight board.new).seen ≡ (B.sight board.old).seen) }
-    ensures unchanged { let stand = standings D.fresh D.meaning in OnErr result (stand devices.new ≡ stand devices.old) }
+    ensures unchanged { OnErr result
+        (standings D.fresh D.meaning devices.new ≡ standings D.fresh D.meaning devices.old) }
 {
     let name = agent.devices.as_slice()[slot];
     match devices[slot].begin(alloc, name.as_bytes(), script) {

@@ -1,23 +1,25 @@
 -- What devices that have begun with the texts of scripts have before them.
-use Rattle.std.proofs.Common.{◌≡◌, ◌≢◌, ℕ, zero, suc, ◌+◌, ◌<◌, ◌≤◌, List, [], ◌∷◌, ◌++◌, length, map, get_or, Option, Some, None, Bool, true, false, refl, sym, ap, ◌∙◌, subst, arith, inl, inr, ◌⊎◌, IsSome, All, IsSomeAnd}
-use Rattle.std.specs.Prelude.{IfSome, slice_get, nat_lt, is_some}
+use Rattle.std.proofs.Common.{◌≡◌, ℕ, zero, suc, ◌+◌, ◌<◌, ◌≤◌, List, [], ◌∷◌, ◌++◌, length, map, get_or, Option, Some, None, Bool, true, false, refl, sym, ap, ◌∙◌, subst, arith, inl, inr, ◌⊎◌, IsSome, All, IsSomeAnd}
+use Rattle.std.specs.Prelude.{Contains, IfSome, not, slice_get, nat_lt, is_some}
 use Rattle.std.specs.List.{list_any, list_all, flat_map, enumerate_from}
-use Rattle.std.proofs.lemmas.Bool.{lt-ltb}
+use Rattle.std.proofs.lemmas.Bool.{eq-eqb, lt-ltb}
 use Rattle.std.proofs.lemmas.Bool.Decides.{leb_tells}
 use Rattle.std.proofs.lemmas.List.{length-map}
 use Rattle.golog_tree.specs.declared.agent.Agent.{Agent}
 use Rattle.golog_semantics.specs.declared.journal.Entry.TheVariants.{Do, Test, Exo, Sense, Rest, Close, End}
-use Rattle.golog_semantics.specs.Journal.{Journal, is_close}
+use Rattle.golog_semantics.specs.declared.journal.Reason.TheVariants.{Refused}
+use Rattle.golog_semantics.specs.Journal.{Journal, is_close, is_open, is_posted_by, posted}
 use Rattle.golog_semantics.specs.Text.{Text}
-use Rattle.golog_semantics.specs.Dealt.{Script, Meaning, Dealt}
+use Rattle.golog_semantics.specs.Dealt.{Script, Dealt}
+use Rattle.golog_semantics.proofs.Among.{Among, among-contains, among-either, any-among, filter-among}
 use Rattle.golog_journal.specs.Leading.{IsBehind, is_of_program}
-use Rattle.golog_device.specs.Devices.{HasBegun, Restarts}
+use Rattle.golog_device.specs.Devices.{Restarts}
 use Rattle.golog_device.specs.Scripts.{script_spelled}
-use Rattle.golog_device.specs.Slots.{Standing, Both, EachSlot, ChangesIf, HasAt, FreshBelow, BeginsUnless, BeginsBelow, HaveBegun, refusal, refusals}
+use Rattle.golog_device.specs.Slots.{Standing, Both, EachSlot, ChangesIf, FreshBelow, BeginsUnless, BeginsBelow, HaveBegun, refusal}
 use Rattle.golog_device.specs.Dealing.{DealtNow, HasLeft}
 use Rattle.golog_device.proofs.DealtFirst.{dealt_at_first}
 use Rattle.golog_device.proofs.Refused.{refusals-close}
-use Rattle.golog_agent.specs.Rounds.{HasRun, IsDealtWith, TellLeft}
+use Rattle.golog_agent.specs.Rounds.{HasRun, HasServed, IsDealtWith, TellLeft, is_refusal}
 use Rattle.golog_main.specs.Runs.{AreTextsOf, AreDealtWith, AllTellLeft, IsDealt}
 
 -- ---- texts
@@ -59,6 +61,25 @@ none-refused : (n : ℕ) (refused : List Bool) → ((slot : ℕ) → slot < leng
 none-refused n [] none = refl
 none-refused n (true ∷ refused) none = let no : true ≡ false = none 0 (omega arith) in absurd (cc)
 none-refused n (false ∷ refused) none = none-refused (n + 1) refused (λ slot within. none (suc slot) (omega (arith, within)))
+
+-- a device that stands among the refusals refused
+told-refused : (n : ℕ) (refused : List Bool) (device : ℕ) → Among (flat_map refusal (enumerate_from n refused)) (Close device Refused 0)
+    → (k : ℕ) × ((device ≡ n + k) × (get_or refused k false ≡ true))
+told-refused n [] device c = absurd c
+told-refused n (true ∷ refused) device (inl same) = (0, (let e : n ≡ device = cc in omega (arith, e), refl))
+told-refused n (true ∷ refused) device (inr c) =
+    let r = told-refused (n + 1) refused device c in
+    (suc r.0, (let e = r.1.0 in omega (arith, e), r.1.1))
+told-refused n (false ∷ refused) device c =
+    let r = told-refused (n + 1) refused device c in
+    (suc r.0, (let e = r.1.0 in omega (arith, e), r.1.1))
+
+-- a device whose closing stands is not open
+closed-by : (journal : Journal) (device : ℕ) → Among journal (Close device Refused 0) → is_open device journal ≡ false
+closed-by journal device c =
+    ap not
+    (any-among is_close (posted device journal) (Close device Refused 0)
+    (filter-among (is_posted_by device) journal (Close device Refused 0) c (eq-eqb device device refl)) refl)
 
 -- ---- slots
 
@@ -114,7 +135,25 @@ module _ (agent : Agent) (texts : List Text) (scripts : List Script) (are : AreT
 
   -- ---- how they are dealt with, after a run
 
-  module _ (new : Journal) (news : List Standing) (run : EachSlot (HasRun agent journal new) mids news) where
+  module _ (new since : Journal) (grows : new ≡ journal ++ since) (unrefused : list_any is_refusal since ≡ false) (news : List Standing)
+      (run : EachSlot (HasRun agent journal new) mids news) where
+    -- a device whose refusal stands had refused when the run began
+    refused-first : (slot : ℕ) → Contains new (Close slot Refused 0) → (get_or begun.refused slot false ≡ true) × (is_open slot journal ≡ false)
+    refused-first slot c =
+        by (among-either journal since (Close slot Refused 0) (among-contains (journal ++ since) (Close slot Refused 0) (subst (λ j. Contains j (Close slot Refused 0)) grows c)))
+      where
+        by : Among journal (Close slot Refused 0) ⊎ Among since (Close slot Refused 0) → (get_or begun.refused slot false ≡ true) × (is_open slot journal ≡ false)
+        by (inl first) =
+            let told = told-refused 0 begun.refused slot (subst (λ j. Among j (Close slot Refused 0)) begun.closed first) in
+            let same : told.0 ≡ slot = let e = told.1.0 in omega (arith, e) in
+            (ap (λ k. get_or begun.refused k false) (sym same) ∙ told.1.1, closed-by journal slot first)
+        by (inr later) =
+            let no : false ≡ true = sym unrefused ∙ any-among is_refusal since (Close slot Refused 0) later refl in absurd (cc)
+
+    as-it-was : (r : Bool) (text : Text) (a b : Standing) → BeginsUnless r text a b → r ≡ true → b ≡ a
+    as-it-was true text a b begins is = begins.0
+    as-it-was false text a b begins is = absurd (cc)
+
     dealt-slot : (slot : ℕ) (a b c : Standing) → slot < n → BeginsUnless (get_or begun.refused slot false) (get_or texts slot []) a b
         → ((script : Script) → HasLeft script b.meaning → DealtNow agent slot journal 0 script b.meaning)
         → IsDealtWith agent journal new slot b c → (o : Option Script) → slice_get scripts slot ≡ o → IfSome o (λ script. Dealt agent slot new script c.meaning)
@@ -122,22 +161,31 @@ module _ (agent : Agent) (texts : List Text) (scripts : List Script) (are : AreT
     dealt-slot slot a b c within begins first runs (Some script) is =
         runs script (first script (begun-left (get_or begun.refused slot false) (get_or texts slot []) a b script begins (at-slot slot within ∙ is)))
 
+    goes-slot : (slot : ℕ) (a b c : Standing) → slot < n → BeginsUnless (get_or begun.refused slot false) (get_or texts slot []) a b
+        → ((script : Script) → HasLeft script b.meaning → DealtNow agent slot journal 0 script b.meaning)
+        → HasServed agent journal new slot b c → IsDealt agent scripts new slot a c
+    goes-slot slot a b c within begins first served = record {
+      dealt = dealt-slot slot a b c within begins first served.dealt (slice_get scripts slot) refl;
+      refused = λ stands.
+          let was = refused-first slot stands in
+          served.shut was.1 ∙ as-it-was (get_or begun.refused slot false) (get_or texts slot []) a b begins was.0;
+    }
+
     slot-goes : (slot : ℕ) (v : Bool) → nat_lt slot n ≡ v → (v ≡ true → slot < n) → (x y z : Option Standing)
         → Both (BeginsBelow n texts begun.refused slot) x y → Both (HasRun agent journal new slot) y z
         → (slot < n → IfSome y (λ s. (script : Script) → HasLeft script s.meaning → DealtNow agent slot journal 0 script s.meaning))
-        → Both (λ was is. ChangesIf v (λ old now. IsDealt agent scripts new slot now) was is) x z
+        → Both (ChangesIf v (IsDealt agent scripts new slot)) x z
     slot-goes slot v e within None None None begins runs first = tt
     slot-goes slot v e within None (Some b) z begins runs first = absurd begins
     slot-goes slot v e within None None (Some c) begins runs first = absurd runs
     slot-goes slot v e within (Some a) None z begins runs first = absurd begins
     slot-goes slot v e within (Some a) (Some b) None begins runs first = absurd runs
     slot-goes slot true e within (Some a) (Some b) (Some c) begins runs first =
-        dealt-slot slot a b c (within refl)
+        goes-slot slot a b c (within refl)
         (subst (λ u. ChangesIf u (BeginsUnless (get_or begun.refused slot false) (get_or texts slot [])) a b) e begins)
-        (first (within refl)) (subst (λ u. ChangesIf u (IsDealtWith agent journal new slot) b c) e runs)
-        (slice_get scripts slot) refl
+        (first (within refl)) (subst (λ u. ChangesIf u (HasServed agent journal new slot) b c) e runs)
     slot-goes slot false e within (Some a) (Some b) (Some c) begins runs first =
-        subst (λ u. ChangesIf u (IsDealtWith agent journal new slot) b c) e runs
+        subst (λ u. ChangesIf u (HasServed agent journal new slot) b c) e runs
         ∙ subst (λ u. ChangesIf u (BeginsUnless (get_or begun.refused slot false) (get_or texts slot [])) a b) e begins
 
     below : (slot : ℕ) → nat_lt slot n ≡ true → slot < n

@@ -1,8 +1,7 @@
 -- The causes exclude one another, and each outcome has one status.
-use Rattle.std.proofs.Common.{◌≡◌, ℕ, ◌<◌, ◌≤◌, List, [], Option, Some, None, Ok, Err, ◌⊎◌, inl, inr, arith, sym, ◌∙◌, ap, refl, subst, IsSome}
+use Rattle.std.proofs.Common.{◌≡◌, ℕ, ◌<◌, List, Option, Some, None, Ok, Err, ◌⊎◌, inl, inr, arith, sym, ◌∙◌, refl, subst, IsSome}
 use Rattle.golog_base.specs.Faults.{Rose}
 use Rattle.golog_base.specs.Files.{HasNone, FileHas, bytes_of}
-use Rattle.golog_base.specs.Known.{and_then_bytes}
 use Rattle.golog_base.specs.declared.mem_files.HeldFile.{HeldFile}
 use Rattle.golog_tree.specs.declared.agent.Agent.{Agent}
 use Rattle.golog_semantics.specs.Text.{Text}
@@ -11,7 +10,6 @@ use Rattle.golog_semantics.specs.declared.journal.Answer.TheVariants.{Done, Stuc
 use Rattle.golog_semantics.specs.Execution.{status_of as answer_status}
 use Rattle.golog_device.specs.Slots.{Standing}
 use Rattle.golog_script.specs.declared.scripts.Script.{Script}
-use Rattle.golog_script.specs.DevicesFile.{scripts_of}
 use Rattle.golog_agent.specs.Spelled.{SpellsAgent, IsFirstRefusal}
 use Rattle.golog_agent.proofs.Excluded.{excluded, one-agent}
 use Rattle.golog_main.specs.declared.outcome.Input.TheVariants.{Agent as AgentFile, Devices as DevicesFile}
@@ -21,7 +19,7 @@ use Rattle.golog_main.specs.Words.{Names}
 use Rattle.golog_main.specs.Inputs.{SpellsScripts, RefusesScripts, too_long, of_row, ReadsAgent, ReadsScripts, Reads, Tells, IsUnread, fault_text, scripts_for}
 use Rattle.golog_main.specs.Runs.{IsRunOf}
 use Rattle.golog_main.specs.Outcome.{Outside, RunsScripts, ComesOfAgent, ComesBehind, IsCaused, Reports, text_of, status_of}
-use Rattle.golog_main.specs.Exact.{IsCommand, Writes, Wrote, OfDevices, TellsRefusal, TellsFault, TellsRun, IsRunStatus, SaysItsCause, IsStopped, Answers, IsRead, GivesAgent, GivesScripts, FilesFollow, FollowsItsCause, StatusesAreExact}
+use Rattle.golog_main.specs.Exact.{IsCommand, Writes, Wrote, TellsRefusal, TellsFault, TellsRun, IsRunStatus, SaysItsCause, IsStopped, Answers, IsRead, GivesAgent, GivesScripts, FilesFollow, FollowsItsCause, StatusesAreExact}
 
 -- ---- the status of a report
 

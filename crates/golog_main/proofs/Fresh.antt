@@ -1,5 +1,5 @@
 -- Devices that are all fresh, and the script that is found among others.
-use Rattle.std.proofs.Common.{◌≡◌, ℕ, zero, suc, ◌<◌, ◌≤◌, List, [], ◌∷◌, Bool, true, false, length, get_or, Option, Some, ap, ◌∙◌, subst, sym, refl, arith, All, inl, inr, ◌⊎◌}
+use Rattle.std.proofs.Common.{◌≡◌, ℕ, suc, ◌<◌, ◌≤◌, List, [], ◌∷◌, Bool, true, false, length, get_or, Some, ap, ◌∙◌, subst, sym, refl, arith, All, inl, inr, ◌⊎◌}
 use Rattle.std.specs.Prelude.{slice_get, IsSomeAnd, None, find, cond}
 use Rattle.std.proofs.lemmas.Option.{slice_get_cases, slice_get-map}
 use Rattle.golog_semantics.specs.Dealt.{Meaning}

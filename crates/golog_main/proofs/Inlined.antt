@@ -1,5 +1,5 @@
 -- The text of the rounds of an agent without search blocks, and of what goes only a part of that way.
-use Rattle.std.proofs.Common.{◌≡◌, ℕ, zero, suc, ◌+◌, ◌<◌, Bool, true, false, not, ◌||◌, List, [], ◌∷◌, ◌++◌, length, map, Option, Some, None, refl, sym, ap, ◌∙◌, subst, arith, append_assoc}
+use Rattle.std.proofs.Common.{◌≡◌, ℕ, suc, true, not, List, [], ◌∷◌, ◌++◌, length, map, Option, Some, None, refl, sym, ap, ◌∙◌, subst, append_assoc}
 use Rattle.std.specs.Prelude.{codes, decimal}
 use Rattle.std.specs.List.{flat_map}
 use Rattle.std.specs.Option.{option_map_or}
@@ -11,15 +11,14 @@ use Rattle.golog_semantics.specs.declared.search.Move.{Move}
 use Rattle.golog_semantics.specs.declared.journal.Entry.{Entry}
 use Rattle.golog_semantics.specs.declared.journal.Entry.TheVariants.{End}
 use Rattle.golog_semantics.specs.declared.journal.Answer.TheVariants.{Memory}
-use Rattle.golog_semantics.specs.declared.journal.Report.{Report}
 use Rattle.golog_semantics.specs.Blocks.{moves}
 use Rattle.golog_semantics.specs.BlockFree.{has_block}
 use Rattle.golog_semantics.specs.Journal.{Journal}
 use Rattle.golog_semantics.specs.Progress.{values_after, left_after}
 use Rattle.golog_semantics.specs.Online.{begun, label_of, run_of}
 use Rattle.golog_semantics.specs.OneMore.{with_runs}
-use Rattle.golog_semantics.specs.Inline.{rounds, inline_journal}
-use Rattle.golog_semantics.specs.InlineText.{begun_runs, inline_report, inline_text, placed, run_after, scripted}
+use Rattle.golog_semantics.specs.Inline.{inline_journal}
+use Rattle.golog_semantics.specs.InlineText.{begun_runs, inline_text, placed, run_after, scripted}
 use Rattle.golog_semantics.specs.Dealt.{Script}
 use Rattle.golog_semantics.specs.Text.{Text, at_each, line_text, report_text, with_line_feed}
 use Rattle.golog_semantics.specs.Execution.{Ends}

@@ -1,8 +1,8 @@
 -- What files have, and what they are refused for.
-use Rattle.std.proofs.Common.{◌≡◌, ℕ, ◌<◌, ◌≤◌, ◌+◌, ◌-◌, ◌^◌, List, Option, Some, None, ◌⊎◌, inl, inr, length, arith, subst, refl, min}
+use Rattle.std.proofs.Common.{◌≡◌, ℕ, ◌≤◌, List, Option, Some, None, inl, inr, arith}
 use Rattle.std.specs.Prelude.{IsSomeAnd}
 use Rattle.golog_base.specs.Faults.{Rose}
-use Rattle.golog_base.specs.Files.{HasNone, FileHas, bytes_of}
+use Rattle.golog_base.specs.Files.{FileHas, bytes_of}
 use Rattle.golog_base.specs.declared.mem_files.HeldFile.{HeldFile}
 use Rattle.golog_semantics.specs.Text.{Text}
 use Rattle.golog_main.specs.Inputs.{IsUnread}

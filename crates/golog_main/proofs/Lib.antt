@@ -5,3 +5,4 @@ pub mod Begun
 pub mod Inlined
 pub mod Reported
 pub mod Fresh
+pub mod Searchless

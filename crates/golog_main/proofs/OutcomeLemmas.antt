@@ -1,7 +1,6 @@
 -- From what the parts of a call come to, to what the call comes to.
-use Rattle.std.proofs.Common.{◌≡◌, ℕ, ◌<◌, ◌≤◌, ◌^◌, List, [], Option, Some, None, Result, Ok, Err, IfOk, ◌⊎◌, length, refl, sym, ap, ◌∙◌, subst, inl, inr}
-use Rattle.golog_base.specs.Files.{HasNone, FileHas}
-use Rattle.golog_base.specs.Faults.{Rose}
+use Rattle.std.proofs.Common.{◌≡◌, ℕ, ◌<◌, ◌≤◌, ◌^◌, List, [], Option, Some, None, Result, Ok, Err, IfOk, length, refl, sym, subst, inl}
+use Rattle.golog_base.specs.Files.{FileHas}
 use Rattle.golog_base.specs.declared.mem_files.HeldFile.{HeldFile}
 use Rattle.golog_tree.specs.declared.agent.Agent.{Agent}
 use Rattle.golog_semantics.specs.Text.{Text}
@@ -15,7 +14,7 @@ use Rattle.golog_main.specs.declared.outcome.Input.TheVariants.{Agent as AgentFi
 use Rattle.golog_main.specs.declared.outcome.Outcome.{Outcome}
 use Rattle.golog_main.specs.declared.outcome.Outcome.TheVariants.{WordsRefused, ReadFault, Refused, Ran}
 use Rattle.golog_main.specs.Words.{Names}
-use Rattle.golog_main.specs.Inputs.{SpellsScripts, RefusesScripts, too_long, of_row, Tells, IsUnread, refusal_text}
+use Rattle.golog_main.specs.Inputs.{SpellsScripts, RefusesScripts, too_long, of_row, Tells, refusal_text}
 use Rattle.golog_main.specs.Outcome.{RunOf, ComesOfAgent, ComesOfScripts, ComesOfBytes, ComesBehind, Comes}
 use Rattle.golog_main.proofs.InputLemmas.{read-held, held-so, unread-since}
 

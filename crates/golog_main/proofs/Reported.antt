@@ -1,6 +1,6 @@
 -- From a journal to its report, and to what a run of it comes to.
-use Rattle.std.proofs.Common.{◌≡◌, ℕ, zero, suc, ◌+◌, ◌<◌, ◌≤◌, Bool, true, false, not, ◌&&◌, ◌||◌, List, [], ◌∷◌, ◌++◌, length, map, Option, Some, None, refl, sym, ap, ◌∙◌, subst, arith, inl, inr, ◌⊎◌}
-use Rattle.std.specs.Prelude.{Contains, IsTrue, nat_le}
+use Rattle.std.proofs.Common.{◌≡◌, zero, suc, ◌≤◌, Bool, true, false, not, ◌||◌, List, [], ◌∷◌, ◌++◌, length, map, refl, sym, ap, ◌∙◌, subst, arith, inl, inr, ◌⊎◌}
+use Rattle.std.specs.Prelude.{Contains}
 use Rattle.std.specs.List.{list_any, list_all}
 use Rattle.std.proofs.lemmas.Bool.{le-leb}
 use Rattle.std.proofs.lemmas.List.Elements.{Contains-append_cases}
@@ -18,14 +18,14 @@ use Rattle.golog_semantics.specs.InlineText.{scripted}
 use Rattle.golog_semantics.specs.Dealt.{Script}
 use Rattle.golog_semantics.specs.Text.{Text, at_each, report_text}
 use Rattle.golog_semantics.specs.Reports.{fits_entry, IsReport}
-use Rattle.golog_semantics.specs.Execution.{Ends, IsOnlineRun, status_of}
+use Rattle.golog_semantics.specs.Execution.{status_of}
 use Rattle.golog_semantics.proofs.Tests.{and_both, and_cases, or_first, or_second}
 use Rattle.golog_semantics.proofs.LaterRuns.{whole_is_online}
 use Rattle.golog_journal.specs.Boards.{IsBoardList, is_lawful}
 use Rattle.golog_journal.proofs.Lawful.{lawful-parts}
 use Rattle.golog_device.specs.Slots.{Standing, HaveBegun}
 use Rattle.golog_agent.specs.Rounds.{FollowsRounds}
-use Rattle.golog_main.specs.Runs.{AreTextsOf, AllTellLeft, FollowsScripts, IsReportOf, IsRunOf, ReportsRun, RunsOn}
+use Rattle.golog_main.specs.Runs.{FollowsScripts, IsReportOf, IsRunOf, ReportsRun, RunsOn}
 use Rattle.golog_main.proofs.Begun.{as-many, dealt-with, tell-left, none-stands}
 use Rattle.golog_main.proofs.Inlined.{all-the-way, at_each-append, cut-short}
 
@@ -56,7 +56,7 @@ module _ (agent : Agent) where
     fits = is-report on.journal on.lawful on.short;
     lawful = on.lawful;
     online = on.ran.online;
-    dealt = dealt-with agent texts scripts are before olds mids begun one_each on.journal news on.ran.run;
+    dealt = dealt-with agent texts scripts are before olds mids begun one_each on.journal on.ran.since on.ran.grows on.ran.unrefused news on.ran.run;
     scripted = λ tell.
         subst (λ j. FollowsRounds agent scripts j on.journal) (none-stands agent texts scripts are before olds mids begun one_each tell)
         (on.ran.scripted scripts (sym (as-many texts scripts are) ∙ one_each) (tell-left agent texts scripts are before olds mids begun one_each tell));

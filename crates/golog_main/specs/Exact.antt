@@ -36,8 +36,8 @@ pub record OfDevices (held : Option (List HeldFile)) (names : Names) (P : Agent 
   pub named : names.devices ≡ Some name
   pub so : P agent name
 
--- the text tells the first refusal of the files: that of the agent file; or, where that spells an agent, that of the
--- devices file
+-- the text tells the first refusal of the files: that of the agent file; or, where that spells an agent,
+-- that of the devices file
 abbrev pub TellsRefusal : Option (List HeldFile) → Names → Text → Type 0
 TellsRefusal held names text =
     FileHas held names.agent (λ bytes. Tells AgentFile (IsFirstRefusal bytes) text)

@@ -36,8 +36,8 @@ pub record SpellsScripts (agent : Agent) (bytes : Text) (listed : List Named) : 
   pub small : length bytes ≤ 2 ^ 20
   pub spelled : (scripts_of agent.devices bytes).outcome ≡ Ok listed
 
--- the first refusal of the bytes of a devices file: they are above the limit, or the first row fits of those that
--- refuse scripts
+-- the first refusal of the bytes of a devices file: they are above the limit, or the first row fits of
+-- those that refuse scripts
 pub data RefusesScripts (agent : Agent) (bytes : Text) : ℕ → ℕ → Type 0 where
   too_long : 2 ^ 20 < length bytes → RefusesScripts agent bytes 5 1048576
   of_row : (code at : ℕ) → length bytes ≤ 2 ^ 20 → (scripts_of agent.devices bytes).outcome ≡ Err (code, at)

@@ -3,3 +3,4 @@ pub mod Inputs
 pub mod Runs
 pub mod Outcome
 pub mod Exact
+pub mod Searchless

@@ -1,5 +1,5 @@
 -- What a call of the program comes to: each outcome with its cause, its text and its status.
-use Rattle.std.specs.Prelude.{◌≡◌, ◌⊎◌, ℕ, ◌++◌, List, Option, None, Some, IsSome, codes}
+use Rattle.std.specs.Prelude.{◌≡◌, ◌⊎◌, ℕ, List, Option, None, Some, IsSome, codes}
 use Rattle.golog_base.specs.Faults.{Rose}
 use Rattle.golog_base.specs.Files.{FileHas}
 use Rattle.golog_base.specs.Known.{and_then_bytes, AddsPrefix}
@@ -33,8 +33,8 @@ status_of (Ran text answer) = answer_status answer
 
 -- ---- the causes
 
--- What is held under names, how often a call of the files had failed before and after the call, and how the devices
--- stood before and after it.
+-- What is held under names, how often a call of the files had failed before and after the call, and how the
+-- devices stood before and after it.
 module _ (held : Option (List HeldFile)) (faults_before faults_after : ℕ) (olds news : List Standing) where
   -- the scripts of the devices are read, and the program comes to this with them
   pub record RunsScripts (agent : Agent) (named : Option Text) (text : Text) (status : ℕ) : Type 0 where

@@ -1,7 +1,9 @@
 -- What a run of an agent comes to.
-use Rattle.std.specs.Prelude.{◌≡◌, ◌⊎◌, ℕ, ◌<◌, ◌≤◌, nat_lt, IsSome, IfSome, Some, List, [], ◌∷◌, ◌++◌, length, map, codes, decimal, slice_get}
+use Rattle.std.specs.Prelude.{◌≡◌, ◌⊎◌, ℕ, ◌<◌, ◌≤◌, nat_lt, IsSome, IfSome, Some, List, [], ◌∷◌, ◌++◌, Contains, length, map, codes, decimal, slice_get}
 use Rattle.std.specs.List.{flat_map}
 use Rattle.golog_tree.specs.declared.agent.Agent.{Agent}
+use Rattle.golog_semantics.specs.declared.journal.Entry.TheVariants.{Close}
+use Rattle.golog_semantics.specs.declared.journal.Reason.TheVariants.{Refused}
 use Rattle.golog_semantics.specs.declared.journal.Report.{Report}
 use Rattle.golog_semantics.specs.Journal.{Journal}
 use Rattle.golog_semantics.specs.Text.{Text, with_line_feed}
@@ -18,16 +20,17 @@ use Rattle.golog_agent.specs.Rounds.{FollowsRounds, RunsToEnd}
 
 -- ---- the devices
 
--- what a device was given and told fits the journal, with its script
-abbrev pub IsDealt : Agent → List Script → Journal → ℕ → Standing → Type 0
-IsDealt agent scripts journal device standing =
-    IfSome (slice_get scripts device) (λ script. Dealt agent device journal script standing.meaning)
+-- what a device was given and told fits the journal, with its script; one that refused its script is as it
+-- was
+pub record IsDealt (agent : Agent) (scripts : List Script) (journal : Journal) (device : ℕ) (was is : Standing)
+    : Type 0 where
+  pub dealt : IfSome (slice_get scripts device) (λ script. Dealt agent device journal script is.meaning)
+  pub refused : Contains journal (Close device Refused 0) → is ≡ was
 
 -- each device of the agent was dealt with, and the box that no device needs is as it was
 abbrev pub AreDealtWith : Agent → List Script → Journal → List Standing → List Standing → Type 0
 AreDealtWith agent scripts journal =
-    EachSlot (λ slot. ChangesIf (nat_lt slot (length agent.devices))
-    (λ was is. IsDealt agent scripts journal slot is))
+    EachSlot (λ slot. ChangesIf (nat_lt slot (length agent.devices)) (IsDealt agent scripts journal slot))
 
 -- each device of the agent tells what is left of its script
 abbrev pub AllTellLeft : Agent → List Standing → Type 0
@@ -57,8 +60,9 @@ FollowsScripts agent scripts text status =
 
 -- ---- a run
 
--- The text is that of an online execution of the agent's program, and the status that of its end. Each device was
--- dealt with, with its script. Where all devices tell what is left of their scripts, the text is that of the rounds.
+-- The text is that of an online execution of the agent's program, and the status that of its end. Each
+-- device was dealt with, with its script. Where all devices tell what is left of their scripts, the text is
+-- that of the rounds.
 pub record IsRunOf (agent : Agent) (scripts : List Script) (olds news : List Standing) (text : Text) (status : ℕ)
     : Type 0 where
   pub online : IsOnlineRun agent text status

@@ -317,3 +317,81 @@ fn a_device_of_ones_own_is_handed_in(rt: HostRuntime) -> Result<(), Fail> {
     assert!(rt; out.bytes() == journal);
     Ok(())
 }
+
+/// A device of the test's own that doesn't begin: it refuses its script, or wants memory.
+#[derive(Drop)]
+struct Unwilling {
+    wants_memory: bool,
+}
+
+impl Device for Unwilling {
+    ghost use Rattle.std.specs.Prelude.{true, false, None};
+
+    ghost fresh = { λ unwilling. true };
+
+    ghost meaning = { λ unwilling. record { cut = false; given = None; told = None; left = None } };
+
+    fn begin(&mut self, _alloc: Global, _name: &[u8], _script: &[u8]) -> Begun {
+        if self.wants_memory {
+            Begun::Memory
+        } else {
+            Begun::Refused
+        }
+    }
+
+    fn serve(&mut self, _action: &[u8], _asked: bool) -> Served {
+        Served::Nothing
+    }
+
+    fn idle(&mut self) -> Idle {
+        Idle::Close
+    }
+}
+
+/// Sixteen of them.
+fn unwilling_devices(alloc: Global, wants_memory: bool) -> Result<Vec<Unwilling>, NoMemory>
+    ensures as_many { IfOk result (λ devices. length devices.items ≡ 16) }
+    ensures fresh { IfOk result (λ devices. FreshBelow 16
+        (standings ⟦<Unwilling as Device>⟧.fresh ⟦<Unwilling as Device>⟧.meaning devices.items)) }
+{
+    let mut devices = Vec::new(alloc);
+    for _ in 0..16usize {
+        devices.push(Unwilling { wants_memory })?;
+    }
+    Ok(devices)
+}
+
+/// The run of an agent with two devices, both of them unwilling.
+fn called_over_unwilling(alloc: Global, wants_memory: bool) -> Result<Call, NoMemory> {
+    let file = file_of(alloc, DOOR, &["(act knock)"])?;
+    let mut files = files_of_two(alloc, file.as_slice(), b"[]", &[])?;
+    let words = words_of(alloc, &["run", "x.agent", "x.devices", "--inline"])?;
+    let mut out = MemSink::new(alloc, 1000, List::new(alloc))?;
+    let mut devices = unwilling_devices(alloc, wants_memory)?;
+    let status = golog(
+        alloc,
+        words.as_slice(),
+        &mut files,
+        &mut out,
+        devices.as_mut_slice(),
+    );
+    Ok(Call { status, out })
+}
+
+#[test]
+fn a_device_that_refuses_its_script_is_closed(rt: HostRuntime) -> Result<(), Fail> {
+    let call = called_over_unwilling(rt.alloc(), false)?;
+    assert_eq!(rt; call.status, 0);
+    let journal =
+        b"0 close wind refused 0\n1 close door refused 0\n2 do knock\n3 end done\n".as_slice();
+    assert!(rt; call.out.bytes() == journal);
+    Ok(())
+}
+
+#[test]
+fn a_device_that_wants_memory_ends_the_call(rt: HostRuntime) -> Result<(), Fail> {
+    let call = called_over_unwilling(rt.alloc(), true)?;
+    assert_eq!(rt; call.status, 6);
+    assert!(rt; call.out.bytes().is_empty());
+    Ok(())
+}

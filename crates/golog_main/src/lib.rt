@@ -9,7 +9,7 @@ mod top;
 mod words;
 
 pub use devices::script_devices;
-pub use laws::each_status_where_its_cause_is;
+pub use laws::{each_status_where_its_cause_is, searchless_runs_end_plainly};
 pub use outcome::{Input, Outcome};
 pub use top::{NO_MEMORY, golog};
 

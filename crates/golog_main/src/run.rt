@@ -28,8 +28,8 @@ use golog_text::write_journal;
 use golog_tree::Agent;
 use std::alloc::Global;
 
-/// What a run of the agent's program comes to, with these scripts for its devices. A device that is not among the
-/// scripts has the empty one.
+/// What a run of the agent's program comes to, with these scripts for its devices. A device that is not
+/// among the scripts has the empty one.
 pub fn run_program<D: Device>(
     alloc: Global,
     agent: &Agent,

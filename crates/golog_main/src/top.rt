@@ -30,27 +30,30 @@ const WRITE_FAULT: u8 = 5;
 /// The exit status where memory ran out.
 pub const NO_MEMORY: u8 = 6;
 
-/// Does what the words say over these files and devices, writes what comes of it to `out`, and answers the exit
-/// status. The devices of the agent are the first of those given, in the order of its file; the others stay as they
-/// are.
+/// Does what the words say over these files and devices, writes what comes of it to `out`, and answers the
+/// exit status. The devices of the agent are the first of those given, in the order of its file; the others
+/// stay as they are.
 ///
-/// The words are `run`, a file word (not empty, and not beginning with `-`), perhaps a second one, and `--inline`.
-/// The first of these that fits is the answer:
+/// The words are `run`, a file word (not empty, and not beginning with `-`), perhaps a second one, and
+/// `--inline`. The first of these that fits is the answer:
 ///
 /// - 2, `words refused`: the words are anything else.
 /// - 4, `read fault agent`: the agent file is not there, or a call of `files` failed.
-/// - 3, `refused agent CODE at PLACE`: the file spells no agent; the code and the place are those of its first
-///   refusal, in the order of the stages of `golog_agent::read_agent`.
-/// - 4, `read fault devices`: the devices file, where one is named, is not there, or a call of `files` failed.
-/// - 3, `refused devices CODE at POSITION`: it spells no scripts for the agent's devices; the code and the position
-///   are those of its first refusal, as of `golog_script::scripts_of`, or 5 at 1048576 where it has more bytes.
-/// - 0, or 10 to 16, the journal of an online execution of the agent's program, which ends `done`, `stuck`, `unknown`,
-///   `depth`, `fuel`, `unanswered`, `full` or `deep`. Each device that tells it was dealt with as the journal says,
-///   with its script, the empty one where the devices file has none. Where all tell what is left of their scripts, it
-///   is the journal of the rounds of these scripts.
+/// - 3, `refused agent CODE at PLACE`: the file spells no agent; the code and the place are those of its
+///   first refusal, in the order of the stages of `golog_agent::read_agent`.
+/// - 4, `read fault devices`: the devices file, where one is named, is not there, or a call of `files`
+///   failed.
+/// - 3, `refused devices CODE at POSITION`: it spells no scripts for the agent's devices; the code and the
+///   position are those of its first refusal, as of `golog_script::scripts_of`, or 5 at 1048576 where it
+///   has more bytes.
+/// - 0, or 10 to 16, the journal of an online execution of the agent's program, which ends `done`, `stuck`,
+///   `unknown`, `depth`, `fuel`, `unanswered`, `full` or `deep`. Each device that tells it was dealt with
+///   as the journal says, with its script, the empty one where the devices file has none. Where all tell
+///   what is left of their scripts, it is the journal of the rounds of these scripts.
 ///
-/// Each line ends with a line feed. Where a write fails the answer is 5, and a prefix of the text is written. Where
-/// memory runs out the answer is 6; nothing is written, or the journal of a run that ends `memory`.
+/// Each line ends with a line feed. Where a write fails the answer is 5, and a prefix of the text is
+/// written. Where memory runs out the answer is 6; nothing is written, or the journal of a run that ends
+/// `memory`.
 pub fn golog<F: Files, K: Sink, D: Device>(
     alloc: Global,
     words: &[String],

@@ -1,4 +1,4 @@
-use Rattle.std.proofs.Common.{refl, subst, sym}
+use Rattle.std.proofs.Common.{refl, subst}
 use Rattle.std.specs.Prelude.{IfOk, option_map}
 use Rattle.golog_device.specs.Slots.{standings}
 use Rattle.golog_main.specs.Words.{Names}

@@ -1,6 +1,6 @@
 use Rattle.std.proofs.Common.{refl}
 use Rattle.golog_device.specs.Slots.{standings}
-use Rattle.golog_main.proofs.OutcomeLemmas.{runs-without, runs-with, long-scripts}
+use Rattle.golog_main.proofs.OutcomeLemmas.{runs-with, long-scripts}
 use Rattle.golog_main.proofs.top.run_agent.Goals as goal
 
 pub returns-in-Ok : goal.returns-in-Ok
