@@ -1,0 +1,25 @@
+//! Tests of calls of the crates below, over agents that are read from files.
+#![tactic(auto)]
+
+#[cfg(test)]
+mod agents;
+#[cfg(test)]
+mod blocks;
+#[cfg(test)]
+mod conditions;
+#[cfg(test)]
+mod ends;
+#[cfg(test)]
+mod fronts;
+#[cfg(test)]
+mod modes;
+#[cfg(test)]
+mod prints;
+#[cfg(test)]
+mod puts;
+#[cfg(test)]
+mod steps;
+#[cfg(test)]
+mod texts;
+#[cfg(test)]
+mod values;

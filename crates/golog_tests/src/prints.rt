@@ -1,0 +1,32 @@
+use crate::agents::{BELL, LIFT};
+use golog_agent::read_agent;
+use golog_base::NoMemory;
+use golog_prog::print_prog;
+use golog_tree::Agent;
+use std::alloc::Global;
+
+/// Whether the text of the agent's program is this one.
+fn is_printed(alloc: Global, agent: &Agent, wanted: &[u8]) -> bool {
+    match print_prog(alloc, agent, &agent.main) {
+        Ok(text) => text.as_slice() == wanted,
+        Err(NoMemory) => false,
+    }
+}
+
+/// Whether the program of the agent that this file spells has this text.
+fn is_printed_back(alloc: Global, file: &[u8], program: &[u8]) -> bool {
+    let read = read_agent(alloc, file);
+    let answer = match &read {
+        Ok(agent) => is_printed(alloc, agent, program),
+        Err(_fault) => false,
+    };
+    drop(read);
+    answer
+}
+
+#[test]
+fn programs_that_were_read_are_printed_back(rt: HostRuntime) {
+    let alloc = rt.alloc();
+    assert!(rt; is_printed_back(alloc, BELL, b"(while (awaited) (act ring))"));
+    assert!(rt; is_printed_back(alloc, LIFT, b"(pick (v0_0 level) (act off v0_0))"));
+}
