@@ -16,6 +16,7 @@ pub const BELL: &[u8] = b"(agent
 /// A lift with two doors.
 pub const LIFT: &[u8] = b"(agent
     (sort level -1 3) (sort door left right)
+    (fluent open (door level) bool false)
     (action off (level)) (action turn (door level))
     (main (pick (v0_0 level) (act off v0_0))))";
 

@@ -14,6 +14,8 @@ mod fronts;
 #[cfg(test)]
 mod modes;
 #[cfg(test)]
+mod numbers;
+#[cfg(test)]
 mod prints;
 #[cfg(test)]
 mod puts;

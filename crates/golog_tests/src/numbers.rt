@@ -1,0 +1,80 @@
+ghost use Rattle.std.specs.Prelude.{◌<◌, length};
+ghost use Rattle.golog_tree.specs.Ground.{action_args, ground_count};
+ghost use Rattle.golog_semantics.specs.WellFormed.{WellFormed};
+
+use crate::agents::LIFT;
+use golog_agent::read_agent;
+use golog_ground::read_action;
+use golog_tree::{Agent, Ground, action_no, action_of, fluent_no, fluent_of};
+use std::alloc::Global;
+
+/// To turn the right door at level 1, the third level: two actions are built in, and `off` is before it too.
+const TURN_RIGHT_AT_1: Ground = Ground {
+    item: 3,
+    count: 2,
+    args: [1, 2, 0],
+};
+
+/// That the right door is open at level 1, the third level: one fluent is built in.
+const RIGHT_OPEN_AT_1: Ground = Ground {
+    item: 1,
+    count: 2,
+    args: [1, 2, 0],
+};
+
+/// Whether the action of this number is `TURN_RIGHT_AT_1`, and the number of that is this one.
+#[tactic(auto, using(crate::proofs::Grounded::few, crate::proofs::Grounded::action_declared))]
+fn is_turning(agent: &Agent, number: u32) -> bool
+    requires formed { WellFormed agent.now }
+    requires number { number < ground_count agent.now (action_args agent.now) }
+{
+    let ground = action_of(agent, number);
+    let args = &ground.args[..ground.count as usize];
+    ground == TURN_RIGHT_AT_1 && action_no(agent, ground.item, args) == number
+}
+
+/// Whether the fluent of this number is `RIGHT_OPEN_AT_1`, and the number of that is this one.
+#[tactic(auto, using(crate::proofs::Grounded::few, crate::proofs::Grounded::fluent_declared))]
+fn is_open(agent: &Agent, number: u32) -> bool
+    requires formed { WellFormed agent.now }
+    requires number { number < length agent.now.starts }
+{
+    let ground = fluent_of(agent, number);
+    let args = &ground.args[..ground.count as usize];
+    ground == RIGHT_OPEN_AT_1 && fluent_no(agent, ground.item, args) == number
+}
+
+/// Whether that action is the one of number 14, as its text is read: before it are the 2 built in, 5 of
+/// `off`, 5 that turn the left door, and 2 that turn the right one at lower levels.
+fn turning_is_numbered(agent: &Agent) -> bool
+    requires { WellFormed agent.now }
+{
+    match read_action(agent, b"turn(right,1)") {
+        Some(number) => number == 14 && is_turning(agent, number),
+        None => false,
+    }
+}
+
+/// Whether that fluent is the one of number 8: before it are the one built in, 5 of the left door, and 2 of
+/// the right one at lower levels.
+fn open_is_numbered(agent: &Agent) -> bool
+    requires { WellFormed agent.now }
+{
+    8 < agent.starts.as_slice().len() && is_open(agent, 8)
+}
+
+/// Whether both hold of the agent of `LIFT`.
+fn lift_is_numbered(alloc: Global) -> [bool; 2] {
+    let read = read_agent(alloc, LIFT);
+    let answer = match &read {
+        Ok(agent) => [turning_is_numbered(agent), open_is_numbered(agent)],
+        Err(_fault) => [false; 2],
+    };
+    drop(read);
+    answer
+}
+
+#[test]
+fn ground_things_are_numbered(rt: HostRuntime) {
+    assert_eq!(rt; lift_is_numbered(rt.alloc()), [true; 2]);
+}
