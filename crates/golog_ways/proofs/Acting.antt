@@ -25,6 +25,8 @@ use Rattle.golog_known.proofs.Arguments.{conditions_fit}
 use Rattle.golog_known.proofs.Evaluated.{args-within}
 use Rattle.golog_ways.specs.Closed.{IsFit}
 use Rattle.golog_ways.specs.Outlook.{precondition, precondition_by}
+use Rattle.golog_ways.specs.Puts.{cond_put_args}
+use Rattle.golog_ways.proofs.ClosedConds.{fits, fits-puts}
 
 -- no variable is bound, and so each has a value
 pub nothing_set : (agent : Agent) (env : List ℕ) → Sets agent nothing_bound env
@@ -56,6 +58,7 @@ pub record ActionIs (agent : Agent) (action : ℕ) (args : List Arg) : Type 0 wh
   pub found : slice_get agent.actions action ≡ Some item
   pub inside : action < length agent.actions
   pub few : length args ≤ 3
+  pub fit : args_fit agent nothing_bound item.args args ≡ true
   pub of_item : AreWithin (sizes agent item.args) (map (arg_value (env_of [])) args)
   pub within : AreWithin (sizes agent (args_at (action_args agent) action)) (map (arg_value (env_of [])) args)
 
@@ -72,6 +75,7 @@ module _ (agent : Agent) (f : IsFit agent) where
         found = e;
         inside = at.1;
         few = subst (λ n. n ≤ 3) (sym (args-count agent item.args args fit)) (few-of agent.actions action item e f.countable.action_arities);
+        fit = fit;
         of_item = in_item;
         within = subst (λ ss. AreWithin (sizes agent ss) (map (arg_value (env_of [])) args)) (sym at.0) in_item;
       }
@@ -98,6 +102,20 @@ module _ (agent : Agent) (f : IsFit agent) where
   pub poss_at : (action : ℕ) (args : List Arg) → ActionIs agent action args → (i : ℕ) (item : PossItem) → slice_get agent.poss i ≡ Some item → item.action ≡ action
       → CondFitsAt agent item.cond (env_of (map (arg_value (env_of [])) args))
   poss_at action args a i item e same = poss_at-of item action args a same (slice_get agent.actions item.action) refl (all-at agent.poss i item f.poss e)
+
+  closed_at-of : (item : PossItem) (action : ℕ) (args : List Arg) (a : ActionIs agent action args) → item.action ≡ action → (o : Option ActionItem) → slice_get agent.actions item.action ≡ o
+      → option_map_or (poss_fits_for agent item) o false ≡ true → fits agent (cond_put_args item.cond 0 args) ≡ true
+  closed_at-of item action args a same None e h = absurd (cc)
+  closed_at-of item action args a same (Some own) e h =
+      let is : own ≡ a.item = cc (e, a.found, same) in
+      let k = and_cases (is_plain_action agent item.action own && cond_fits agent item.cond (bound_from 0 own.args)) (is_written_cond agent item.cond (length own.args)) h in
+      let fit = (and_cases (is_plain_action agent item.action own) (cond_fits agent item.cond (bound_from 0 own.args)) k.0).1 in
+      fits-puts agent args own.args 0 item.cond fit (subst (λ (z : ActionItem). args_fit agent nothing_bound z.args args ≡ true) (sym is) a.fit)
+
+  -- with the arguments put in, a precondition of this action has no free variable
+  pub closed_at : (action : ℕ) (args : List Arg) → ActionIs agent action args → (i : ℕ) (item : PossItem) → slice_get agent.poss i ≡ Some item → item.action ≡ action
+      → fits agent (cond_put_args item.cond 0 args) ≡ true
+  closed_at action args a i item e same = closed_at-of item action args a same (slice_get agent.actions item.action) refl (all-at agent.poss i item f.poss e)
 
 module _ (agent : Agent) (values : Values) (action : ℕ) (args : List ℕ) where
   holds-by : (m : Mode) (items : List PossItem) → holds m (precondition_by agent values action args items) ≡ possible_by agent values m action args items

@@ -1,7 +1,7 @@
 -- The condition under which a program may end, by those of its parts.
 use Rattle.std.proofs.Common.{◌≡◌, ℕ, zero, suc, ◌+◌, ◌<◌, ◌≤◌, Bool, true, false, ◌&&◌, ◌||◌, List, [], ◌∷◌, ◌++◌, map, refl, sym, ap, ◌∙◌, subst, arith}
 use Rattle.std.specs.Prelude.{Result, Ok, Err, IfOk}
-use Rattle.std.specs.List.{list_any, range_with_len}
+use Rattle.std.specs.List.{list_all, list_any, range_with_len}
 use Rattle.std.proofs.lemmas.List.Folds.{list_any-append}
 use Rattle.std.proofs.lemmas.List.FromFn.{map-range_with_len_more}
 use Rattle.golog_tree.specs.declared.agent.Agent.{Agent}
@@ -25,9 +25,10 @@ use Rattle.golog_semantics.specs.Search.{final}
 use Rattle.golog_semantics.specs.Ways.{is_so, is_not}
 use Rattle.golog_semantics.specs.Guarded.{IsGuarded, front}
 use Rattle.golog_semantics.specs.Fronts.{IsEnd}
-use Rattle.golog_ways.specs.Ends.{AreEnds}
+use Rattle.golog_ways.specs.Ends.{AreEnds, IsClosedEnd}
 use Rattle.golog_semantics.proofs.CondByParts.{fold-and, fold-not, fold-or, fold-truth}
 use Rattle.golog_semantics.proofs.Unfolded.{final-skips}
+use Rattle.golog_ways.proofs.ClosedConds.{fits, fits-both, fits-either, fits-more, fits-not, fits-or, fits-truth}
 use Rattle.golog_ways.proofs.Steps.{final-by}
 use Rattle.golog_semantics.proofs.FrontLaws.{holds-both, holds-either, holds-yes, holds-no}
 
@@ -94,29 +95,47 @@ module _ (agent : Agent) (values : Values) (m : Mode) where
 
 module _ (agent : Agent) (g : IsGuarded agent) where
   abbrev End : Prog → Cond → Type 0
-  End = IsEnd agent
+  End = IsClosedEnd agent
 
   pub nil_end : End prog.Nil (cond.Truth true)
-  nil_end = record { final = λ m v. so-truth agent v m true ∙ sym (final-by agent v g m prog.Nil Nil prog.outs-Nil) }
+  nil_end = record {
+    end = record { final = λ m v. so-truth agent v m true ∙ sym (final-by agent v g m prog.Nil Nil prog.outs-Nil) };
+    closed = fits-truth agent true;
+  }
 
   pub act_end : (action : ℕ) (args : List Arg) → End (prog.Act action args) (cond.Truth false)
-  act_end action args = record { final = λ m v. so-truth agent v m false ∙ sym (final-by agent v g m (prog.Act action args) (Act action args) (prog.outs-Act action args)) }
+  act_end action args = record {
+    end = record { final = λ m v. so-truth agent v m false ∙ sym (final-by agent v g m (prog.Act action args) (Act action args) (prog.outs-Act action args)) };
+    closed = fits-truth agent false;
+  }
 
   pub test_end : (c : Cond) → End (prog.Test c) (cond.Truth false)
-  test_end c = record { final = λ m v. so-truth agent v m false ∙ sym (final-by agent v g m (prog.Test c) (Test c) (prog.outs-Test c)) }
+  test_end c = record {
+    end = record { final = λ m v. so-truth agent v m false ∙ sym (final-by agent v g m (prog.Test c) (Test c) (prog.outs-Test c)) };
+    closed = fits-truth agent false;
+  }
 
   pub star_end : (p : Prog) → End (prog.Star p) (cond.Truth true)
-  star_end p = record { final = λ m v. so-truth agent v m true ∙ sym (final-by agent v g m (prog.Star p) (Star p) (prog.outs-Star p)) }
+  star_end p = record {
+    end = record { final = λ m v. so-truth agent v m true ∙ sym (final-by agent v g m (prog.Star p) (Star p) (prog.outs-Star p)) };
+    closed = fits-truth agent true;
+  }
 
   pub cstar_end : (p : Prog) → End (prog.Cstar p) (cond.Truth true)
-  cstar_end p = record { final = λ m v. so-truth agent v m true ∙ sym (final-by agent v g m (prog.Cstar p) (Cstar p) (prog.outs-Cstar p)) }
+  cstar_end p = record {
+    end = record { final = λ m v. so-truth agent v m true ∙ sym (final-by agent v g m (prog.Cstar p) (Cstar p) (prog.outs-Cstar p)) };
+    closed = fits-truth agent true;
+  }
 
   -- where the first part never ends without a step
   pub seq_end_barred : (p q : Prog) → (front agent p).skip ≡ false → End (prog.Seq p q) (cond.Truth false)
   seq_end_barred p q s = record {
-    final = λ m v.
-        so-truth agent v m false ∙ sym (final-by agent v g m (prog.Seq p q) (Seq p q) (prog.outs-Seq p q)
-        ∙ ap (λ b. b && final agent v m q) (never m v (final agent v m p) refl));
+    end = record {
+      final = λ m v.
+          so-truth agent v m false ∙ sym (final-by agent v g m (prog.Seq p q) (Seq p q) (prog.outs-Seq p q)
+          ∙ ap (λ b. b && final agent v m q) (never m v (final agent v m p) refl));
+    };
+    closed = fits-truth agent false;
   }
     where
       never : (m : Mode) (v : Values) (b : Bool) → final agent v m p ≡ b → final agent v m p ≡ false
@@ -125,92 +144,133 @@ module _ (agent : Agent) (g : IsGuarded agent) where
 
   module _ (p q : Prog) (c d : Cond) (one : End p c) (other : End q d) where
     both_end : (m : Mode) (v : Values) → is_so agent v m (cond.And (c ∷ d ∷ [])) ≡ (final agent v m p && final agent v m q)
-    both_end m v = let e = one.final m v in let f = other.final m v in so-both agent v m c d ∙ (rw (e, f) refl)
+    both_end m v = let e = one.end.final m v in let f = other.end.final m v in so-both agent v m c d ∙ (rw (e, f) refl)
 
     pub seq_end : End (prog.Seq p q) (cond.And (c ∷ d ∷ []))
-    seq_end = record { final = λ m v. both_end m v ∙ sym (final-by agent v g m (prog.Seq p q) (Seq p q) (prog.outs-Seq p q)) }
+    seq_end = record {
+      end = record { final = λ m v. both_end m v ∙ sym (final-by agent v g m (prog.Seq p q) (Seq p q) (prog.outs-Seq p q)) };
+      closed = fits-both agent c d one.closed other.closed;
+    }
 
     pub conc_end : End (prog.Conc p q) (cond.And (c ∷ d ∷ []))
-    conc_end = record { final = λ m v. both_end m v ∙ sym (final-by agent v g m (prog.Conc p q) (Conc p q) (prog.outs-Conc p q)) }
+    conc_end = record {
+      end = record { final = λ m v. both_end m v ∙ sym (final-by agent v g m (prog.Conc p q) (Conc p q) (prog.outs-Conc p q)) };
+      closed = fits-both agent c d one.closed other.closed;
+    }
 
     pub prio_end : End (prog.Prio p q) (cond.And (c ∷ d ∷ []))
-    prio_end = record { final = λ m v. both_end m v ∙ sym (final-by agent v g m (prog.Prio p q) (Prio p q) (prog.outs-Prio p q)) }
+    prio_end = record {
+      end = record { final = λ m v. both_end m v ∙ sym (final-by agent v g m (prog.Prio p q) (Prio p q) (prog.outs-Prio p q)) };
+      closed = fits-both agent c d one.closed other.closed;
+    }
 
     pub choice_end : End (prog.Choice p q) (cond.Or (c ∷ d ∷ []))
     choice_end = record {
-      final = λ m v.
-          let e = one.final m v in let f = other.final m v in
-          so-either agent v m c d ∙ (rw (e, f) refl) ∙ sym (final-by agent v g m (prog.Choice p q) (Choice p q) (prog.outs-Choice p q));
+      end = record {
+        final = λ m v.
+            let e = one.end.final m v in let f = other.end.final m v in
+            so-either agent v m c d ∙ (rw (e, f) refl) ∙ sym (final-by agent v g m (prog.Choice p q) (Choice p q) (prog.outs-Choice p q));
+      };
+      closed = fits-either agent c d one.closed other.closed;
     }
 
-    pub if_end : (t : Cond) → End (prog.If t p q) (cond.Or (cond.And (t ∷ c ∷ []) ∷ cond.And (cond.Not t ∷ d ∷ []) ∷ []))
-    if_end t = record {
-      final = λ m v.
-          let e = one.final m v in let f = other.final m v in
-          so-either agent v m (cond.And (t ∷ c ∷ [])) (cond.And (cond.Not t ∷ d ∷ []))
-          ∙ ap (λ b. b || is_so agent v m (cond.And (cond.Not t ∷ d ∷ []))) (so-both agent v m t c)
-          ∙ ap (λ b. (is_so agent v m t && is_so agent v m c) || b) (so-both agent v m (cond.Not t) d ∙ ap (λ b. b && is_so agent v m d) (so-not agent v m t))
-          ∙ (rw (e, f) refl) ∙ sym (final-by agent v g m (prog.If t p q) (If t p q) (prog.outs-If t p q));
+    pub if_end : (t : Cond) → fits agent t ≡ true → End (prog.If t p q) (cond.Or (cond.And (t ∷ c ∷ []) ∷ cond.And (cond.Not t ∷ d ∷ []) ∷ []))
+    if_end t k = record {
+      end = record {
+        final = λ m v.
+            let e = one.end.final m v in let f = other.end.final m v in
+            so-either agent v m (cond.And (t ∷ c ∷ [])) (cond.And (cond.Not t ∷ d ∷ []))
+            ∙ ap (λ b. b || is_so agent v m (cond.And (cond.Not t ∷ d ∷ []))) (so-both agent v m t c)
+            ∙ ap (λ b. (is_so agent v m t && is_so agent v m c) || b) (so-both agent v m (cond.Not t) d ∙ ap (λ b. b && is_so agent v m d) (so-not agent v m t))
+            ∙ (rw (e, f) refl) ∙ sym (final-by agent v g m (prog.If t p q) (If t p q) (prog.outs-If t p q));
+      };
+      closed = fits-either agent (cond.And (t ∷ c ∷ [])) (cond.And (cond.Not t ∷ d ∷ [])) (fits-both agent t c k one.closed) (fits-both agent (cond.Not t) d (fits-not agent t k) other.closed);
     }
 
-  pub while_end : (t : Cond) (p : Prog) (c : Cond) → End p c → End (prog.While t p) (cond.Or (cond.Not t ∷ c ∷ []))
-  while_end t p c h = record {
-    final = λ m v.
-        let e = h.final m v in
-        so-either agent v m (cond.Not t) c ∙ ap (λ b. b || is_so agent v m c) (so-not agent v m t)
-        ∙ (rw e refl) ∙ sym (final-by agent v g m (prog.While t p) (While t p) (prog.outs-While t p));
+  pub while_end : (t : Cond) → fits agent t ≡ true → (p : Prog) (c : Cond) → End p c → End (prog.While t p) (cond.Or (cond.Not t ∷ c ∷ []))
+  while_end t k p c h = record {
+    end = record {
+      final = λ m v.
+          let e = h.end.final m v in
+          so-either agent v m (cond.Not t) c ∙ ap (λ b. b || is_so agent v m c) (so-not agent v m t)
+          ∙ (rw e refl) ∙ sym (final-by agent v g m (prog.While t p) (While t p) (prog.outs-While t p));
+    };
+    closed = fits-either agent (cond.Not t) c (fits-not agent t k) h.closed;
   }
 
   pub search_end : (depth fuel : ℕ) (p : Prog) (c : Cond) → End p c → End (prog.Search depth fuel p) c
-  search_end depth fuel p c h = record { final = λ m v. h.final m v ∙ sym (final-by agent v g m (prog.Search depth fuel p) (Search depth fuel p) (prog.outs-Search depth fuel p)) }
+  search_end depth fuel p c h = record {
+    end = record { final = λ m v. h.end.final m v ∙ sym (final-by agent v g m (prog.Search depth fuel p) (Search depth fuel p) (prog.outs-Search depth fuel p)) };
+    closed = h.closed;
+  }
 
   pub follow_end : (depth fuel : ℕ) (p : Prog) (rest : List Way) (c : Cond) → End p c → End (prog.Follow depth fuel p rest) c
-  follow_end depth fuel p rest c h = record { final = λ m v. h.final m v ∙ sym (final-by agent v g m (prog.Follow depth fuel p rest) (Follow depth fuel p rest) (prog.outs-Follow depth fuel p rest)) }
+  follow_end depth fuel p rest c h = record {
+    end = record { final = λ m v. h.end.final m v ∙ sym (final-by agent v g m (prog.Follow depth fuel p rest) (Follow depth fuel p rest) (prog.outs-Follow depth fuel p rest)) };
+    closed = h.closed;
+  }
 
   pub call_end : (item : ℕ) (args : List Arg) (c : Cond) → End (body_of agent item args) c → End (prog.Call item args) c
-  call_end item args c h = record { final = λ m v. h.final m v ∙ sym (final-by agent v g m (prog.Call item args) (Call item args) (prog.outs-Call item args)) }
+  call_end item args c h = record {
+    end = record { final = λ m v. h.end.final m v ∙ sym (final-by agent v g m (prog.Call item args) (Call item args) (prog.outs-Call item args)) };
+    closed = h.closed;
+  }
 
 module _ (agent : Agent) (x sort : ℕ) (p : Prog) where
   -- the conditions for the constants before this one
   pub record EndsSoFar (i : ℕ) (cs : List Cond) : Type 0 where
     pub ends : (m : Mode) (v : Values) → list_any (is_so agent v m) cs ≡ list_any (λ c. final agent v m (put_arg p x c)) (range_with_len 0 i)
+    pub closed : list_all (fits agent) cs ≡ true
 
   pub no_ends : EndsSoFar 0 []
-  no_ends = record { ends = λ m v. refl }
+  no_ends = record { ends = λ m v. refl; closed = refl }
 
-  pub more_ends : (i : ℕ) (cs : List Cond) (c : Cond) → IsEnd agent (put_arg p x i) c → EndsSoFar i cs → EndsSoFar (i + 1) (cs ++ c ∷ [])
+  pub more_ends : (i : ℕ) (cs : List Cond) (c : Cond) → IsClosedEnd agent (put_arg p x i) c → EndsSoFar i cs → EndsSoFar (i + 1) (cs ++ c ∷ [])
   more_ends i cs c h s = record {
     ends = λ m v.
         list_any-append (is_so agent v m) cs (c ∷ []) ∙ ap (λ b. b || list_any (is_so agent v m) (c ∷ [])) (s.ends m v)
-        ∙ ap (λ b. list_any (λ k. final agent v m (put_arg p x k)) (range_with_len 0 i) || (b || false)) (h.final m v)
+        ∙ ap (λ b. list_any (λ k. final agent v m (put_arg p x k)) (range_with_len 0 i) || (b || false)) (h.end.final m v)
         ∙ sym (ap (list_any (λ k. final agent v m (put_arg p x k))) (range-more i) ∙ list_any-append (λ k. final agent v m (put_arg p x k)) (range_with_len 0 i) (i ∷ []));
+    closed = fits-more agent cs c s.closed h.closed;
   }
 
-  pub pick_end : IsGuarded agent → (i : ℕ) (cs : List Cond) → i ≡ sort_size agent sort → EndsSoFar i cs → IsEnd agent (prog.Pick x sort p) (cond.Or cs)
+  pub pick_end : IsGuarded agent → (i : ℕ) (cs : List Cond) → i ≡ sort_size agent sort → EndsSoFar i cs → IsClosedEnd agent (prog.Pick x sort p) (cond.Or cs)
   pick_end g i cs e s = record {
-    final = λ m v.
-        so-or agent v m cs ∙ s.ends m v ∙ ap (λ n. list_any (λ k. final agent v m (put_arg p x k)) (range_with_len 0 n)) e
-        ∙ sym (final-by agent v g m (prog.Pick x sort p) (Pick x sort p) (prog.outs-Pick x sort p));
+    end = record {
+      final = λ m v.
+          so-or agent v m cs ∙ s.ends m v ∙ ap (λ n. list_any (λ k. final agent v m (put_arg p x k)) (range_with_len 0 n)) e
+          ∙ sym (final-by agent v g m (prog.Pick x sort p) (Pick x sort p) (prog.outs-Pick x sort p));
+    };
+    closed = fits-or agent cs s.closed;
   }
 
 -- what a call gives, where its result is told by an equation
-pub end_gives : {E : Type 0} (agent : Agent) (r : Prog) (d : Cond) (result : Result Cond E) → IfOk result (λ c. c ≡ d) → IsEnd agent r d → IfOk result (IsEnd agent r)
-end_gives agent r d (Ok c) h k = subst (λ (z : Cond). IsEnd agent r z) (sym h) k
+pub end_gives : {E : Type 0} (agent : Agent) (r : Prog) (d : Cond) (result : Result Cond E) → IfOk result (λ c. c ≡ d) → IsClosedEnd agent r d → IfOk result (IsClosedEnd agent r)
+end_gives agent r d (Ok c) h k = subst (λ (z : Cond). IsClosedEnd agent r z) (sym h) k
 end_gives agent r d (Err e) h k = h
 
 -- the same of an end of another program
-pub end_of_too : {E : Type 0} (agent : Agent) (r q : Prog) (result : Result Cond E) → ((c : Cond) → IsEnd agent q c → IsEnd agent r c) → IfOk result (IsEnd agent q) → IfOk result (IsEnd agent r)
+pub end_of_too : {E : Type 0} (agent : Agent) (r q : Prog) (result : Result Cond E) → ((c : Cond) → IsClosedEnd agent q c → IsClosedEnd agent r c) → IfOk result (IsClosedEnd agent q) → IfOk result (IsClosedEnd agent r)
 end_of_too agent r q (Ok c) f h = f c h
 end_of_too agent r q (Err e) f h = h
 
-pub end_as : (agent : Agent) (r q : Prog) (c : Cond) → r ≡ q → IsEnd agent q c → IsEnd agent r c
-end_as agent r q c e h = subst (λ (z : Prog). IsEnd agent z c) (sym e) h
+pub end_as : (agent : Agent) (r q : Prog) (c : Cond) → r ≡ q → IsClosedEnd agent q c → IsClosedEnd agent r c
+end_as agent r q c e h = subst (λ (z : Prog). IsClosedEnd agent z c) (sym e) h
 
 -- both ends, each given by a call
-pub ends_given : {E : Type 0} (agent : Agent) (p q : Prog) (one other : Result Cond E) → IfOk one (IsEnd agent p) → IfOk other (IsEnd agent q)
+pub ends_given : {E : Type 0} (agent : Agent) (p q : Prog) (one other : Result Cond E) → IfOk one (IsClosedEnd agent p) → IfOk other (IsClosedEnd agent q)
     → (result : Result (Cond × Cond) E) → IfOk result (λ pair. (one ≡ Ok pair.0) × (other ≡ Ok pair.1)) → IfOk result (λ pair. AreEnds agent p q pair.0 pair.1)
 ends_given {E = E} agent p q one other h k (Ok pair) e = record {
-  one = subst (λ (r : Result Cond E). IfOk r (IsEnd agent p)) e.0 h;
-  other = subst (λ (r : Result Cond E). IfOk r (IsEnd agent q)) e.1 k;
+  one = subst (λ (r : Result Cond E). IfOk r (IsClosedEnd agent p)) e.0 h;
+  other = subst (λ (r : Result Cond E). IfOk r (IsClosedEnd agent q)) e.1 k;
 }
 ends_given agent p q one other h k (Err x) e = e
+
+-- the condition itself, and that it has no free variable
+pub end_alone : {E : Type 0} (agent : Agent) (p : Prog) (result : Result Cond E) → IfOk result (IsClosedEnd agent p) → IfOk result (IsEnd agent p)
+end_alone agent p (Ok c) h = h.end
+end_alone agent p (Err e) h = h
+
+pub end_closed : {E : Type 0} (agent : Agent) (p : Prog) (result : Result Cond E) → IfOk result (IsClosedEnd agent p) → IfOk result (λ c. fits agent c ≡ true)
+end_closed agent p (Ok c) h = h.closed
+end_closed agent p (Err e) h = h

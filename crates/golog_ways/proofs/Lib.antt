@@ -1,5 +1,6 @@
 pub mod Acting
 pub mod AllFronts
+pub mod ClosedConds
 pub mod Closing
 pub mod Ends
 pub mod Firsts

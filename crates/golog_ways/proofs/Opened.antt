@@ -21,12 +21,14 @@ use Rattle.golog_semantics.specs.Search.{final, plain_ways}
 use Rattle.golog_semantics.specs.Values.{is_possible}
 use Rattle.golog_semantics.specs.Ways.{is_empty, is_so, is_not}
 use Rattle.golog_semantics.specs.Guarded.{IsGuarded, front}
-use Rattle.golog_semantics.specs.Fronts.{AreFronts, Guarded, IsEnd, open_ways}
+use Rattle.golog_semantics.specs.Fronts.{AreFronts, Guarded, open_ways}
 use Rattle.golog_semantics.proofs.FrontLaws.{guard, open-append, open-guarded, open-lower}
 use Rattle.golog_semantics.proofs.Unfolded.{final-skips}
 use Rattle.golog_ways.specs.declared.front_lists.Front.{Front}
+use Rattle.golog_ways.specs.Ends.{IsClosedEnd}
 use Rattle.golog_ways.specs.First.{way_in}
-use Rattle.golog_ways.specs.FrontLists.{AreBothFronts, AreWhereEnds, IsPrecondition, front_in, front_where, guarded, guarded_of, last_front, none_open}
+use Rattle.golog_ways.specs.FrontLists.{AreBothFronts, AreClosedFronts, AreWhereEnds, IsPrecondition, are_closed, front_in, front_where, guarded, guarded_of, last_front, none_open}
+use Rattle.golog_ways.proofs.ClosedConds.{closed-both, closed-in, closed-one, closed-where, fits, fits-none_open, fits-not}
 use Rattle.golog_ways.proofs.Ends.{range-more, so-not}
 use Rattle.golog_ways.proofs.FrontSteps.{ways_if, ways-by}
 
@@ -116,45 +118,63 @@ open-unless agent values m high low =
 
 module _ (agent : Agent) (g : IsGuarded agent) where
   abbrev Are : Prog → List Front → Type 0
-  Are p fs = AreFronts agent p (guarded fs)
+  Are p fs = AreClosedFronts agent p fs
 
   pub nil_fronts : Are prog.Nil []
-  nil_fronts = record { ways = λ m v. sym (ways-by agent v g m prog.Nil Nil prog.outs-Nil) }
+  nil_fronts = record {
+    fronts = record { ways = λ m v. sym (ways-by agent v g m prog.Nil Nil prog.outs-Nil) };
+    closed = refl;
+  }
 
   pub search_fronts : (depth fuel : ℕ) (p : Prog) → Are (prog.Search depth fuel p) []
-  search_fronts depth fuel p = record { ways = λ m v. sym (ways-by agent v g m (prog.Search depth fuel p) (Search depth fuel p) (prog.outs-Search depth fuel p)) }
+  search_fronts depth fuel p = record {
+    fronts = record { ways = λ m v. sym (ways-by agent v g m (prog.Search depth fuel p) (Search depth fuel p) (prog.outs-Search depth fuel p)) };
+    closed = refl;
+  }
 
   pub follow_fronts : (depth fuel : ℕ) (p : Prog) (rest : List Way) → Are (prog.Follow depth fuel p rest) []
-  follow_fronts depth fuel p rest = record { ways = λ m v. sym (ways-by agent v g m (prog.Follow depth fuel p rest) (Follow depth fuel p rest) (prog.outs-Follow depth fuel p rest)) }
+  follow_fronts depth fuel p rest = record {
+    fronts = record { ways = λ m v. sym (ways-by agent v g m (prog.Follow depth fuel p rest) (Follow depth fuel p rest) (prog.outs-Follow depth fuel p rest)) };
+    closed = refl;
+  }
 
   pub act_fronts : (action : ℕ) (args : List Arg) (c : Cond) (number : ℕ) → number ≡ action_no agent action (map (arg_value (env_of [])) args) → IsPrecondition agent action args c
       → Are (prog.Act action args) (last_front c (Do number) ∷ [])
   act_fronts action args c number e h = record {
-    ways = λ m v.
-        let way : ℕ → Way = λ n. record { label = Do n; left = prog.Nil } in
-        open-cons agent v m (last_front c (Do number)) []
-        ∙ more-none (is_so agent v m c) (way number) ∙ ap (λ b. ways_if b (way number ∷ [])) (h.holds m v)
-        ∙ ap (λ n. ways_if (is_possible agent v m action (map (arg_value (env_of [])) args)) (way n ∷ [])) e
-        ∙ sym (ways-by agent v g m (prog.Act action args) (Act action args) (prog.outs-Act action args));
+    fronts = record {
+      ways = λ m v.
+          let way : ℕ → Way = λ n. record { label = Do n; left = prog.Nil } in
+          open-cons agent v m (last_front c (Do number)) []
+          ∙ more-none (is_so agent v m c) (way number) ∙ ap (λ b. ways_if b (way number ∷ [])) (h.holds m v)
+          ∙ ap (λ n. ways_if (is_possible agent v m action (map (arg_value (env_of [])) args)) (way n ∷ [])) e
+          ∙ sym (ways-by agent v g m (prog.Act action args) (Act action args) (prog.outs-Act action args));
+    };
+    closed = closed-one agent (last_front c (Do number)) h.closed;
   }
 
-  pub test_fronts : (c : Cond) → Are (prog.Test c) (last_front c Quiet ∷ [])
-  test_fronts c = record {
-    ways = λ m v.
-        open-cons agent v m (last_front c Quiet) []
-        ∙ more-none (is_so agent v m c) (record { label = Quiet; left = prog.Nil })
-        ∙ sym (ways-by agent v g m (prog.Test c) (Test c) (prog.outs-Test c));
+  pub test_fronts : (c : Cond) → fits agent c ≡ true → Are (prog.Test c) (last_front c Quiet ∷ [])
+  test_fronts c h = record {
+    fronts = record {
+      ways = λ m v.
+          open-cons agent v m (last_front c Quiet) []
+          ∙ more-none (is_so agent v m c) (record { label = Quiet; left = prog.Nil })
+          ∙ sym (ways-by agent v g m (prog.Test c) (Test c) (prog.outs-Test c));
+    };
+    closed = closed-one agent (last_front c Quiet) h;
   }
 
   -- where the first part never ends without a step, the second doesn't count
   pub seq_fronts_barred : (p q : Prog) (fs : List Front) → (front agent p).skip ≡ false → Are p fs → Are (prog.Seq p q) (map (front_in (λ l. tidy_seq l q)) fs)
   seq_fronts_barred p q fs s h = record {
-    ways = λ m v.
-        let e = h.ways m v in
-        open-in agent v m (λ l. tidy_seq l q) fs ∙ ap (map (way_in (λ l. tidy_seq l q))) e
-        ∙ sym (append-none (map (way_in (λ l. tidy_seq l q)) (plain_ways agent v m p)))
-        ∙ ap (λ b. map (way_in (λ l. tidy_seq l q)) (plain_ways agent v m p) ++ ways_if b (plain_ways agent v m q)) (sym (never m v (final agent v m p) refl))
-        ∙ sym (ways-by agent v g m (prog.Seq p q) (Seq p q) (prog.outs-Seq p q));
+    fronts = record {
+      ways = λ m v.
+          let e = h.fronts.ways m v in
+          open-in agent v m (λ l. tidy_seq l q) fs ∙ ap (map (way_in (λ l. tidy_seq l q))) e
+          ∙ sym (append-none (map (way_in (λ l. tidy_seq l q)) (plain_ways agent v m p)))
+          ∙ ap (λ b. map (way_in (λ l. tidy_seq l q)) (plain_ways agent v m p) ++ ways_if b (plain_ways agent v m q)) (sym (never m v (final agent v m p) refl))
+          ∙ sym (ways-by agent v g m (prog.Seq p q) (Seq p q) (prog.outs-Seq p q));
+    };
+    closed = closed-in agent (λ l. tidy_seq l q) fs h.closed;
   }
     where
       never : (m : Mode) (v : Values) (b : Bool) → final agent v m p ≡ b → final agent v m p ≡ false
@@ -162,34 +182,45 @@ module _ (agent : Agent) (g : IsGuarded agent) where
       never m v false e = e
 
   module _ (p q : Prog) (fs hs : List Front) (one : Are p fs) (other : Are q hs) where
-    pub seq_fronts : (c : Cond) → IsEnd agent p c → Are (prog.Seq p q) (map (front_in (λ l. tidy_seq l q)) fs ++ map (front_where c) hs)
+    pub seq_fronts : (c : Cond) → IsClosedEnd agent p c → Are (prog.Seq p q) (map (front_in (λ l. tidy_seq l q)) fs ++ map (front_where c) hs)
     seq_fronts c end = record {
-      ways = λ m v.
-          let e = open-in agent v m (λ l. tidy_seq l q) fs ∙ ap (map (way_in (λ l. tidy_seq l q))) (one.ways m v) in
-          let k = open-where agent v m c hs ∙ ap (ways_if (is_so agent v m c)) (other.ways m v) ∙ ap (λ b. ways_if b (plain_ways agent v m q)) (end.final m v) in
-          open-both agent v m (map (front_in (λ l. tidy_seq l q)) fs) (map (front_where c) hs)
-          ∙ ap (λ ws. ws ++ opened agent v m (map (front_where c) hs)) e
-          ∙ ap (λ ws. map (way_in (λ l. tidy_seq l q)) (plain_ways agent v m p) ++ ws) k
-          ∙ sym (ways-by agent v g m (prog.Seq p q) (Seq p q) (prog.outs-Seq p q));
+      fronts = record {
+        ways = λ m v.
+            let e = open-in agent v m (λ l. tidy_seq l q) fs ∙ ap (map (way_in (λ l. tidy_seq l q))) (one.fronts.ways m v) in
+            let k = open-where agent v m c hs ∙ ap (ways_if (is_so agent v m c)) (other.fronts.ways m v) ∙ ap (λ b. ways_if b (plain_ways agent v m q)) (end.end.final m v) in
+            open-both agent v m (map (front_in (λ l. tidy_seq l q)) fs) (map (front_where c) hs)
+            ∙ ap (λ ws. ws ++ opened agent v m (map (front_where c) hs)) e
+            ∙ ap (λ ws. map (way_in (λ l. tidy_seq l q)) (plain_ways agent v m p) ++ ws) k
+            ∙ sym (ways-by agent v g m (prog.Seq p q) (Seq p q) (prog.outs-Seq p q));
+      };
+      closed = closed-both agent (map (front_in (λ l. tidy_seq l q)) fs) (map (front_where c) hs) (closed-in agent (λ l. tidy_seq l q) fs one.closed)
+          (closed-where agent c hs end.closed other.closed);
     }
 
     pub choice_fronts : Are (prog.Choice p q) (fs ++ hs)
     choice_fronts = record {
-      ways = λ m v.
-          open-both agent v m fs hs ∙ ap (λ ws. ws ++ opened agent v m hs) (one.ways m v)
-          ∙ ap (λ ws. plain_ways agent v m p ++ ws) (other.ways m v)
-          ∙ sym (ways-by agent v g m (prog.Choice p q) (Choice p q) (prog.outs-Choice p q));
+      fronts = record {
+        ways = λ m v.
+            open-both agent v m fs hs ∙ ap (λ ws. ws ++ opened agent v m hs) (one.fronts.ways m v)
+            ∙ ap (λ ws. plain_ways agent v m p ++ ws) (other.fronts.ways m v)
+            ∙ sym (ways-by agent v g m (prog.Choice p q) (Choice p q) (prog.outs-Choice p q));
+      };
+      closed = closed-both agent fs hs one.closed other.closed;
     }
 
     pub conc_fronts : Are (prog.Conc p q) (map (front_in (λ l. tidy_conc l q)) fs ++ map (front_in (λ l. tidy_conc p l)) hs)
     conc_fronts = record {
-      ways = λ m v.
-          let e = open-in agent v m (λ l. tidy_conc l q) fs ∙ ap (map (way_in (λ l. tidy_conc l q))) (one.ways m v) in
-          let k = open-in agent v m (λ l. tidy_conc p l) hs ∙ ap (map (way_in (λ l. tidy_conc p l))) (other.ways m v) in
-          open-both agent v m (map (front_in (λ l. tidy_conc l q)) fs) (map (front_in (λ l. tidy_conc p l)) hs)
-          ∙ ap (λ ws. ws ++ opened agent v m (map (front_in (λ l. tidy_conc p l)) hs)) e
-          ∙ ap (λ ws. map (way_in (λ l. tidy_conc l q)) (plain_ways agent v m p) ++ ws) k
-          ∙ sym (ways-by agent v g m (prog.Conc p q) (Conc p q) (prog.outs-Conc p q));
+      fronts = record {
+        ways = λ m v.
+            let e = open-in agent v m (λ l. tidy_conc l q) fs ∙ ap (map (way_in (λ l. tidy_conc l q))) (one.fronts.ways m v) in
+            let k = open-in agent v m (λ l. tidy_conc p l) hs ∙ ap (map (way_in (λ l. tidy_conc p l))) (other.fronts.ways m v) in
+            open-both agent v m (map (front_in (λ l. tidy_conc l q)) fs) (map (front_in (λ l. tidy_conc p l)) hs)
+            ∙ ap (λ ws. ws ++ opened agent v m (map (front_in (λ l. tidy_conc p l)) hs)) e
+            ∙ ap (λ ws. map (way_in (λ l. tidy_conc l q)) (plain_ways agent v m p) ++ ws) k
+            ∙ sym (ways-by agent v g m (prog.Conc p q) (Conc p q) (prog.outs-Conc p q));
+      };
+      closed = closed-both agent (map (front_in (λ l. tidy_conc l q)) fs) (map (front_in (λ l. tidy_conc p l)) hs) (closed-in agent (λ l. tidy_conc l q) fs one.closed)
+          (closed-in agent (λ l. tidy_conc p l) hs other.closed);
     }
 
     map-if : (f : Prog → Prog) (b : Bool) (ws : List Way) → map (way_in f) (ways_if b ws) ≡ ways_if b (map (way_in f) ws)
@@ -198,124 +229,159 @@ module _ (agent : Agent) (g : IsGuarded agent) where
 
     pub prio_fronts : Are (prog.Prio p q) (map (front_in (λ l. tidy_prio l q)) fs ++ map (front_in (λ l. tidy_prio p l)) (map (front_where (none_open fs)) hs))
     prio_fronts = record {
-      ways = λ m v.
-          let low = map (front_where (none_open fs)) hs in
-          let e = open-in agent v m (λ l. tidy_prio l q) fs ∙ ap (map (way_in (λ l. tidy_prio l q))) (one.ways m v) in
-          let k =
-          open-in agent v m (λ l. tidy_prio p l) low ∙ ap (map (way_in (λ l. tidy_prio p l))) (open-unless agent v m fs hs)
-          ∙ map-if (λ l. tidy_prio p l) (is_empty (opened agent v (flip m) fs)) (opened agent v m hs)
-          ∙ ap (λ ws. ways_if (is_empty ws) (map (way_in (λ l. tidy_prio p l)) (opened agent v m hs))) (one.ways (flip m) v)
-          ∙ ap (λ ws. ways_if (is_empty (plain_ways agent v (flip m) p)) (map (way_in (λ l. tidy_prio p l)) ws)) (other.ways m v) in
-          open-both agent v m (map (front_in (λ l. tidy_prio l q)) fs) (map (front_in (λ l. tidy_prio p l)) low)
-          ∙ ap (λ ws. ws ++ opened agent v m (map (front_in (λ l. tidy_prio p l)) low)) e
-          ∙ ap (λ ws. map (way_in (λ l. tidy_prio l q)) (plain_ways agent v m p) ++ ws) k
-          ∙ sym (ways-by agent v g m (prog.Prio p q) (Prio p q) (prog.outs-Prio p q));
+      fronts = record {
+        ways = λ m v.
+            let low = map (front_where (none_open fs)) hs in
+            let e = open-in agent v m (λ l. tidy_prio l q) fs ∙ ap (map (way_in (λ l. tidy_prio l q))) (one.fronts.ways m v) in
+            let k =
+            open-in agent v m (λ l. tidy_prio p l) low ∙ ap (map (way_in (λ l. tidy_prio p l))) (open-unless agent v m fs hs)
+            ∙ map-if (λ l. tidy_prio p l) (is_empty (opened agent v (flip m) fs)) (opened agent v m hs)
+            ∙ ap (λ ws. ways_if (is_empty ws) (map (way_in (λ l. tidy_prio p l)) (opened agent v m hs))) (one.fronts.ways (flip m) v)
+            ∙ ap (λ ws. ways_if (is_empty (plain_ways agent v (flip m) p)) (map (way_in (λ l. tidy_prio p l)) ws)) (other.fronts.ways m v) in
+            open-both agent v m (map (front_in (λ l. tidy_prio l q)) fs) (map (front_in (λ l. tidy_prio p l)) low)
+            ∙ ap (λ ws. ws ++ opened agent v m (map (front_in (λ l. tidy_prio p l)) low)) e
+            ∙ ap (λ ws. map (way_in (λ l. tidy_prio l q)) (plain_ways agent v m p) ++ ws) k
+            ∙ sym (ways-by agent v g m (prog.Prio p q) (Prio p q) (prog.outs-Prio p q));
+      };
+      closed = let low = map (front_where (none_open fs)) hs in
+          closed-both agent (map (front_in (λ l. tidy_prio l q)) fs) (map (front_in (λ l. tidy_prio p l)) low) (closed-in agent (λ l. tidy_prio l q) fs one.closed)
+          (closed-in agent (λ l. tidy_prio p l) low (closed-where agent (none_open fs) hs (fits-none_open agent fs one.closed) other.closed));
     }
 
-    pub if_fronts : (t : Cond) → Are (prog.If t p q) (map (front_where t) fs ++ map (front_where (cond.Not t)) hs)
-    if_fronts t = record {
-      ways = λ m v.
-          let e = open-where agent v m t fs ∙ ap (ways_if (is_so agent v m t)) (one.ways m v) in
-          let k = open-where agent v m (cond.Not t) hs ∙ ap (ways_if (is_so agent v m (cond.Not t))) (other.ways m v) ∙ ap (λ b. ways_if b (plain_ways agent v m q)) (so-not agent v m t) in
-          open-both agent v m (map (front_where t) fs) (map (front_where (cond.Not t)) hs)
-          ∙ ap (λ ws. ws ++ opened agent v m (map (front_where (cond.Not t)) hs)) e
-          ∙ ap (λ ws. ways_if (is_so agent v m t) (plain_ways agent v m p) ++ ws) k
-          ∙ sym (ways-by agent v g m (prog.If t p q) (If t p q) (prog.outs-If t p q));
+    pub if_fronts : (t : Cond) → fits agent t ≡ true → Are (prog.If t p q) (map (front_where t) fs ++ map (front_where (cond.Not t)) hs)
+    if_fronts t k = record {
+      fronts = record {
+        ways = λ m v.
+            let e = open-where agent v m t fs ∙ ap (ways_if (is_so agent v m t)) (one.fronts.ways m v) in
+            let k = open-where agent v m (cond.Not t) hs ∙ ap (ways_if (is_so agent v m (cond.Not t))) (other.fronts.ways m v) ∙ ap (λ b. ways_if b (plain_ways agent v m q)) (so-not agent v m t) in
+            open-both agent v m (map (front_where t) fs) (map (front_where (cond.Not t)) hs)
+            ∙ ap (λ ws. ws ++ opened agent v m (map (front_where (cond.Not t)) hs)) e
+            ∙ ap (λ ws. ways_if (is_so agent v m t) (plain_ways agent v m p) ++ ws) k
+            ∙ sym (ways-by agent v g m (prog.If t p q) (If t p q) (prog.outs-If t p q));
+      };
+      closed = closed-both agent (map (front_where t) fs) (map (front_where (cond.Not t)) hs) (closed-where agent t fs k one.closed)
+          (closed-where agent (cond.Not t) hs (fits-not agent t k) other.closed);
     }
 
   module _ (p : Prog) (fs : List Front) (part : Are p fs) where
     pub star_fronts : Are (prog.Star p) (map (front_in (λ l. tidy_seq l (prog.Star p))) fs)
     star_fronts = record {
-      ways = λ m v.
-          open-in agent v m (λ l. tidy_seq l (prog.Star p)) fs ∙ ap (map (way_in (λ l. tidy_seq l (prog.Star p)))) (part.ways m v)
-          ∙ sym (ways-by agent v g m (prog.Star p) (Star p) (prog.outs-Star p));
+      fronts = record {
+        ways = λ m v.
+            open-in agent v m (λ l. tidy_seq l (prog.Star p)) fs ∙ ap (map (way_in (λ l. tidy_seq l (prog.Star p)))) (part.fronts.ways m v)
+            ∙ sym (ways-by agent v g m (prog.Star p) (Star p) (prog.outs-Star p));
+      };
+      closed = closed-in agent (λ l. tidy_seq l (prog.Star p)) fs part.closed;
     }
 
     pub cstar_fronts : Are (prog.Cstar p) (map (front_in (λ l. tidy_conc l (prog.Cstar p))) fs)
     cstar_fronts = record {
-      ways = λ m v.
-          open-in agent v m (λ l. tidy_conc l (prog.Cstar p)) fs ∙ ap (map (way_in (λ l. tidy_conc l (prog.Cstar p)))) (part.ways m v)
-          ∙ sym (ways-by agent v g m (prog.Cstar p) (Cstar p) (prog.outs-Cstar p));
+      fronts = record {
+        ways = λ m v.
+            open-in agent v m (λ l. tidy_conc l (prog.Cstar p)) fs ∙ ap (map (way_in (λ l. tidy_conc l (prog.Cstar p)))) (part.fronts.ways m v)
+            ∙ sym (ways-by agent v g m (prog.Cstar p) (Cstar p) (prog.outs-Cstar p));
+      };
+      closed = closed-in agent (λ l. tidy_conc l (prog.Cstar p)) fs part.closed;
     }
 
-    pub while_fronts : (t : Cond) → Are (prog.While t p) (map (front_where t) (map (front_in (λ l. tidy_seq l (prog.While t p))) fs))
-    while_fronts t = record {
-      ways = λ m v.
-          open-where agent v m t (map (front_in (λ l. tidy_seq l (prog.While t p))) fs)
-          ∙ ap (ways_if (is_so agent v m t)) (open-in agent v m (λ l. tidy_seq l (prog.While t p)) fs ∙ ap (map (way_in (λ l. tidy_seq l (prog.While t p)))) (part.ways m v))
-          ∙ sym (ways-by agent v g m (prog.While t p) (While t p) (prog.outs-While t p));
+    pub while_fronts : (t : Cond) → fits agent t ≡ true → Are (prog.While t p) (map (front_where t) (map (front_in (λ l. tidy_seq l (prog.While t p))) fs))
+    while_fronts t k = record {
+      fronts = record {
+        ways = λ m v.
+            open-where agent v m t (map (front_in (λ l. tidy_seq l (prog.While t p))) fs)
+            ∙ ap (ways_if (is_so agent v m t)) (open-in agent v m (λ l. tidy_seq l (prog.While t p)) fs ∙ ap (map (way_in (λ l. tidy_seq l (prog.While t p)))) (part.fronts.ways m v))
+            ∙ sym (ways-by agent v g m (prog.While t p) (While t p) (prog.outs-While t p));
+      };
+      closed = closed-where agent t (map (front_in (λ l. tidy_seq l (prog.While t p))) fs) k (closed-in agent (λ l. tidy_seq l (prog.While t p)) fs part.closed);
     }
 
   pub call_fronts : (item : ℕ) (args : List Arg) (fs : List Front) → Are (body_of agent item args) fs → Are (prog.Call item args) fs
-  call_fronts item args fs h = record { ways = λ m v. h.ways m v ∙ sym (ways-by agent v g m (prog.Call item args) (Call item args) (prog.outs-Call item args)) }
+  call_fronts item args fs h = record {
+    fronts = record { ways = λ m v. h.fronts.ways m v ∙ sym (ways-by agent v g m (prog.Call item args) (Call item args) (prog.outs-Call item args)) };
+    closed = h.closed;
+  }
 
 module _ (agent : Agent) (x sort : ℕ) (p : Prog) where
   -- the fronts for the constants before this one
   pub record FrontsSoFar (i : ℕ) (fs : List Front) : Type 0 where
     pub ways : (m : Mode) (v : Values) → opened agent v m fs ≡ flat_map (λ c. plain_ways agent v m (put_arg p x c)) (range_with_len 0 i)
+    pub closed : are_closed agent fs ≡ true
 
   pub no_fronts : FrontsSoFar 0 []
-  no_fronts = record { ways = λ m v. refl }
+  no_fronts = record { ways = λ m v. refl; closed = refl }
 
-  pub more_fronts : (i : ℕ) (fs hs : List Front) → AreFronts agent (put_arg p x i) (guarded hs) → FrontsSoFar i fs → FrontsSoFar (i + 1) (fs ++ hs)
+  pub more_fronts : (i : ℕ) (fs hs : List Front) → AreClosedFronts agent (put_arg p x i) hs → FrontsSoFar i fs → FrontsSoFar (i + 1) (fs ++ hs)
   more_fronts i fs hs h s = record {
     ways = λ m v.
         open-both agent v m fs hs ∙ ap (λ ws. ws ++ opened agent v m hs) (s.ways m v)
-        ∙ ap (λ ws. flat_map (λ c. plain_ways agent v m (put_arg p x c)) (range_with_len 0 i) ++ ws) (h.ways m v)
+        ∙ ap (λ ws. flat_map (λ c. plain_ways agent v m (put_arg p x c)) (range_with_len 0 i) ++ ws) (h.fronts.ways m v)
         ∙ sym (flat-more (λ c. plain_ways agent v m (put_arg p x c)) i);
+    closed = closed-both agent fs hs s.closed h.closed;
   }
 
-  pub pick_fronts : IsGuarded agent → (i : ℕ) (fs : List Front) → i ≡ sort_size agent sort → FrontsSoFar i fs → AreFronts agent (prog.Pick x sort p) (guarded fs)
+  pub pick_fronts : IsGuarded agent → (i : ℕ) (fs : List Front) → i ≡ sort_size agent sort → FrontsSoFar i fs → AreClosedFronts agent (prog.Pick x sort p) fs
   pick_fronts g i fs e s = record {
-    ways = λ m v.
-        s.ways m v ∙ ap (λ n. flat_map (λ c. plain_ways agent v m (put_arg p x c)) (range_with_len 0 n)) e
-        ∙ sym (ways-by agent v g m (prog.Pick x sort p) (Pick x sort p) (prog.outs-Pick x sort p));
+    fronts = record {
+      ways = λ m v.
+          s.ways m v ∙ ap (λ n. flat_map (λ c. plain_ways agent v m (put_arg p x c)) (range_with_len 0 n)) e
+          ∙ sym (ways-by agent v g m (prog.Pick x sort p) (Pick x sort p) (prog.outs-Pick x sort p));
+    };
+    closed = s.closed;
   }
 
 -- what a call gives, where its result is told by an equation
 pub fronts_give : {E : Type 0} (agent : Agent) (r : Prog) (hs : List Front) (result : Result (List Front) E)
-    → IfOk result (λ fs. fs ≡ hs) → AreFronts agent r (guarded hs) → IfOk result (λ fs. AreFronts agent r (guarded fs))
-fronts_give agent r hs (Ok fs) h k = subst (λ (z : List Front). AreFronts agent r (guarded z)) (sym h) k
+    → IfOk result (λ fs. fs ≡ hs) → AreClosedFronts agent r hs → IfOk result (AreClosedFronts agent r)
+fronts_give agent r hs (Ok fs) h k = subst (AreClosedFronts agent r) (sym h) k
 fronts_give agent r hs (Err e) h k = h
 
 -- the same of the fronts of another program
-pub fronts_too : {E : Type 0} (agent : Agent) (r q : Prog) (result : Result (List Front) E) → ((fs : List Front) → AreFronts agent q (guarded fs) → AreFronts agent r (guarded fs))
-    → IfOk result (λ fs. AreFronts agent q (guarded fs)) → IfOk result (λ fs. AreFronts agent r (guarded fs))
+pub fronts_too : {E : Type 0} (agent : Agent) (r q : Prog) (result : Result (List Front) E) → ((fs : List Front) → AreClosedFronts agent q fs → AreClosedFronts agent r fs)
+    → IfOk result (AreClosedFronts agent q) → IfOk result (AreClosedFronts agent r)
 fronts_too agent r q (Ok fs) f h = f fs h
 fronts_too agent r q (Err e) f h = h
 
 -- the fronts of a second part, where the first may end
-pub ends_given : {E : Type 0} (agent : Agent) (p : Prog) (fs : List Front) (end : Cond) (result : Result (List Front) E) → IsEnd agent p end
+pub ends_given : {E : Type 0} (agent : Agent) (p : Prog) (fs : List Front) (end : Cond) (result : Result (List Front) E) → IsClosedEnd agent p end
     → IfOk result (λ hs. hs ≡ map (front_where end) fs) → IfOk result (AreWhereEnds agent p fs)
 ends_given agent p fs end (Ok hs) is h = record { end = end; is = is; same = h }
 ends_given agent p fs end (Err e) is h = h
 
 -- the fronts of a sequence, each part's given by a call
-pub seq_given : {E : Type 0} (agent : Agent) → IsGuarded agent → (p q : Prog) (fs hs : List Front) → AreFronts agent p (guarded fs) → AreFronts agent q (guarded hs)
+pub seq_given : {E : Type 0} (agent : Agent) → IsGuarded agent → (p q : Prog) (fs hs : List Front) → AreClosedFronts agent p fs → AreClosedFronts agent q hs
     → (one other result : Result (List Front) E) (xs ys : List Front) → one ≡ Ok xs → other ≡ Ok ys
     → IfOk one (λ z. z ≡ map (front_in (λ l. tidy_seq l q)) fs) → IfOk other (AreWhereEnds agent p hs) → IfOk result (λ z. z ≡ xs ++ ys)
-    → IfOk result (λ z. AreFronts agent (prog.Seq p q) (guarded z))
+    → IfOk result (AreClosedFronts agent (prog.Seq p q))
 seq_given {E = E} agent g p q fs hs a b one other result xs ys e k h w is =
     let first : xs ≡ map (front_in (λ l. tidy_seq l q)) fs = subst (λ (r : Result (List Front) E). IfOk r (λ z. z ≡ map (front_in (λ l. tidy_seq l q)) fs)) e h in
     let second : AreWhereEnds agent p hs ys = subst (λ (r : Result (List Front) E). IfOk r (AreWhereEnds agent p hs)) k w in
     fronts_give agent (prog.Seq p q) (xs ++ ys) result is
-    (subst (λ (z : List Front). AreFronts agent (prog.Seq p q) (guarded z)) (sym (ap (λ (z : List Front). z ++ ys) first ∙ ap (λ (z : List Front). map (front_in (λ l. tidy_seq l q)) fs ++ z) second.same))
+    (subst (AreClosedFronts agent (prog.Seq p q)) (sym (ap (λ (z : List Front). z ++ ys) first ∙ ap (λ (z : List Front). map (front_in (λ l. tidy_seq l q)) fs ++ z) second.same))
     (seq_fronts agent g p q fs hs a b second.end second.is))
 
 -- what is said of a list of fronts, of one that equals it, and of a program that equals the other
-pub fronts_as : (agent : Agent) (r q : Prog) → r ≡ q → (fs hs : List Front) → fs ≡ hs → AreFronts agent q (guarded hs) → AreFronts agent r (guarded fs)
-fronts_as agent r q e fs hs k h = subst (λ (z : Prog). AreFronts agent z (guarded fs)) (sym e) (subst (λ (z : List Front). AreFronts agent q (guarded z)) (sym k) h)
+pub fronts_as : (agent : Agent) (r q : Prog) → r ≡ q → (fs hs : List Front) → fs ≡ hs → AreClosedFronts agent q hs → AreClosedFronts agent r fs
+fronts_as agent r q e fs hs k h = subst (λ (z : Prog). AreClosedFronts agent z fs) (sym e) (subst (AreClosedFronts agent q) (sym k) h)
 
 pub fronts_given_as : {E : Type 0} (agent : Agent) (r q : Prog) → r ≡ q → (result : Result (List Front) E)
-    → IfOk result (λ fs. AreFronts agent q (guarded fs)) → IfOk result (λ fs. AreFronts agent r (guarded fs))
-fronts_given_as agent r q e result h = subst (λ (z : Prog). IfOk result (λ fs. AreFronts agent z (guarded fs))) (sym e) h
+    → IfOk result (AreClosedFronts agent q) → IfOk result (AreClosedFronts agent r)
+fronts_given_as agent r q e result h = subst (λ (z : Prog). IfOk result (AreClosedFronts agent z)) (sym e) h
 
 -- the fronts of two programs, each given by a call
 pub both_given : {E : Type 0} (agent : Agent) (p q : Prog) (one other : Result (List Front) E)
-    → IfOk one (λ fs. AreFronts agent p (guarded fs)) → IfOk other (λ fs. AreFronts agent q (guarded fs))
+    → IfOk one (AreClosedFronts agent p) → IfOk other (AreClosedFronts agent q)
     → (result : Result (List Front × List Front) E) → IfOk result (λ pair. (one ≡ Ok pair.0) × (other ≡ Ok pair.1)) → IfOk result (λ pair. AreBothFronts agent p q pair.0 pair.1)
 both_given {E = E} agent p q one other h k (Ok pair) e = record {
-  one = subst (λ (r : Result (List Front) E). IfOk r (λ fs. AreFronts agent p (guarded fs))) e.0 h;
-  other = subst (λ (r : Result (List Front) E). IfOk r (λ fs. AreFronts agent q (guarded fs))) e.1 k;
+  one = subst (λ (r : Result (List Front) E). IfOk r (AreClosedFronts agent p)) e.0 h;
+  other = subst (λ (r : Result (List Front) E). IfOk r (AreClosedFronts agent q)) e.1 k;
 }
 both_given agent p q one other h k (Err x) e = e
+
+-- the fronts themselves, and that their conditions have no free variable
+pub fronts_alone : {E : Type 0} (agent : Agent) (p : Prog) (result : Result (List Front) E) → IfOk result (AreClosedFronts agent p) → IfOk result (λ fs. AreFronts agent p (guarded fs))
+fronts_alone agent p (Ok fs) h = h.fronts
+fronts_alone agent p (Err e) h = h
+
+pub fronts_closed : {E : Type 0} (agent : Agent) (p : Prog) (result : Result (List Front) E) → IfOk result (AreClosedFronts agent p) → IfOk result (λ fs. are_closed agent fs ≡ true)
+fronts_closed agent p (Ok fs) h = h.closed
+fronts_closed agent p (Err e) h = h

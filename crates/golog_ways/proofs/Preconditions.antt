@@ -20,6 +20,7 @@ use Rattle.golog_semantics.specs.Ways.{is_empty, is_so}
 use Rattle.golog_semantics.proofs.Tests.{and_cases}
 use Rattle.golog_ways.specs.FrontLists.{IsPrecondition}
 use Rattle.golog_ways.specs.Puts.{cond_put_args, cond_put_one}
+use Rattle.golog_ways.proofs.ClosedConds.{fits, fits-truth}
 use Rattle.golog_ways.proofs.Ends.{so-truth}
 use Rattle.golog_ways.proofs.PutTruth.{Constants, constants-fit, truth-puts}
 
@@ -80,16 +81,21 @@ module _ (agent : Agent) (action : ℕ) (args : List Arg) where
 
   -- the first item of the action decides
   pub precondition-found : {E : Type 0} (i : ℕ) (item : PossItem) → slice_get agent.poss i ≡ Some item → item.action ≡ action → Constants args → length args ≤ 3
+      → fits agent (cond_put_args item.cond 0 args) ≡ true
       → ((m : Mode) (v : Values) → is_possible agent v m action at ≡ possible_by agent v m action at (drop i agent.poss))
       → (result : Result Cond E) → IfOk result (λ c. c ≡ cond_put_args item.cond 0 args) → IfOk result (IsPrecondition agent action args)
-  precondition-found i item e s k few h (Ok c) is = record {
+  precondition-found i item e s k few fit h (Ok c) is = record {
     holds = λ m v.
         ap (is_so agent v m) is ∙ ap (holds m) (truth-puts agent v item.cond args k few)
         ∙ sym (h m v ∙ possible-here agent action at v m agent.poss i item e s);
+    closed = ap (fits agent) is ∙ fit;
   }
-  precondition-found i item e s k few h (Err x) is = is
+  precondition-found i item e s k few fit h (Err x) is = is
 
   -- an action with no item is possible
   pub precondition-none : (i : ℕ) → length agent.poss ≤ i → ((m : Mode) (v : Values) → is_possible agent v m action at ≡ possible_by agent v m action at (drop i agent.poss))
       → IsPrecondition agent action args (cond.Truth true)
-  precondition-none i le h = record { holds = λ m v. so-truth agent v m true ∙ sym (h m v ∙ possible-end agent action at v m agent.poss i le) }
+  precondition-none i le h = record {
+    holds = λ m v. so-truth agent v m true ∙ sym (h m v ∙ possible-end agent action at v m agent.poss i le);
+    closed = fits-truth agent true;
+  }

@@ -1,5 +1,6 @@
 -- Fronts in code, and lists of them as they are put together.
-use Rattle.std.specs.Prelude.{◌≡◌, ℕ, List, [], ◌∷◌, map}
+use Rattle.std.specs.Prelude.{◌≡◌, ℕ, Bool, IsTrue, List, [], ◌∷◌, map}
+use Rattle.std.specs.List.{list_all}
 use Rattle.golog_tree.specs.declared.agent.Agent.{Agent}
 use Rattle.golog_tree.specs.declared.cond.Arg.{Arg}
 use Rattle.golog_tree.specs.declared.cond.Cond.{Cond}
@@ -8,12 +9,14 @@ use Rattle.golog_tree.specs.declared.prog.Label.{Label}
 use Rattle.golog_tree.specs.declared.prog.Prog.{Prog}
 use Rattle.golog_tree.specs.declared.prog.Prog.TheVariants as prog
 use Rattle.golog_semantics.specs.declared.Mode.{Mode}
-use Rattle.golog_semantics.specs.Fronts.{AreFronts, Guarded, IsEnd, open_ways}
+use Rattle.golog_semantics.specs.Fits.{cond_fits, nothing_bound}
+use Rattle.golog_semantics.specs.Fronts.{AreFronts, Guarded, open_ways}
 use Rattle.golog_semantics.specs.Truth.{Values, arg_value, env_of}
 use Rattle.golog_semantics.specs.Values.{is_possible}
 use Rattle.golog_semantics.specs.Ways.{is_so}
 use Rattle.golog_semantics.specs.Blocks.{ways as all_ways}
 use Rattle.golog_ways.specs.declared.front_lists.Front.{Front}
+use Rattle.golog_ways.specs.Ends.{IsClosedEnd}
 
 -- a front as a step and its condition
 abbrev pub guarded_of : Front → Guarded
@@ -39,19 +42,30 @@ last_front c label = record { cond = c; label = label; left = prog.Nil }
 abbrev pub none_open : List Front → Cond
 none_open fs = cond.Not (cond.Or (map (λ f. f.cond) fs))
 
+-- the condition of each front has no free variable and is of the agent's numbers and sorts
+abbrev pub are_closed : Agent → List Front → Bool
+are_closed agent fs = list_all (λ f. cond_fits agent f.cond nothing_bound) fs
+
+-- the fronts of a program, and their conditions are such
+pub record AreClosedFronts (agent : Agent) (p : Prog) (fs : List Front) : Type 0 where
+  pub fronts : AreFronts agent p (guarded fs)
+  pub closed : IsTrue (are_closed agent fs)
+
 -- the fronts of two programs
 pub record AreBothFronts (agent : Agent) (p q : Prog) (fs hs : List Front) : Type 0 where
-  pub one : AreFronts agent p (guarded fs)
-  pub other : AreFronts agent q (guarded hs)
+  pub one : AreClosedFronts agent p fs
+  pub other : AreClosedFronts agent q hs
 
--- in every mode and at all values, the condition holds where the action is possible
+-- In every mode and at all values, the condition holds where the action is possible, and it has no free
+-- variable and is of the agent's numbers and sorts.
 pub record IsPrecondition (agent : Agent) (action : ℕ) (args : List Arg) (c : Cond) : Type 0 where
   pub holds : (m : Mode) (values : Values) → is_so agent values m c ≡ is_possible agent values m action (map (arg_value (env_of [])) args)
+  pub closed : IsTrue (cond_fits agent c nothing_bound)
 
 -- the fronts of a second part, where the first may end
 pub record AreWhereEnds (agent : Agent) (p : Prog) (fs hs : List Front) : Type 0 where
   pub end : Cond
-  pub is : IsEnd agent p end
+  pub is : IsClosedEnd agent p end
   pub same : hs ≡ map (front_where end) fs
 
 -- in every mode and at all values, the ways, with those of search blocks, are the fronts whose condition holds

@@ -1,8 +1,9 @@
-ghost use Rattle.std.specs.Prelude.{◌≡◌, IfOk};
+ghost use Rattle.std.specs.Prelude.{◌≡◌, IfOk, IsTrue};
+ghost use Rattle.golog_semantics.specs.Fits.{cond_fits, nothing_bound};
 ghost use Rattle.golog_semantics.specs.Fronts.{IsEnd};
 ghost use Rattle.golog_semantics.specs.WellFormed.{WellFormed};
 ghost use Rattle.golog_ways.specs.Closed.{IsFit, IsClosed};
-ghost use Rattle.golog_ways.specs.Ends.{AreEnds};
+ghost use Rattle.golog_ways.specs.Ends.{AreEnds, IsClosedEnd};
 
 use crate::blocks::may_skip;
 use crate::bodies::body_of;
@@ -16,7 +17,7 @@ use std::alloc::Global;
 pub fn end_of(alloc: Global, agent: &Agent, prog: &Prog) -> Result<Cond, NoMemory>
     requires fit { IsFit agent.now }
     requires closed { IsClosed agent.now prog.now }
-    ensures { IfOk result (IsEnd agent.now prog.now) }
+    ensures { IfOk result (IsClosedEnd agent.now prog.now) }
 {
     match prog {
         Prog::Nil => Ok(Cond::Truth(true)),
@@ -69,7 +70,7 @@ fn ends(alloc: Global, agent: &Agent, one: &Prog, other: &Prog) -> Result<(Cond,
 fn end_of_seq(alloc: Global, agent: &Agent, one: &Prog, other: &Prog) -> Result<Cond, NoMemory>
     requires fit { IsFit agent.now }
     requires closed { IsClosed agent.now (Prog.Seq one.now other.now) }
-    ensures { IfOk result (IsEnd agent.now (Prog.Seq one.now other.now)) }
+    ensures { IfOk result (IsClosedEnd agent.now (Prog.Seq one.now other.now)) }
 {
     if may_skip(agent, one) {
         let (one, other) = ends(alloc, agent, one, other)?;
@@ -84,7 +85,7 @@ fn end_of_seq(alloc: Global, agent: &Agent, one: &Prog, other: &Prog) -> Result<
 fn end_of_put(alloc: Global, agent: &Agent, prog: Prog) -> Result<Cond, NoMemory>
     requires fit { IsFit agent.now }
     requires closed { IsClosed agent.now prog }
-    ensures { IfOk result (IsEnd agent.now prog) }
+    ensures { IfOk result (IsClosedEnd agent.now prog) }
 {
     end_of(alloc, agent, &prog)
 }
@@ -99,7 +100,7 @@ fn end_of_pick(
 ) -> Result<Cond, NoMemory>
     requires fit { IsFit agent.now }
     requires closed { IsClosed agent.now (Prog.Pick var sort body.now) }
-    ensures { IfOk result (IsEnd agent.now (Prog.Pick var sort body.now)) }
+    ensures { IfOk result (IsClosedEnd agent.now (Prog.Pick var sort body.now)) }
 {
     let mut ends = List::new(alloc);
     for constant in 0..sort_size(agent, sort) {
@@ -114,18 +115,19 @@ fn end_of_pick(
 fn end_of_call(alloc: Global, agent: &Agent, item: u32, args: &[Arg]) -> Result<Cond, NoMemory>
     requires fit { IsFit agent.now }
     requires closed { IsClosed agent.now (Prog.Call item args.now) }
-    ensures { IfOk result (IsEnd agent.now (Prog.Call item args.now)) }
+    ensures { IfOk result (IsClosedEnd agent.now (Prog.Call item args.now)) }
 {
     let body = body_of(alloc, agent, item, args)?;
     end_of_put(alloc, agent, body)
 }
 
 /// The condition under which a program may end: in every mode and at all values, it may end exactly where
-/// the condition holds.
+/// the condition holds. It has no free variable and stays inside the agent's numbers and sorts.
 pub fn end_cond(alloc: Global, agent: &Agent, prog: &Prog) -> Result<Cond, NoMemory>
     requires agent { WellFormed agent.now }
     requires program { IsClosed agent.now prog.now }
-    ensures { IfOk result (IsEnd agent.now prog.now) }
+    ensures end { IfOk result (IsEnd agent.now prog.now) }
+    ensures closed { IfOk result (λ c. IsTrue (cond_fits agent.now c nothing_bound)) }
 {
     end_of(alloc, agent, prog)
 }

@@ -1,8 +1,7 @@
 ghost use Rattle.std.specs.Prelude.{◌≡◌, [], ◌∷◌, ◌++◌, ◌≤◌, length, map, IfOk};
 ghost use Rattle.golog_tree.specs.Tidy.{tidy_seq as seq_of, tidy_conc as conc_of, tidy_prio as prio_of};
-ghost use Rattle.golog_semantics.specs.Fronts.{AreFronts};
 ghost use Rattle.golog_ways.specs.Closed.{IsFit, IsClosed};
-ghost use Rattle.golog_ways.specs.FrontLists.{AreWhereEnds, IsPrecondition, front_in, front_where, guarded, last_front, none_open as none_of_these};
+ghost use Rattle.golog_ways.specs.FrontLists.{AreClosedFronts, AreWhereEnds, IsPrecondition, front_in, front_where, last_front, none_open as none_of_these};
 ghost use Rattle.golog_ways.specs.Puts.{cond_put_args, cond_put_one};
 
 use crate::combining::{negation_of, pair_of};
@@ -83,7 +82,7 @@ pub fn act_front(
 ) -> Result<List<Front>, NoMemory>
     requires fit { IsFit agent.now }
     requires closed { IsClosed agent.now (Prog.Act action args.now) }
-    ensures { IfOk result (λ fs. AreFronts agent.now (Prog.Act action args.now) (guarded fs)) }
+    ensures { IfOk result (AreClosedFronts agent.now (Prog.Act action args.now)) }
 {
     let constants = Env::new().arg_values(args);
     let number = action_no(agent, action, &constants[..args.len()]);
@@ -125,9 +124,9 @@ pub fn in_sequence(
 ) -> Result<List<Front>, NoMemory>
     requires fit { IsFit agent.now }
     requires closed { IsClosed agent.now one.now }
-    requires ones { AreFronts agent.now one.now (guarded ones) }
-    requires others { AreFronts agent.now other.now (guarded others) }
-    ensures { IfOk result (λ fs. AreFronts agent.now (Prog.Seq one.now other.now) (guarded fs)) }
+    requires ones { AreClosedFronts agent.now one.now ones }
+    requires others { AreClosedFronts agent.now other.now others }
+    ensures { IfOk result (AreClosedFronts agent.now (Prog.Seq one.now other.now)) }
 {
     let ones = fronts_at(alloc, Place::Before, ones.as_slice(), other);
     let others = where_ends(alloc, agent, others.as_slice(), one);

@@ -1,9 +1,10 @@
-ghost use Rattle.std.specs.Prelude.{◌≡◌, false, IfOk};
+ghost use Rattle.std.specs.Prelude.{◌≡◌, false, IfOk, IsTrue};
 ghost use Rattle.golog_semantics.specs.Fronts.{AreFronts};
 ghost use Rattle.golog_semantics.specs.WellFormed.{WellFormed};
 ghost use Rattle.golog_ways.specs.Closed.{IsFit, IsClosed};
 ghost use Rattle.golog_ways.specs.FrontBlock.{has_front_block};
-ghost use Rattle.golog_ways.specs.FrontLists.{AreAllFronts, AreBothFronts, guarded};
+ghost use Rattle.golog_ways.specs.FrontLists.{AreAllFronts, AreBothFronts, AreClosedFronts};
+ghost use Rattle.golog_ways.specs.FrontLists.{are_closed, guarded};
 
 use crate::blocks::may_skip;
 use crate::bodies::body_of;
@@ -23,7 +24,7 @@ use std::alloc::Global;
 fn fronts_of(alloc: Global, agent: &Agent, prog: &Prog) -> Result<List<Front>, NoMemory>
     requires fit { IsFit agent.now }
     requires closed { IsClosed agent.now prog.now }
-    ensures { IfOk result (λ fs. AreFronts agent.now prog.now (guarded fs)) }
+    ensures { IfOk result (AreClosedFronts agent.now prog.now) }
 {
     match prog {
         Prog::Nil => Ok(List::new(alloc)),
@@ -86,7 +87,7 @@ fn fronts_of_seq(
 ) -> Result<List<Front>, NoMemory>
     requires fit { IsFit agent.now }
     requires closed { IsClosed agent.now (Prog.Seq one.now other.now) }
-    ensures { IfOk result (λ fs. AreFronts agent.now (Prog.Seq one.now other.now) (guarded fs)) }
+    ensures { IfOk result (AreClosedFronts agent.now (Prog.Seq one.now other.now)) }
 {
     if may_skip(agent, one) {
         let (ones, others) = fronts_of_both(alloc, agent, one, other)?;
@@ -106,7 +107,7 @@ fn fronts_of_conc(
 ) -> Result<List<Front>, NoMemory>
     requires fit { IsFit agent.now }
     requires closed { IsClosed agent.now (Prog.Conc one.now other.now) }
-    ensures { IfOk result (λ fs. AreFronts agent.now (Prog.Conc one.now other.now) (guarded fs)) }
+    ensures { IfOk result (AreClosedFronts agent.now (Prog.Conc one.now other.now)) }
 {
     let (ones, others) = fronts_of_both(alloc, agent, one, other)?;
     side_by_side(alloc, ones, others, one, other)
@@ -121,7 +122,7 @@ fn fronts_of_prio(
 ) -> Result<List<Front>, NoMemory>
     requires fit { IsFit agent.now }
     requires closed { IsClosed agent.now (Prog.Prio high.now low.now) }
-    ensures { IfOk result (λ fs. AreFronts agent.now (Prog.Prio high.now low.now) (guarded fs)) }
+    ensures { IfOk result (AreClosedFronts agent.now (Prog.Prio high.now low.now)) }
 {
     let (highs, lows) = fronts_of_both(alloc, agent, high, low)?;
     one_over_other(alloc, highs, lows, high, low)
@@ -132,7 +133,7 @@ fn fronts_of_prio(
 fn fronts_of_put(alloc: Global, agent: &Agent, prog: Prog) -> Result<List<Front>, NoMemory>
     requires fit { IsFit agent.now }
     requires closed { IsClosed agent.now prog }
-    ensures { IfOk result (λ fs. AreFronts agent.now prog (guarded fs)) }
+    ensures { IfOk result (AreClosedFronts agent.now prog) }
 {
     fronts_of(alloc, agent, &prog)
 }
@@ -147,7 +148,7 @@ fn fronts_of_pick(
 ) -> Result<List<Front>, NoMemory>
     requires fit { IsFit agent.now }
     requires closed { IsClosed agent.now (Prog.Pick var sort body.now) }
-    ensures { IfOk result (λ fs. AreFronts agent.now (Prog.Pick var sort body.now) (guarded fs)) }
+    ensures { IfOk result (AreClosedFronts agent.now (Prog.Pick var sort body.now)) }
 {
     let mut all = List::new(alloc);
     for constant in 0..sort_size(agent, sort) {
@@ -167,21 +168,23 @@ fn fronts_of_call(
 ) -> Result<List<Front>, NoMemory>
     requires fit { IsFit agent.now }
     requires closed { IsClosed agent.now (Prog.Call item args.now) }
-    ensures { IfOk result (λ fs. AreFronts agent.now (Prog.Call item args.now) (guarded fs)) }
+    ensures { IfOk result (AreClosedFronts agent.now (Prog.Call item args.now)) }
 {
     let body = body_of(alloc, agent, item, args)?;
     fronts_of_put(alloc, agent, body)
 }
 
 /// The steps of a program, each with the condition under which it may be taken: in every mode and at all
-/// values, the steps of the program are those whose condition holds, in order. Steps of search blocks are
-/// not among them, so no block may stand at the front.
+/// values, the steps of the program are those whose condition holds, in order. The conditions have no free
+/// variable and stay inside the agent's numbers and sorts. Steps of search blocks are not among them, so no
+/// block may stand at the front.
 pub fn fronts(alloc: Global, agent: &Agent, prog: &Prog) -> Result<List<Front>, NoMemory>
     requires agent { WellFormed agent.now }
     requires program { IsClosed agent.now prog.now }
     requires free { has_front_block agent.now prog.now ≡ false }
     ensures ways { IfOk result (λ fs. AreFronts agent.now prog.now (guarded fs)) }
     ensures all { IfOk result (λ fs. AreAllFronts agent.now prog.now (guarded fs)) }
+    ensures closed { IfOk result (λ fs. IsTrue (are_closed agent.now fs)) }
 {
     fronts_of(alloc, agent, prog)
 }

@@ -4,10 +4,9 @@ use Rattle.golog_tree.specs.declared.cond.Cond.TheVariants as cond
 use Rattle.golog_tree.specs.declared.prog.Prog.{Prog}
 use Rattle.golog_tree.specs.declared.prog.Prog.TheVariants as prog
 use Rattle.golog_tree.specs.Ground.{sort_size}
-use Rattle.golog_semantics.specs.Fronts.{IsEnd}
 use Rattle.golog_semantics.specs.Guarded.{front}
 use Rattle.golog_semantics.specs.Program.{put_arg, body_of}
-use Rattle.golog_ways.specs.Ends.{AreEnds}
+use Rattle.golog_ways.specs.Ends.{IsClosedEnd}
 use Rattle.golog_ways.proofs.Closing.{choice_parts, conc_parts, prio_parts, seq_parts, search_part, follow_part, if_parts, while_parts, pick_part, call_part, call_few}
 use Rattle.golog_ways.proofs.Ends.{EndsSoFar, act_end, call_end, choice_end, conc_end, cstar_end, end_as, end_gives, end_of_too, ends_given, follow_end, if_end, more_ends, nil_end, no_ends, pick_end, prio_end, search_end, seq_end, seq_end_barred, star_end, test_end, while_end}
 use Rattle.golog_ways.proofs.Moved.{one_same, two_same, closed_as}
@@ -48,7 +47,7 @@ end_of-returns-in-Seq t c =
     let a = c.get.result.now in
     let b = c.get-in-Seq.result.now in
     let e = two_same (prog.Seq) c.args.prog.now c.in-Seq.one c.in-Seq.other a b c.in-Seq.is c.get.ensures c.get-in-Seq.ensures in
-    subst (λ (z : Prog). IfOk c.end_of_seq.result (IsEnd c.args.agent.now z)) (sym e) c.end_of_seq.ensures
+    subst (λ (z : Prog). IfOk c.end_of_seq.result (IsClosedEnd c.args.agent.now z)) (sym e) c.end_of_seq.ensures
 
 pub end_of-ends-requires : goal.end_of-ends-requires
 end_of-ends-requires t c =
@@ -131,8 +130,9 @@ end_of-returns-in_ok-yes-in-If t c =
     let a = c.get-in-If.result.now in
     let b = c.get-in-If-2.result.now in
     let e = two_same (prog.If c.in-If.cond) c.args.prog.now c.in-If.yes c.in-If.no a b c.in-If.is c.get-in-If.ensures c.get-in-If-2.ensures in
+    let parts = if_parts c.args.agent.now c.args.prog.now c.in-If.cond a b c.requires.closed e in
     end_gives c.args.agent.now c.args.prog.now (cond.Or (cond.And (c.in-If.cond ∷ c.in_ok-yes-in-If.yes ∷ []) ∷ cond.And (cond.Not c.in-If.cond ∷ c.in_ok-yes-in-If.no ∷ []) ∷ [])) c.by_cases.result c.by_cases.ensures
-    (end_as c.args.agent.now c.args.prog.now (prog.If c.in-If.cond a b) (cond.Or (cond.And (c.in-If.cond ∷ c.in_ok-yes-in-If.yes ∷ []) ∷ cond.And (cond.Not c.in-If.cond ∷ c.in_ok-yes-in-If.no ∷ []) ∷ [])) e (if_end c.args.agent.now c.requires.fit.guarded a b c.in_ok-yes-in-If.yes c.in_ok-yes-in-If.no c.in_ok-yes-in-If.ensures.one c.in_ok-yes-in-If.ensures.other c.in-If.cond))
+    (end_as c.args.agent.now c.args.prog.now (prog.If c.in-If.cond a b) (cond.Or (cond.And (c.in-If.cond ∷ c.in_ok-yes-in-If.yes ∷ []) ∷ cond.And (cond.Not c.in-If.cond ∷ c.in_ok-yes-in-If.no ∷ []) ∷ [])) e (if_end c.args.agent.now c.requires.fit.guarded a b c.in_ok-yes-in-If.yes c.in_ok-yes-in-If.no c.in_ok-yes-in-If.ensures.one c.in_ok-yes-in-If.ensures.other c.in-If.cond parts.cond))
 
 pub end_of-end_of-requires : goal.end_of-end_of-requires
 end_of-end_of-requires t c =
@@ -148,8 +148,9 @@ pub end_of-returns-in_ok-body-in-While : goal.end_of-returns-in_ok-body-in-While
 end_of-returns-in_ok-body-in-While t c =
     let a = c.get-in-While.result.now in
     let e = one_same (prog.While c.in-While.cond) c.args.prog.now c.in-While.body a c.in-While.is c.get-in-While.ensures in
+    let parts = while_parts c.args.agent.now c.args.prog.now c.in-While.cond a c.requires.closed e in
     end_gives c.args.agent.now c.args.prog.now (cond.Or (cond.Not c.in-While.cond ∷ c.in_ok-body-in-While.body ∷ [])) c.implied.result c.implied.ensures
-    (end_as c.args.agent.now c.args.prog.now (prog.While c.in-While.cond a) (cond.Or (cond.Not c.in-While.cond ∷ c.in_ok-body-in-While.body ∷ [])) e (while_end c.args.agent.now c.requires.fit.guarded c.in-While.cond a c.in_ok-body-in-While.body c.in_ok-body-in-While.ensures))
+    (end_as c.args.agent.now c.args.prog.now (prog.While c.in-While.cond a) (cond.Or (cond.Not c.in-While.cond ∷ c.in_ok-body-in-While.body ∷ [])) e (while_end c.args.agent.now c.requires.fit.guarded c.in-While.cond parts.cond a c.in_ok-body-in-While.body c.in_ok-body-in-While.ensures))
 
 pub end_of-end_of_pick-requires : goal.end_of-end_of_pick-requires
 end_of-end_of_pick-requires t c =
@@ -164,7 +165,7 @@ pub end_of-returns-in-Pick : goal.end_of-returns-in-Pick
 end_of-returns-in-Pick t c =
     let a = c.get-in-Pick.result.now in
     let e = one_same (prog.Pick c.in-Pick.var c.in-Pick.sort) c.args.prog.now c.in-Pick.body a c.in-Pick.is c.get-in-Pick.ensures in
-    subst (λ (z : Prog). IfOk c.end_of_pick.result (IsEnd c.args.agent.now z)) (sym e) c.end_of_pick.ensures
+    subst (λ (z : Prog). IfOk c.end_of_pick.result (IsClosedEnd c.args.agent.now z)) (sym e) c.end_of_pick.ensures
 
 pub end_of-end_of_call-requires : goal.end_of-end_of_call-requires
 end_of-end_of_call-requires t c =
@@ -179,7 +180,7 @@ pub end_of-returns-in-Call : goal.end_of-returns-in-Call
 end_of-returns-in-Call t c =
     let a = c.as_slice.result.now in
     let e = c.in-Call.is ∙ ap (prog.Call c.in-Call.item) (sym c.as_slice.ensures) in
-    subst (λ (z : Prog). IfOk c.end_of_call.result (IsEnd c.args.agent.now z)) (sym e) c.end_of_call.ensures
+    subst (λ (z : Prog). IfOk c.end_of_call.result (IsClosedEnd c.args.agent.now z)) (sym e) c.end_of_call.ensures
 
 pub end_of-end_of-requires-in-Search : goal.end_of-end_of-requires-in-Search
 end_of-end_of-requires-in-Search t c =
@@ -195,7 +196,7 @@ pub end_of-returns-in-Search : goal.end_of-returns-in-Search
 end_of-returns-in-Search t c =
     let a = c.get-in-Search.result.now in
     let e = one_same (prog.Search c.in-Search.depth c.in-Search.fuel) c.args.prog.now c.in-Search.body a c.in-Search.is c.get-in-Search.ensures in
-    subst (λ (z : Prog). IfOk c.end_of-in-Search.result (IsEnd c.args.agent.now z)) (sym e)
+    subst (λ (z : Prog). IfOk c.end_of-in-Search.result (IsClosedEnd c.args.agent.now z)) (sym e)
     (end_of_too c.args.agent.now (prog.Search c.in-Search.depth c.in-Search.fuel a) a c.end_of-in-Search.result (search_end c.args.agent.now c.requires.fit.guarded c.in-Search.depth c.in-Search.fuel a) c.end_of-in-Search.ensures)
 
 pub end_of-end_of-requires-in-Follow : goal.end_of-end_of-requires-in-Follow
@@ -212,7 +213,7 @@ pub end_of-returns-in-Follow : goal.end_of-returns-in-Follow
 end_of-returns-in-Follow t c =
     let a = c.get-in-Follow.result.now in
     let e = one_same (λ (z : Prog). prog.Follow c.in-Follow.depth c.in-Follow.fuel z c.in-Follow.rest) c.args.prog.now c.in-Follow.body a c.in-Follow.is c.get-in-Follow.ensures in
-    subst (λ (z : Prog). IfOk c.end_of-in-Follow.result (IsEnd c.args.agent.now z)) (sym e)
+    subst (λ (z : Prog). IfOk c.end_of-in-Follow.result (IsClosedEnd c.args.agent.now z)) (sym e)
     (end_of_too c.args.agent.now (prog.Follow c.in-Follow.depth c.in-Follow.fuel a c.in-Follow.rest) a c.end_of-in-Follow.result (λ d. follow_end c.args.agent.now c.requires.fit.guarded c.in-Follow.depth c.in-Follow.fuel a c.in-Follow.rest d) c.end_of-in-Follow.ensures)
 
 pub ends-end_of-one-requires : goal.ends-end_of-one-requires
@@ -272,7 +273,7 @@ end_of_pick-end_of_put-requires t c =
 
 pub end_of_pick-loop-constant-preserved : goal.end_of_pick-loop-constant-preserved
 end_of_pick-loop-constant-preserved t c =
-    let seen = subst (λ (z : Prog). IsEnd c.args.agent.now z c.in_ok-end.end) c.in_ok-put.ensures c.in_ok-end.ensures in
+    let seen = subst (λ (z : Prog). IsClosedEnd c.args.agent.now z c.in_ok-end.end) c.in_ok-put.ensures c.in_ok-end.ensures in
     subst (λ (z : List Cond). EndsSoFar c.args.agent.now c.args.var c.args.sort c.args.body.now (c.loop-constant.constant + 1) z) (sym c.in_ok-push.ensures.ok)
     (more_ends c.args.agent.now c.args.var c.args.sort c.args.body.now c.loop-constant.constant c.loop-constant.ends c.in_ok-end.end seen c.loop-constant.invariant)
 
@@ -296,5 +297,5 @@ end_of_call-end_of_put-requires t c =
 
 pub end_of_call-returns : goal.end_of_call-returns
 end_of_call-returns t c =
-    let here = subst (λ (z : Prog). IfOk c.end_of_put.result (IsEnd c.args.agent.now z)) c.in_ok-body.ensures c.end_of_put.ensures in
+    let here = subst (λ (z : Prog). IfOk c.end_of_put.result (IsClosedEnd c.args.agent.now z)) c.in_ok-body.ensures c.end_of_put.ensures in
     end_of_too c.args.agent.now (prog.Call c.args.item c.args.args.now) (body_of c.args.agent.now c.args.item c.args.args.now) c.end_of_put.result (call_end c.args.agent.now c.requires.fit.guarded c.args.item c.args.args.now) here

@@ -1,5 +1,14 @@
+use Rattle.golog_ways.proofs.Ends.{end_alone, end_closed}
 use Rattle.golog_ways.proofs.WellFormedFits.{well_formed_fits}
 use Rattle.golog_ways.proofs.ending.end_cond.Goals as goal
+
+pub returns-clause-end : goal.returns-clause-end
+returns-clause-end c =
+    end_alone c.args.agent.now c.args.prog.now c.end_of.result c.end_of.ensures
+
+pub returns-clause-closed : goal.returns-clause-closed
+returns-clause-closed c =
+    end_closed c.args.agent.now c.args.prog.now c.end_of.result c.end_of.ensures
 
 pub end_of-requires-clause-fit : goal.end_of-requires-clause-fit
 end_of-requires-clause-fit c = well_formed_fits c.args.agent.now c.requires.agent

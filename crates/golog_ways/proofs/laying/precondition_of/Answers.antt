@@ -4,7 +4,7 @@ use Rattle.std.proofs.lemmas.Option.{slice_get_read}
 use Rattle.golog_tree.specs.declared.agent.PossItem.{PossItem}
 use Rattle.golog_tree.specs.declared.prog.Prog.TheVariants as prog
 use Rattle.golog_semantics.specs.Truth.{arg_value, env_of}
-use Rattle.golog_ways.proofs.Acting.{action_is}
+use Rattle.golog_ways.proofs.Acting.{action_is, closed_at}
 use Rattle.golog_ways.proofs.Closing.{act_fits-of}
 use Rattle.golog_ways.proofs.Preconditions.{act_constants, possible-next, precondition-found, precondition-none}
 use Rattle.golog_ways.proofs.laying.precondition_of.Goals as goal
@@ -25,8 +25,9 @@ returns-then-item-action c =
     let inside : c.loop-item.item-index < length agent.poss = subst (λ (xs : List PossItem). c.loop-item.item-index < length xs) e c.loop-item-test.true in
     let read : item ≡ get_or agent.poss c.loop-item.item-index item = c.item-item.is ∙ ap (λ (xs : List PossItem). get_or xs c.loop-item.item-index item) e in
     let found = slice_get_read agent.poss (length agent.poss) c.loop-item.item-index item refl inside read in
-    precondition-found agent c.args.action args c.loop-item.item-index item found c.if-item-action.true (act_constants agent c.args.action args fits)
-    (action_is agent c.requires.fit c.args.action args fits).few c.loop-item.invariant c.put_args.result c.put_args.ensures
+    let is = action_is agent c.requires.fit c.args.action args fits in
+    precondition-found agent c.args.action args c.loop-item.item-index item found c.if-item-action.true (act_constants agent c.args.action args fits) is.few
+    (closed_at agent c.requires.fit c.args.action args is c.loop-item.item-index item found c.if-item-action.true) c.loop-item.invariant c.put_args.result c.put_args.ensures
 
 pub loop-item-preserved : goal.loop-item-preserved
 loop-item-preserved c =

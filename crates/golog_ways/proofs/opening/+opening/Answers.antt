@@ -5,12 +5,11 @@ use Rattle.golog_tree.specs.declared.prog.Prog.{Prog}
 use Rattle.golog_tree.specs.declared.prog.Prog.TheVariants as prog
 use Rattle.golog_tree.specs.Ground.{sort_size}
 use Rattle.golog_tree.specs.Tidy.{tidy_seq, tidy_conc, tidy_prio}
-use Rattle.golog_semantics.specs.Fronts.{AreFronts}
 use Rattle.golog_semantics.specs.Guarded.{front}
 use Rattle.golog_semantics.specs.Program.{put_arg, body_of}
 use Rattle.golog_ways.specs.declared.front_lists.Front.{Front}
-use Rattle.golog_ways.specs.FrontLists.{AreBothFronts, front_in, front_where, guarded, last_front, none_open}
-use Rattle.golog_ways.proofs.Closing.{choice_parts, conc_parts, prio_parts, seq_parts, star_part, cstar_part, if_parts, while_parts, pick_part, call_part, call_few}
+use Rattle.golog_ways.specs.FrontLists.{AreClosedFronts, front_in, front_where, last_front, none_open}
+use Rattle.golog_ways.proofs.Closing.{choice_parts, conc_parts, prio_parts, seq_parts, star_part, cstar_part, if_parts, test_fits, while_parts, pick_part, call_part, call_few}
 use Rattle.golog_ways.proofs.Opened.{FrontsSoFar, both_given, call_fronts, choice_fronts, conc_fronts, cstar_fronts, follow_fronts, fronts_as, fronts_give, fronts_given_as, fronts_too, if_fronts, more_fronts, nil_fronts, no_fronts, pick_fronts, prio_fronts, search_fronts, seq_fronts_barred, star_fronts, test_fronts, while_fronts}
 use Rattle.golog_ways.proofs.Moved.{one_same, two_same, closed_as}
 use Rattle.golog_ways.proofs.opening.+opening.Goals as goal
@@ -34,7 +33,7 @@ fronts_of-returns-in-Act t c =
 pub fronts_of-returns-in-Test : goal.fronts_of-returns-in-Test
 fronts_of-returns-in-Test t c =
     fronts_give c.args.agent.now c.args.prog.now (last_front c.in-Test.cond Quiet ∷ []) c.test_front.result c.test_front.ensures
-    (fronts_as c.args.agent.now c.args.prog.now (prog.Test c.in-Test.cond) c.in-Test.is (last_front c.in-Test.cond Quiet ∷ []) (last_front c.in-Test.cond Quiet ∷ []) refl (test_fronts c.args.agent.now c.requires.fit.guarded c.in-Test.cond))
+    (fronts_as c.args.agent.now c.args.prog.now (prog.Test c.in-Test.cond) c.in-Test.is (last_front c.in-Test.cond Quiet ∷ []) (last_front c.in-Test.cond Quiet ∷ []) refl (test_fronts c.args.agent.now c.requires.fit.guarded c.in-Test.cond (test_fits c.args.agent.now c.args.prog.now c.in-Test.cond c.requires.closed c.in-Test.is)))
 
 pub fronts_of-fronts_of_conc-requires : goal.fronts_of-fronts_of_conc-requires
 fronts_of-fronts_of_conc-requires t c =
@@ -126,8 +125,9 @@ fronts_of-returns-in_ok-yes-in-If t c =
     let a = c.get-in-If.result.now in
     let b = c.get-in-If-2.result.now in
     let e = two_same (prog.If c.in-If.cond) c.args.prog.now c.in-If.yes c.in-If.no a b c.in-If.is c.get-in-If.ensures c.get-in-If-2.ensures in
+    let parts = if_parts c.args.agent.now c.args.prog.now c.in-If.cond a b c.requires.closed e in
     fronts_give c.args.agent.now c.args.prog.now (map (front_where c.in-If.cond) c.in_ok-yes-in-If.yes ++ map (front_where (cond.Not c.in-If.cond)) c.in_ok-yes-in-If.no) c.either_way.result c.either_way.ensures
-    (fronts_as c.args.agent.now c.args.prog.now (prog.If c.in-If.cond a b) e (map (front_where c.in-If.cond) c.in_ok-yes-in-If.yes ++ map (front_where (cond.Not c.in-If.cond)) c.in_ok-yes-in-If.no) (map (front_where c.in-If.cond) c.in_ok-yes-in-If.yes ++ map (front_where (cond.Not c.in-If.cond)) c.in_ok-yes-in-If.no) refl (if_fronts c.args.agent.now c.requires.fit.guarded a b c.in_ok-yes-in-If.yes c.in_ok-yes-in-If.no c.in_ok-yes-in-If.ensures.one c.in_ok-yes-in-If.ensures.other c.in-If.cond))
+    (fronts_as c.args.agent.now c.args.prog.now (prog.If c.in-If.cond a b) e (map (front_where c.in-If.cond) c.in_ok-yes-in-If.yes ++ map (front_where (cond.Not c.in-If.cond)) c.in_ok-yes-in-If.no) (map (front_where c.in-If.cond) c.in_ok-yes-in-If.yes ++ map (front_where (cond.Not c.in-If.cond)) c.in_ok-yes-in-If.no) refl (if_fronts c.args.agent.now c.requires.fit.guarded a b c.in_ok-yes-in-If.yes c.in_ok-yes-in-If.no c.in_ok-yes-in-If.ensures.one c.in_ok-yes-in-If.ensures.other c.in-If.cond parts.cond))
 
 pub fronts_of-fronts_of-requires : goal.fronts_of-fronts_of-requires
 fronts_of-fronts_of-requires t c =
@@ -143,7 +143,8 @@ pub fronts_of-returns-in_ok-steps-in-While : goal.fronts_of-returns-in_ok-steps-
 fronts_of-returns-in_ok-steps-in-While t c =
     let a = c.get-in-While.result.now in
     let e = one_same (prog.While c.in-While.cond) c.args.prog.now c.in-While.body a c.in-While.is c.get-in-While.ensures in
-    let here = subst (λ (z : Prog). AreFronts c.args.agent.now z (guarded (map (front_where c.in-While.cond) (map (front_in (λ l. tidy_seq l z)) c.in_ok-steps-in-While.steps)))) (sym e) (while_fronts c.args.agent.now c.requires.fit.guarded a c.in_ok-steps-in-While.steps c.in_ok-steps-in-While.ensures c.in-While.cond) in
+    let parts = while_parts c.args.agent.now c.args.prog.now c.in-While.cond a c.requires.closed e in
+    let here = subst (λ (z : Prog). AreClosedFronts c.args.agent.now z (map (front_where c.in-While.cond) (map (front_in (λ l. tidy_seq l z)) c.in_ok-steps-in-While.steps))) (sym e) (while_fronts c.args.agent.now c.requires.fit.guarded a c.in_ok-steps-in-While.steps c.in_ok-steps-in-While.ensures c.in-While.cond parts.cond) in
     fronts_give c.args.agent.now c.args.prog.now (map (front_where c.in-While.cond) (map (front_in (λ l. tidy_seq l c.args.prog.now)) c.in_ok-steps-in-While.steps)) c.while_holds.result c.while_holds.ensures here
 
 pub fronts_of-fronts_of-requires-in-Star : goal.fronts_of-fronts_of-requires-in-Star
@@ -160,8 +161,8 @@ pub fronts_of-returns-in_ok-steps-in-Star : goal.fronts_of-returns-in_ok-steps-i
 fronts_of-returns-in_ok-steps-in-Star t c =
     let a = c.get-in-Star.result.now in
     let e = one_same (prog.Star) c.args.prog.now c.in-Star.body a c.in-Star.is c.get-in-Star.ensures in
-    let here = subst (λ (z : Prog). AreFronts c.args.agent.now z (guarded (map (front_in (λ l. tidy_seq l z)) c.in_ok-steps-in-Star.steps))) (sym e) (star_fronts c.args.agent.now c.requires.fit.guarded a c.in_ok-steps-in-Star.steps c.in_ok-steps-in-Star.ensures) in
-    let listed = subst (λ (z : List Front). AreFronts c.args.agent.now c.args.prog.now (guarded (map (front_in (λ l. tidy_seq l c.args.prog.now)) z))) (sym c.as_slice-in-Star.ensures) here in
+    let here = subst (λ (z : Prog). AreClosedFronts c.args.agent.now z (map (front_in (λ l. tidy_seq l z)) c.in_ok-steps-in-Star.steps)) (sym e) (star_fronts c.args.agent.now c.requires.fit.guarded a c.in_ok-steps-in-Star.steps c.in_ok-steps-in-Star.ensures) in
+    let listed = subst (λ (z : List Front). AreClosedFronts c.args.agent.now c.args.prog.now (map (front_in (λ l. tidy_seq l c.args.prog.now)) z)) (sym c.as_slice-in-Star.ensures) here in
     fronts_give c.args.agent.now c.args.prog.now (map (front_in (λ l. tidy_seq l c.args.prog.now)) c.as_slice-in-Star.result.now) c.fronts_at.result c.fronts_at.ensures listed
 
 pub fronts_of-fronts_of-requires-in-Cstar : goal.fronts_of-fronts_of-requires-in-Cstar
@@ -178,8 +179,8 @@ pub fronts_of-returns-in_ok-steps-in-Cstar : goal.fronts_of-returns-in_ok-steps-
 fronts_of-returns-in_ok-steps-in-Cstar t c =
     let a = c.get-in-Cstar.result.now in
     let e = one_same (prog.Cstar) c.args.prog.now c.in-Cstar.body a c.in-Cstar.is c.get-in-Cstar.ensures in
-    let here = subst (λ (z : Prog). AreFronts c.args.agent.now z (guarded (map (front_in (λ l. tidy_conc l z)) c.in_ok-steps-in-Cstar.steps))) (sym e) (cstar_fronts c.args.agent.now c.requires.fit.guarded a c.in_ok-steps-in-Cstar.steps c.in_ok-steps-in-Cstar.ensures) in
-    let listed = subst (λ (z : List Front). AreFronts c.args.agent.now c.args.prog.now (guarded (map (front_in (λ l. tidy_conc l c.args.prog.now)) z))) (sym c.as_slice-in-Cstar.ensures) here in
+    let here = subst (λ (z : Prog). AreClosedFronts c.args.agent.now z (map (front_in (λ l. tidy_conc l z)) c.in_ok-steps-in-Cstar.steps)) (sym e) (cstar_fronts c.args.agent.now c.requires.fit.guarded a c.in_ok-steps-in-Cstar.steps c.in_ok-steps-in-Cstar.ensures) in
+    let listed = subst (λ (z : List Front). AreClosedFronts c.args.agent.now c.args.prog.now (map (front_in (λ l. tidy_conc l c.args.prog.now)) z)) (sym c.as_slice-in-Cstar.ensures) here in
     fronts_give c.args.agent.now c.args.prog.now (map (front_in (λ l. tidy_conc l c.args.prog.now)) c.as_slice-in-Cstar.result.now) c.fronts_at-in-Cstar.result c.fronts_at-in-Cstar.ensures listed
 
 pub fronts_of-fronts_of_pick-requires : goal.fronts_of-fronts_of_pick-requires
@@ -270,7 +271,7 @@ fronts_of_seq-fronts_of-requires t c =
 pub fronts_of_seq-returns-in_ok-steps : goal.fronts_of_seq-returns-in_ok-steps
 fronts_of_seq-returns-in_ok-steps t c =
     let here = seq_fronts_barred c.args.agent.now c.requires.fit.guarded c.args.one.now c.args.other.now c.in_ok-steps.steps (sym c.may_skip.ensures ∙ c.if-may_skip.false) c.in_ok-steps.ensures in
-    let listed = subst (λ (z : List Front). AreFronts c.args.agent.now (prog.Seq c.args.one.now c.args.other.now) (guarded (map (front_in (λ l. tidy_seq l c.args.other.now)) z))) (sym c.as_slice.ensures) here in
+    let listed = subst (λ (z : List Front). AreClosedFronts c.args.agent.now (prog.Seq c.args.one.now c.args.other.now) (map (front_in (λ l. tidy_seq l c.args.other.now)) z)) (sym c.as_slice.ensures) here in
     fronts_give c.args.agent.now (prog.Seq c.args.one.now c.args.other.now) (map (front_in (λ l. tidy_seq l c.args.other.now)) c.as_slice.result.now) c.fronts_at.result c.fronts_at.ensures listed
 
 pub fronts_of_conc-fronts_of_both-requires : goal.fronts_of_conc-fronts_of_both-requires
@@ -323,7 +324,7 @@ fronts_of_pick-fronts_of_put-requires t c =
 
 pub fronts_of_pick-loop-constant-preserved : goal.fronts_of_pick-loop-constant-preserved
 fronts_of_pick-loop-constant-preserved t c =
-    let seen = subst (λ (z : Prog). AreFronts c.args.agent.now z (guarded c.in_ok-steps.steps)) c.in_ok-put.ensures c.in_ok-steps.ensures in
+    let seen = subst (λ (z : Prog). AreClosedFronts c.args.agent.now z c.in_ok-steps.steps) c.in_ok-put.ensures c.in_ok-steps.ensures in
     subst (λ (z : List Front). FrontsSoFar c.args.agent.now c.args.var c.args.sort c.args.body.now (c.loop-constant.constant + 1) z) (sym c.in_ok-all.ensures)
     (more_fronts c.args.agent.now c.args.var c.args.sort c.args.body.now c.loop-constant.constant c.loop-constant.all c.in_ok-steps.steps seen c.loop-constant.invariant)
 
@@ -347,5 +348,5 @@ fronts_of_call-fronts_of_put-requires t c =
 
 pub fronts_of_call-returns : goal.fronts_of_call-returns
 fronts_of_call-returns t c =
-    let here = subst (λ (z : Prog). IfOk c.fronts_of_put.result (λ (fs : List Front). AreFronts c.args.agent.now z (guarded fs))) c.in_ok-body.ensures c.fronts_of_put.ensures in
+    let here = subst (λ (z : Prog). IfOk c.fronts_of_put.result (AreClosedFronts c.args.agent.now z)) c.in_ok-body.ensures c.fronts_of_put.ensures in
     fronts_too c.args.agent.now (prog.Call c.args.item c.args.args.now) (body_of c.args.agent.now c.args.item c.args.args.now) c.fronts_of_put.result (call_fronts c.args.agent.now c.requires.fit.guarded c.args.item c.args.args.now) here

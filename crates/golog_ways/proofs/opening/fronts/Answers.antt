@@ -1,6 +1,15 @@
 use Rattle.golog_ways.proofs.AllFronts.{all_given}
+use Rattle.golog_ways.proofs.Opened.{fronts_alone, fronts_closed}
 use Rattle.golog_ways.proofs.WellFormedFits.{well_formed_fits}
 use Rattle.golog_ways.proofs.opening.fronts.Goals as goal
+
+pub returns-clause-ways : goal.returns-clause-ways
+returns-clause-ways c =
+    fronts_alone c.args.agent.now c.args.prog.now c.fronts_of.result c.fronts_of.ensures
+
+pub returns-clause-closed : goal.returns-clause-closed
+returns-clause-closed c =
+    fronts_closed c.args.agent.now c.args.prog.now c.fronts_of.result c.fronts_of.ensures
 
 pub returns-clause-all : goal.returns-clause-all
 returns-clause-all c =
