@@ -46,7 +46,7 @@ none_open fs = cond.Not (cond.Or (map (λ f. f.cond) fs))
 abbrev pub are_closed : Agent → List Front → Bool
 are_closed agent fs = list_all (λ f. cond_fits agent f.cond nothing_bound) fs
 
--- the fronts of a program, and their conditions are such
+-- the fronts of a program, whose conditions have no free variable and are of the agent's numbers and sorts
 pub record AreClosedFronts (agent : Agent) (p : Prog) (fs : List Front) : Type 0 where
   pub fronts : AreFronts agent p (guarded fs)
   pub closed : IsTrue (are_closed agent fs)
