@@ -225,3 +225,13 @@ fn devices_are_closed_after_the_end(rt: HostRuntime) -> Result<(), NoMemory> {
     );
     Ok(())
 }
+
+/// A type that threads share and take.
+fn is_shared<T: Send + Sync>() -> bool {
+    true
+}
+
+#[test]
+fn threads_share_journals(rt: HostRuntime) {
+    assert!(rt; is_shared::<Journal>());
+}

@@ -74,7 +74,7 @@ impl Env {
         }
     }
 
-    /// The values of at most three arguments, and zeros behind them.
+    /// The values of at most three arguments, the first of the three; those behind them mean nothing.
     pub fn arg_values(&self, args: &[Arg]) -> [u8; 3]
         requires { length args.now ≤ 3 }
         ensures { take (length args.now) result ≡ map (value_of_arg self.now) args.now }

@@ -330,7 +330,7 @@ fn read_program(
 /// The procedures and the program that an agent's form spells over its theory, which `theory_of` gives. It is
 /// refused with the code and the place of the first row that fits, in reading order, which is the least of those
 /// that fit where the parts of the form stand in order: 20 where a form has not a shape of the grammar for its
-/// place, 21 a name that is declared already, a repeated parameter or a second `main`, 22 a sort and 23 another
+/// place, 21 a name that is taken or reserved, a parameter twice or a second `main`, 22 a sort and 23 another
 /// name that no earlier item declares (procedures may be called anywhere), 24 a wrong number of arguments, 25 a
 /// limit that is passed, 26 a number out of range, and 27 at the place of the form where no item is `main`.
 /// `Memory` where memory runs out. Over a theory that keeps the rules for drafts, the program keeps them.

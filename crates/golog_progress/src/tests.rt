@@ -51,3 +51,13 @@ fn heads_are_bound_in_order(rt: HostRuntime) {
         assert_eq!(rt; bound(args, values), wanted);
     }
 }
+
+/// A type that threads share and take.
+fn is_shared<T: Send + Sync>() -> bool {
+    true
+}
+
+#[test]
+fn threads_share_states(rt: HostRuntime) {
+    assert!(rt; is_shared::<State>());
+}

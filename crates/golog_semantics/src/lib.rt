@@ -31,7 +31,11 @@ pub use step_laws::{
 /// How sure the conditions of a step are to be.
 #[derive(Clone, Copy, Debug, PartialEq, Eq)]
 pub enum Mode {
+    /// Each condition is known to be true.
     Must,
+    /// No condition is known to be false, and a search block may also go on where its search, for its depth
+    /// or for a program that nests too deep, leaves something unseen.
     May,
+    /// No condition is known to be false, and a search block goes on only where one of its runs begins.
     Near,
 }

@@ -26,10 +26,10 @@ pub const COUNT: u8 = 25;
 /// A number is no `i32`, or the least number of a sort is above its greatest.
 pub const NUMBER_RANGE: u8 = 26;
 
-/// Why a form was not read as a theory or a condition.
+/// Why a form was not read as a theory, a condition or a program.
 #[derive(Debug, Drop, Error)]
 pub enum TheoryFault {
-    /// The form is refused, with the code, 20 to 26, and its place.
+    /// The form is refused, with the code, 20 to 27, and its place.
     #[error("refused {code} at {at}")]
     Refused { code: u8, at: Place },
     /// Memory ran out.

@@ -246,12 +246,12 @@ fn read_theory(alloc: Global, form: &Form) -> Result<DraftTheory, TheoryFault>
 
 /// The theory that an agent's form spells: its items but `proc` and `main`, behind what is built in. It is
 /// refused with the code and the place of the first row that fits, in reading order, which is the least of
-/// those that fit where the parts of the form stand in order: 20 where a form has not
-/// a shape of the grammar for its place, 21 a name or an item that stands already, 22 a sort and 23 another
-/// name that is not declared, 24 a wrong number of arguments, 25 a limit that is passed, 26 a number out of
-/// range. `Memory` where memory runs out. Where the parts stand in order, as a parser leaves them, the theory
-/// keeps all rules for drafts. The places of its fluents and of its actions then stand in order too, and those
-/// within each start value, precondition, effect and sensing item ascend.
+/// those that fit where the parts of the form stand in order: 20 where a form has not a shape of the grammar
+/// for its place, 21 a name that is taken or reserved, a second item of one thing or a variable twice in one
+/// head, 22 a sort and 23 another name that is not declared, 24 a wrong number of arguments, 25 a limit that
+/// is passed, 26 a number out of range. `Memory` where memory runs out. Where the parts stand in order, as a
+/// parser leaves them, the theory keeps all rules for drafts. The places of its fluents and of its actions
+/// then stand in order too, and those within each start value, precondition, effect and sensing item ascend.
 #[tactic(auto, using(crate::proofs::Theory::laws, crate::proofs::Ordered::laws, crate::proofs::Laws::laws, crate::proofs::PlacesOfTheory::laws))]
 pub fn theory_of(alloc: Global, form: &Form) -> Result<DraftTheory, TheoryFault>
     ensures read { Answers result (theory_of form.now) }

@@ -4,7 +4,7 @@ pub const SORTS: usize = 64;
 /// The most constants of a sort.
 pub const CONSTANTS: usize = 255;
 
-/// The most arguments of a fluent or an action.
+/// The most arguments of a fluent, an action or a procedure.
 pub const ARGUMENTS: usize = 3;
 
 /// The most variables in scope.
