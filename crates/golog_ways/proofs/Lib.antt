@@ -4,11 +4,14 @@ pub mod ClosedConds
 pub mod Closing
 pub mod Ends
 pub mod Firsts
+pub mod FirstsGiven
 pub mod Fores
 pub mod FrontBlocks
+pub mod FrontLefts
 pub mod FrontSteps
 pub mod FrontsGiven
 pub mod Holding
+pub mod LeftsClosed
 pub mod Moved
 pub mod Opened
 pub mod Outlooks

@@ -1,6 +1,6 @@
 -- The ways that lists of fronts open, and the fronts of a program by those of its parts.
-use Rattle.std.proofs.Common.{◌≡◌, ℕ, ◌+◌, Bool, true, false, if◌then◌else◌, List, [], ◌∷◌, ◌++◌, map, refl, sym, ap, ◌∙◌, subst, append_assoc}
-use Rattle.std.specs.Prelude.{Result, Ok, Err, IfOk, filter}
+use Rattle.std.proofs.Common.{◌≡◌, ℕ, ◌+◌, ◌≤◌, Bool, true, false, if◌then◌else◌, List, [], ◌∷◌, ◌++◌, map, refl, sym, ap, ◌∙◌, subst, append_assoc, arith}
+use Rattle.std.specs.Prelude.{All, Result, Ok, Err, IfOk, filter}
 use Rattle.std.specs.List.{flat_map, range_with_len}
 use Rattle.golog_tree.specs.declared.agent.Agent.{Agent}
 use Rattle.golog_tree.specs.declared.cond.Arg.{Arg}
@@ -20,16 +20,20 @@ use Rattle.golog_semantics.specs.Program.{put_arg, body_of}
 use Rattle.golog_semantics.specs.Search.{final, plain_ways}
 use Rattle.golog_semantics.specs.Values.{is_possible}
 use Rattle.golog_semantics.specs.Ways.{is_empty, is_so, is_not}
+use Rattle.golog_semantics.specs.FitLaws.{ProcsFit}
 use Rattle.golog_semantics.specs.Guarded.{IsGuarded, front}
 use Rattle.golog_semantics.specs.Fronts.{AreFronts, Guarded, open_ways}
 use Rattle.golog_semantics.proofs.FrontLaws.{guard, open-append, open-guarded, open-lower}
 use Rattle.golog_semantics.proofs.Unfolded.{final-skips}
 use Rattle.golog_ways.specs.declared.front_lists.Front.{Front}
+use Rattle.golog_ways.specs.Closed.{IsClosed}
 use Rattle.golog_ways.specs.Ends.{IsClosedEnd}
 use Rattle.golog_ways.specs.First.{way_in}
-use Rattle.golog_ways.specs.FrontLists.{AreBothFronts, AreClosedFronts, AreWhereEnds, IsPrecondition, are_closed, front_in, front_where, guarded, guarded_of, last_front, none_open}
+use Rattle.golog_ways.specs.FrontLists.{AreBothFronts, AreClosedFronts, AreWhereEnds, IsPrecondition, are_closed, front_in, front_where, guarded, guarded_of, last_front, lefts_fit, none_open}
+use Rattle.golog_ways.specs.Lefts.{LeavesClosed, fits_in}
 use Rattle.golog_ways.proofs.ClosedConds.{closed-both, closed-in, closed-one, closed-where, fits, fits-none_open, fits-not}
 use Rattle.golog_ways.proofs.Ends.{range-more, so-not}
+use Rattle.golog_ways.proofs.FrontLefts.{act-own, all-leave, call-part, choice-parts, conc-fits, conc-parts, cstar-part, if-parts, lefts-both, lefts-in, lefts-one, lefts-where, nil-fits, pick-part, prio-fits, prio-parts, seq-fits, seq-parts, star-part, while-part}
 use Rattle.golog_ways.proofs.FrontSteps.{ways_if, ways-by}
 
 map-map : {A B D : Type 0} (f : A → B) (g : B → D) (xs : List A) → map g (map f xs) ≡ map (λ x. g (f x)) xs
@@ -124,18 +128,21 @@ module _ (agent : Agent) (g : IsGuarded agent) where
   nil_fronts = record {
     fronts = record { ways = λ m v. sym (ways-by agent v g m prog.Nil Nil prog.outs-Nil) };
     closed = refl;
+    lefts = λ b h. refl;
   }
 
   pub search_fronts : (depth fuel : ℕ) (p : Prog) → Are (prog.Search depth fuel p) []
   search_fronts depth fuel p = record {
     fronts = record { ways = λ m v. sym (ways-by agent v g m (prog.Search depth fuel p) (Search depth fuel p) (prog.outs-Search depth fuel p)) };
     closed = refl;
+    lefts = λ b h. refl;
   }
 
   pub follow_fronts : (depth fuel : ℕ) (p : Prog) (rest : List Way) → Are (prog.Follow depth fuel p rest) []
   follow_fronts depth fuel p rest = record {
     fronts = record { ways = λ m v. sym (ways-by agent v g m (prog.Follow depth fuel p rest) (Follow depth fuel p rest) (prog.outs-Follow depth fuel p rest)) };
     closed = refl;
+    lefts = λ b h. refl;
   }
 
   pub act_fronts : (action : ℕ) (args : List Arg) (c : Cond) (number : ℕ) → number ≡ action_no agent action (map (arg_value (env_of [])) args) → IsPrecondition agent action args c
@@ -150,6 +157,7 @@ module _ (agent : Agent) (g : IsGuarded agent) where
           ∙ sym (ways-by agent v g m (prog.Act action args) (Act action args) (prog.outs-Act action args));
     };
     closed = closed-one agent (last_front c (Do number)) h.closed;
+    lefts = λ b k. lefts-one agent b (last_front c (Do number)) (act-own agent b action args number e k) (nil-fits agent b);
   }
 
   pub test_fronts : (c : Cond) → fits agent c ≡ true → Are (prog.Test c) (last_front c Quiet ∷ [])
@@ -161,6 +169,7 @@ module _ (agent : Agent) (g : IsGuarded agent) where
           ∙ sym (ways-by agent v g m (prog.Test c) (Test c) (prog.outs-Test c));
     };
     closed = closed-one agent (last_front c Quiet) h;
+    lefts = λ b k. lefts-one agent b (last_front c Quiet) refl (nil-fits agent b);
   }
 
   -- where the first part never ends without a step, the second doesn't count
@@ -175,6 +184,7 @@ module _ (agent : Agent) (g : IsGuarded agent) where
           ∙ sym (ways-by agent v g m (prog.Seq p q) (Seq p q) (prog.outs-Seq p q));
     };
     closed = closed-in agent (λ l. tidy_seq l q) fs h.closed;
+    lefts = λ b k. let both = seq-parts agent b p q k in lefts-in agent b (λ l. tidy_seq l q) (λ l j. seq-fits agent b l q j both.1) fs (h.lefts b both.0);
   }
     where
       never : (m : Mode) (v : Values) (b : Bool) → final agent v m p ≡ b → final agent v m p ≡ false
@@ -195,6 +205,10 @@ module _ (agent : Agent) (g : IsGuarded agent) where
       };
       closed = closed-both agent (map (front_in (λ l. tidy_seq l q)) fs) (map (front_where c) hs) (closed-in agent (λ l. tidy_seq l q) fs one.closed)
           (closed-where agent c hs end.closed other.closed);
+      lefts = λ b k.
+          let both = seq-parts agent b p q k in
+          lefts-both agent b (map (front_in (λ l. tidy_seq l q)) fs) (map (front_where c) hs)
+          (lefts-in agent b (λ l. tidy_seq l q) (λ l j. seq-fits agent b l q j both.1) fs (one.lefts b both.0)) (lefts-where agent b c hs (other.lefts b both.1));
     }
 
     pub choice_fronts : Are (prog.Choice p q) (fs ++ hs)
@@ -206,6 +220,7 @@ module _ (agent : Agent) (g : IsGuarded agent) where
             ∙ sym (ways-by agent v g m (prog.Choice p q) (Choice p q) (prog.outs-Choice p q));
       };
       closed = closed-both agent fs hs one.closed other.closed;
+      lefts = λ b k. let both = choice-parts agent b p q k in lefts-both agent b fs hs (one.lefts b both.0) (other.lefts b both.1);
     }
 
     pub conc_fronts : Are (prog.Conc p q) (map (front_in (λ l. tidy_conc l q)) fs ++ map (front_in (λ l. tidy_conc p l)) hs)
@@ -221,6 +236,11 @@ module _ (agent : Agent) (g : IsGuarded agent) where
       };
       closed = closed-both agent (map (front_in (λ l. tidy_conc l q)) fs) (map (front_in (λ l. tidy_conc p l)) hs) (closed-in agent (λ l. tidy_conc l q) fs one.closed)
           (closed-in agent (λ l. tidy_conc p l) hs other.closed);
+      lefts = λ b k.
+          let both = conc-parts agent b p q k in
+          lefts-both agent b (map (front_in (λ l. tidy_conc l q)) fs) (map (front_in (λ l. tidy_conc p l)) hs)
+          (lefts-in agent b (λ l. tidy_conc l q) (λ l j. conc-fits agent b l q j both.1) fs (one.lefts b both.0))
+          (lefts-in agent b (λ l. tidy_conc p l) (λ l j. conc-fits agent b p l both.0 j) hs (other.lefts b both.1));
     }
 
     map-if : (f : Prog → Prog) (b : Bool) (ws : List Way) → map (way_in f) (ways_if b ws) ≡ ways_if b (map (way_in f) ws)
@@ -246,6 +266,12 @@ module _ (agent : Agent) (g : IsGuarded agent) where
       closed = let low = map (front_where (none_open fs)) hs in
           closed-both agent (map (front_in (λ l. tidy_prio l q)) fs) (map (front_in (λ l. tidy_prio p l)) low) (closed-in agent (λ l. tidy_prio l q) fs one.closed)
           (closed-in agent (λ l. tidy_prio p l) low (closed-where agent (none_open fs) hs (fits-none_open agent fs one.closed) other.closed));
+      lefts = λ b k.
+          let low = map (front_where (none_open fs)) hs in
+          let both = prio-parts agent b p q k in
+          lefts-both agent b (map (front_in (λ l. tidy_prio l q)) fs) (map (front_in (λ l. tidy_prio p l)) low)
+          (lefts-in agent b (λ l. tidy_prio l q) (λ l j. prio-fits agent b l q j both.1) fs (one.lefts b both.0))
+          (lefts-in agent b (λ l. tidy_prio p l) (λ l j. prio-fits agent b p l both.0 j) low (lefts-where agent b (none_open fs) hs (other.lefts b both.1)));
     }
 
     pub if_fronts : (t : Cond) → fits agent t ≡ true → Are (prog.If t p q) (map (front_where t) fs ++ map (front_where (cond.Not t)) hs)
@@ -261,6 +287,10 @@ module _ (agent : Agent) (g : IsGuarded agent) where
       };
       closed = closed-both agent (map (front_where t) fs) (map (front_where (cond.Not t)) hs) (closed-where agent t fs k one.closed)
           (closed-where agent (cond.Not t) hs (fits-not agent t k) other.closed);
+      lefts = λ b j.
+          let both = if-parts agent b t p q j in
+          lefts-both agent b (map (front_where t) fs) (map (front_where (cond.Not t)) hs)
+          (lefts-where agent b t fs (one.lefts b both.0)) (lefts-where agent b (cond.Not t) hs (other.lefts b both.1));
     }
 
   module _ (p : Prog) (fs : List Front) (part : Are p fs) where
@@ -272,6 +302,7 @@ module _ (agent : Agent) (g : IsGuarded agent) where
             ∙ sym (ways-by agent v g m (prog.Star p) (Star p) (prog.outs-Star p));
       };
       closed = closed-in agent (λ l. tidy_seq l (prog.Star p)) fs part.closed;
+      lefts = λ b k. lefts-in agent b (λ l. tidy_seq l (prog.Star p)) (λ l j. seq-fits agent b l (prog.Star p) j k) fs (part.lefts b (star-part agent b p k));
     }
 
     pub cstar_fronts : Are (prog.Cstar p) (map (front_in (λ l. tidy_conc l (prog.Cstar p))) fs)
@@ -282,6 +313,7 @@ module _ (agent : Agent) (g : IsGuarded agent) where
             ∙ sym (ways-by agent v g m (prog.Cstar p) (Cstar p) (prog.outs-Cstar p));
       };
       closed = closed-in agent (λ l. tidy_conc l (prog.Cstar p)) fs part.closed;
+      lefts = λ b k. lefts-in agent b (λ l. tidy_conc l (prog.Cstar p)) (λ l j. conc-fits agent b l (prog.Cstar p) j k) fs (part.lefts b (cstar-part agent b p k));
     }
 
     pub while_fronts : (t : Cond) → fits agent t ≡ true → Are (prog.While t p) (map (front_where t) (map (front_in (λ l. tidy_seq l (prog.While t p))) fs))
@@ -293,12 +325,16 @@ module _ (agent : Agent) (g : IsGuarded agent) where
             ∙ sym (ways-by agent v g m (prog.While t p) (While t p) (prog.outs-While t p));
       };
       closed = closed-where agent t (map (front_in (λ l. tidy_seq l (prog.While t p))) fs) k (closed-in agent (λ l. tidy_seq l (prog.While t p)) fs part.closed);
+      lefts = λ b j.
+          lefts-where agent b t (map (front_in (λ l. tidy_seq l (prog.While t p))) fs)
+          (lefts-in agent b (λ l. tidy_seq l (prog.While t p)) (λ l i. seq-fits agent b l (prog.While t p) i j) fs (part.lefts b (while-part agent b t p j)));
     }
 
-  pub call_fronts : (item : ℕ) (args : List Arg) (fs : List Front) → Are (body_of agent item args) fs → Are (prog.Call item args) fs
-  call_fronts item args fs h = record {
+  pub call_fronts : ProcsFit agent → (item : ℕ) (args : List Arg) (fs : List Front) → Are (body_of agent item args) fs → Are (prog.Call item args) fs
+  call_fronts procs item args fs h = record {
     fronts = record { ways = λ m v. h.fronts.ways m v ∙ sym (ways-by agent v g m (prog.Call item args) (Call item args) (prog.outs-Call item args)) };
     closed = h.closed;
+    lefts = λ b k. h.lefts b (call-part agent b procs item args k);
   }
 
 module _ (agent : Agent) (x sort : ℕ) (p : Prog) where
@@ -306,9 +342,10 @@ module _ (agent : Agent) (x sort : ℕ) (p : Prog) where
   pub record FrontsSoFar (i : ℕ) (fs : List Front) : Type 0 where
     pub ways : (m : Mode) (v : Values) → opened agent v m fs ≡ flat_map (λ c. plain_ways agent v m (put_arg p x c)) (range_with_len 0 i)
     pub closed : are_closed agent fs ≡ true
+    pub lefts : i ≤ sort_size agent sort → (b : Bool) → fits_in agent b (prog.Pick x sort p) ≡ true → lefts_fit agent b fs ≡ true
 
   pub no_fronts : FrontsSoFar 0 []
-  no_fronts = record { ways = λ m v. refl; closed = refl }
+  no_fronts = record { ways = λ m v. refl; closed = refl; lefts = λ l b k. refl }
 
   pub more_fronts : (i : ℕ) (fs hs : List Front) → AreClosedFronts agent (put_arg p x i) hs → FrontsSoFar i fs → FrontsSoFar (i + 1) (fs ++ hs)
   more_fronts i fs hs h s = record {
@@ -317,6 +354,7 @@ module _ (agent : Agent) (x sort : ℕ) (p : Prog) where
         ∙ ap (λ ws. flat_map (λ c. plain_ways agent v m (put_arg p x c)) (range_with_len 0 i) ++ ws) (h.fronts.ways m v)
         ∙ sym (flat-more (λ c. plain_ways agent v m (put_arg p x c)) i);
     closed = closed-both agent fs hs s.closed h.closed;
+    lefts = λ l b k. lefts-both agent b fs hs (s.lefts (omega arith) b k) (h.lefts b (pick-part agent b x sort p k i (omega arith)));
   }
 
   pub pick_fronts : IsGuarded agent → (i : ℕ) (fs : List Front) → i ≡ sort_size agent sort → FrontsSoFar i fs → AreClosedFronts agent (prog.Pick x sort p) fs
@@ -327,6 +365,7 @@ module _ (agent : Agent) (x sort : ℕ) (p : Prog) where
           ∙ sym (ways-by agent v g m (prog.Pick x sort p) (Pick x sort p) (prog.outs-Pick x sort p));
     };
     closed = s.closed;
+    lefts = s.lefts (omega arith);
   }
 
 -- what a call gives, where its result is told by an equation
@@ -377,7 +416,7 @@ both_given {E = E} agent p q one other h k (Ok pair) e = record {
 }
 both_given agent p q one other h k (Err x) e = e
 
--- the fronts themselves, and that their conditions have no free variable
+-- the fronts themselves, that their conditions have no free variable, and that what they leave is closed
 pub fronts_alone : {E : Type 0} (agent : Agent) (p : Prog) (result : Result (List Front) E) → IfOk result (AreClosedFronts agent p) → IfOk result (λ fs. AreFronts agent p (guarded fs))
 fronts_alone agent p (Ok fs) h = h.fronts
 fronts_alone agent p (Err e) h = h
@@ -385,3 +424,8 @@ fronts_alone agent p (Err e) h = h
 pub fronts_closed : {E : Type 0} (agent : Agent) (p : Prog) (result : Result (List Front) E) → IfOk result (AreClosedFronts agent p) → IfOk result (λ fs. are_closed agent fs ≡ true)
 fronts_closed agent p (Ok fs) h = h.closed
 fronts_closed agent p (Err e) h = h
+
+pub fronts_left : {E : Type 0} (agent : Agent) (p : Prog) → IsClosed agent p → (result : Result (List Front) E) → IfOk result (AreClosedFronts agent p)
+    → IfOk result (λ fs. All (λ f. LeavesClosed agent p f.way) (guarded fs))
+fronts_left agent p c (Ok fs) h = all-leave agent p c fs h.lefts
+fronts_left agent p c (Err e) h = h

@@ -1,5 +1,5 @@
 -- Fronts in code, and lists of them as they are put together.
-use Rattle.std.specs.Prelude.{◌≡◌, ℕ, Bool, IsTrue, List, [], ◌∷◌, map}
+use Rattle.std.specs.Prelude.{◌≡◌, ℕ, Bool, ◌&&◌, IsTrue, List, [], ◌∷◌, map}
 use Rattle.std.specs.List.{list_all}
 use Rattle.golog_tree.specs.declared.agent.Agent.{Agent}
 use Rattle.golog_tree.specs.declared.cond.Arg.{Arg}
@@ -11,12 +11,14 @@ use Rattle.golog_tree.specs.declared.prog.Prog.TheVariants as prog
 use Rattle.golog_semantics.specs.declared.Mode.{Mode}
 use Rattle.golog_semantics.specs.Fits.{cond_fits, nothing_bound}
 use Rattle.golog_semantics.specs.Fronts.{AreFronts, Guarded, open_ways}
+use Rattle.golog_semantics.specs.Reports.{fits_label}
 use Rattle.golog_semantics.specs.Truth.{Values, arg_value, env_of}
 use Rattle.golog_semantics.specs.Values.{is_possible}
 use Rattle.golog_semantics.specs.Ways.{is_so}
 use Rattle.golog_semantics.specs.Blocks.{ways as all_ways}
 use Rattle.golog_ways.specs.declared.front_lists.Front.{Front}
 use Rattle.golog_ways.specs.Ends.{IsClosedEnd}
+use Rattle.golog_ways.specs.Lefts.{fits_in}
 
 -- a front as a step and its condition
 abbrev pub guarded_of : Front → Guarded
@@ -46,10 +48,20 @@ none_open fs = cond.Not (cond.Or (map (λ f. f.cond) fs))
 abbrev pub are_closed : Agent → List Front → Bool
 are_closed agent fs = list_all (λ f. cond_fits agent f.cond nothing_bound) fs
 
--- the fronts of a program, whose conditions have no free variable and are of the agent's numbers and sorts
+-- the front's action is the agent's, and what it leaves fits, within a search block or outside
+abbrev pub leaves_fitting : Agent → Bool → Front → Bool
+leaves_fitting agent in_block f = fits_label agent f.label && fits_in agent in_block f.left
+
+-- the same of each of these fronts
+abbrev pub lefts_fit : Agent → Bool → List Front → Bool
+lefts_fit agent in_block fs = list_all (leaves_fitting agent in_block) fs
+
+-- The fronts of a program, whose conditions have no free variable and are of the agent's numbers and sorts,
+-- and whose lefts fit where the program does.
 pub record AreClosedFronts (agent : Agent) (p : Prog) (fs : List Front) : Type 0 where
   pub fronts : AreFronts agent p (guarded fs)
   pub closed : IsTrue (are_closed agent fs)
+  pub lefts : (in_block : Bool) → IsTrue (fits_in agent in_block p) → IsTrue (lefts_fit agent in_block fs)
 
 -- the fronts of two programs
 pub record AreBothFronts (agent : Agent) (p q : Prog) (fs hs : List Front) : Type 0 where

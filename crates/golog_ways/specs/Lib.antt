@@ -5,5 +5,6 @@ pub mod First
 pub mod Fore
 pub mod FrontBlock
 pub mod FrontLists
+pub mod Lefts
 pub mod Outlook
 pub mod Puts

@@ -21,6 +21,7 @@ mod step;
 pub use blocks::has_front_block;
 pub use ending::end_cond;
 pub use front_lists::Front;
+pub use golog_semantics::Mode;
 pub use laws::well_formed_is_fit;
 pub use modes::{flip, holds};
 pub use opening::fronts;

@@ -1,10 +1,11 @@
-ghost use Rattle.std.specs.Prelude.{◌≡◌, false, IfOk, IsTrue};
+ghost use Rattle.std.specs.Prelude.{◌≡◌, false, All, IfOk, IsTrue};
 ghost use Rattle.golog_semantics.specs.Fronts.{AreFronts};
 ghost use Rattle.golog_semantics.specs.WellFormed.{WellFormed};
 ghost use Rattle.golog_ways.specs.Closed.{IsFit, IsClosed};
 ghost use Rattle.golog_ways.specs.FrontBlock.{has_front_block};
 ghost use Rattle.golog_ways.specs.FrontLists.{AreAllFronts, AreBothFronts, AreClosedFronts};
 ghost use Rattle.golog_ways.specs.FrontLists.{are_closed, guarded};
+ghost use Rattle.golog_ways.specs.Lefts.{LeavesClosed};
 
 use crate::blocks::may_skip;
 use crate::bodies::body_of;
@@ -176,8 +177,9 @@ fn fronts_of_call(
 
 /// The steps of a program, each with the condition under which it may be taken: in every mode and at all
 /// values, the steps of the program are those whose condition holds, in order. The conditions have no free
-/// variable and stay inside the agent's numbers and sorts. Steps of search blocks are not among them, so no
-/// block may stand at the front.
+/// variable and stay inside the agent's numbers and sorts; what the steps leave is closed as the program is,
+/// and their actions are the agent's. Steps of search blocks are not among them, so no block may stand at the
+/// front.
 pub fn fronts(alloc: Global, agent: &Agent, prog: &Prog) -> Result<List<Front>, NoMemory>
     requires agent { WellFormed agent.now }
     requires program { IsClosed agent.now prog.now }
@@ -185,6 +187,7 @@ pub fn fronts(alloc: Global, agent: &Agent, prog: &Prog) -> Result<List<Front>, 
     ensures ways { IfOk result (λ fs. AreFronts agent.now prog.now (guarded fs)) }
     ensures all { IfOk result (λ fs. AreAllFronts agent.now prog.now (guarded fs)) }
     ensures closed { IfOk result (λ fs. IsTrue (are_closed agent.now fs)) }
+    ensures lefts { IfOk result (λ fs. All (λ f. LeavesClosed agent.now prog.now f.way) (guarded fs)) }
 {
     fronts_of(alloc, agent, prog)
 }

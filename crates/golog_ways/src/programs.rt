@@ -1,9 +1,13 @@
-ghost use Rattle.std.specs.Prelude.{◌≡◌, IfOk};
+ghost use Rattle.std.specs.Prelude.{◌≡◌, IfOk, IfSome, false, not};
+ghost use Rattle.golog_semantics.specs.Blocks.{ways};
 ghost use Rattle.golog_semantics.specs.Search.{final};
 ghost use Rattle.golog_semantics.specs.SortLaws.{AreInSorts};
+ghost use Rattle.golog_semantics.specs.Ways.{is_empty};
 ghost use Rattle.golog_semantics.specs.WellFormed.{WellFormed};
 ghost use Rattle.golog_ways.specs.Closed.{IsClosed};
-ghost use Rattle.golog_ways.specs.First.{first_way, has_way};
+ghost use Rattle.golog_ways.specs.First.{first_way, has_way, head_of};
+ghost use Rattle.golog_ways.specs.FrontBlock.{has_front_block};
+ghost use Rattle.golog_ways.specs.Lefts.{LeavesClosed};
 
 use crate::looking::{can_end, can_step};
 use crate::step::first_step;
@@ -31,8 +35,10 @@ pub fn is_final(
 }
 
 /// The first certain step of a program in a state, found without listing the others: `None` exactly where
-/// no step is certain. `NoMemory` where none is left for the bodies of picks and calls, or for what the step
-/// leaves.
+/// no step is certain. The steps of search blocks are not among them; where no block stands at the front
+/// (`has_front_block`), the answer is the first of all certain steps. What the step leaves is closed as the
+/// program is, so that its own first step can be asked for in turn, and its action is the agent's. `NoMemory`
+/// where none is left for the bodies of picks and calls, or for what the step leaves.
 pub fn first(
     alloc: Global,
     agent: &Agent,
@@ -43,12 +49,16 @@ pub fn first(
     requires program { IsClosed agent.now prog.now }
     requires sorts { AreInSorts agent.now state.now }
     ensures way { IfOk result (λ w. w ≡ first_way agent.now state.now prog.now) }
+    ensures all { has_front_block agent.now prog.now ≡ false
+        → IfOk result (λ w. w ≡ head_of (ways agent.now state.now Mode.Must prog.now)) }
+    ensures closed { IfOk result (λ w. IfSome w (LeavesClosed agent.now prog.now)) }
 {
     first_step(alloc, agent, prog, state.values())
 }
 
-/// Whether a program has a step in a state, in the mode. `NoMemory` where none is left for the bodies of
-/// picks and calls, with constants put in.
+/// Whether a program has a step in a state, in the mode. The steps of search blocks do not count; where no
+/// block stands at the front (`has_front_block`), the answer is that of all steps. `NoMemory` where none is
+/// left for the bodies of picks and calls, with constants put in.
 pub fn any(
     alloc: Global,
     agent: &Agent,
@@ -60,6 +70,8 @@ pub fn any(
     requires program { IsClosed agent.now prog.now }
     requires sorts { AreInSorts agent.now state.now }
     ensures way { IfOk result (λ b. b ≡ has_way agent.now state.now mode prog.now) }
+    ensures all { has_front_block agent.now prog.now ≡ false
+        → IfOk result (λ b. b ≡ not (is_empty (ways agent.now state.now mode prog.now))) }
 {
     can_step(alloc, agent, mode, prog, state.values())
 }

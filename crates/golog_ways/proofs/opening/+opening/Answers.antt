@@ -349,4 +349,4 @@ fronts_of_call-fronts_of_put-requires t c =
 pub fronts_of_call-returns : goal.fronts_of_call-returns
 fronts_of_call-returns t c =
     let here = subst (λ (z : Prog). IfOk c.fronts_of_put.result (AreClosedFronts c.args.agent.now z)) c.in_ok-body.ensures c.fronts_of_put.ensures in
-    fronts_too c.args.agent.now (prog.Call c.args.item c.args.args.now) (body_of c.args.agent.now c.args.item c.args.args.now) c.fronts_of_put.result (call_fronts c.args.agent.now c.requires.fit.guarded c.args.item c.args.args.now) here
+    fronts_too c.args.agent.now (prog.Call c.args.item c.args.args.now) (body_of c.args.agent.now c.args.item c.args.args.now) c.fronts_of_put.result (call_fronts c.args.agent.now c.requires.fit.guarded c.requires.fit.procs c.args.item c.args.args.now) here

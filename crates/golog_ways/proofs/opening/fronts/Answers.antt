@@ -1,5 +1,5 @@
 use Rattle.golog_ways.proofs.AllFronts.{all_given}
-use Rattle.golog_ways.proofs.Opened.{fronts_alone, fronts_closed}
+use Rattle.golog_ways.proofs.Opened.{fronts_alone, fronts_closed, fronts_left}
 use Rattle.golog_ways.proofs.WellFormedFits.{well_formed_fits}
 use Rattle.golog_ways.proofs.opening.fronts.Goals as goal
 
@@ -10,6 +10,10 @@ returns-clause-ways c =
 pub returns-clause-closed : goal.returns-clause-closed
 returns-clause-closed c =
     fronts_closed c.args.agent.now c.args.prog.now c.fronts_of.result c.fronts_of.ensures
+
+pub returns-clause-lefts : goal.returns-clause-lefts
+returns-clause-lefts c =
+    fronts_left c.args.agent.now c.args.prog.now c.requires.program c.fronts_of.result c.fronts_of.ensures
 
 pub returns-clause-all : goal.returns-clause-all
 returns-clause-all c =
