@@ -34,7 +34,7 @@ parsed bytes form s = go (parse (length bytes) (tokens bytes) start) refl
     go (Ok x) e = let k : Ok form ≡ Ok x = only bytes (length bytes) (Ok x) e form s in e ∙ sym k
     go (Err (why, at)) e = absurd (apart form (why, at) (Ok form) (Err (why, at)) refl refl (only bytes (length bytes) (Err (FormRefused why at)) e form s))
 
-one-form : (bytes : List ℕ) (one other : Form) → Spells bytes one → Spells bytes other → one ≡ other
+pub one-form : (bytes : List ℕ) (one other : Form) → Spells bytes one → Spells bytes other → one ≡ other
 one-form bytes one other s t = let e : Ok one ≡ Ok other = sym (parsed bytes one s) ∙ parsed bytes other t in cc
 
 unfit : (bytes : List ℕ) (form : Form) → SpellsForm bytes form → (at why : ℕ) → Fits bytes at why → ⊥
@@ -58,7 +58,7 @@ draft-excluded : (theory : DraftTheory) (program : DraftProgram) (agent : Agent)
 draft-excluded theory program agent s _ _ (of_check code at least) = let c = least.0 in none-checked (all_rows theory program) s.unrefused code at c.0 c.1 c.2
 draft-excluded theory program agent s _ _ (of_stage none unbuilt) = let k : false ≡ true = sym s.built ∙ ap is_unbuilt s.is ∙ unbuilt in cc
 
-theory-same : (form : Form) (one other : DraftTheory) → (theory_of form).outcome ≡ Ok one → (theory_of form).outcome ≡ Ok other → one ≡ other
+pub theory-same : (form : Form) (one other : DraftTheory) → (theory_of form).outcome ≡ Ok one → (theory_of form).outcome ≡ Ok other → one ≡ other
 theory-same form one other e h = let k : Ok one ≡ Ok other = sym e ∙ h in cc
 
 program-same : (form : Form) (theory : DraftTheory) (one other : DraftProgram) → (program_of theory form).outcome ≡ Ok one → (program_of theory form).outcome ≡ Ok other → one ≡ other

@@ -1,6 +1,7 @@
 pub mod Unblocked
 pub mod Answers
 pub mod Excluded
+mod Asked
 mod Kept
 mod Awaiting
 mod Growth

@@ -10,7 +10,10 @@ mod rounds;
 mod runner;
 
 pub use fault::{AgentFault, UNBUILT};
-pub use laws::{all_is_built, leads_alone, one_agent_is_spelled, spelled_is_unrefused};
+pub use laws::{
+    all_is_built, leads_alone, one_agent_is_spelled, read_conditions_stay_kept,
+    spelled_is_unrefused,
+};
 pub use reading::read_agent;
 pub use rounds::run_inline;
 pub use runner::{Runner, Stepped};

@@ -29,3 +29,4 @@ pub mod ReadTerms
 pub mod ReadConds
 pub mod ReadProgs
 pub mod PrintBack
+pub mod Signatures

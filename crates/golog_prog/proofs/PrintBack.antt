@@ -15,6 +15,7 @@ use Rattle.golog_tree.specs.Ground.{item_size}
 use Rattle.golog_semantics.specs.Text.{Text}
 use Rattle.golog_semantics.specs.BuiltIn.{sort_names, declared_names}
 use Rattle.golog_semantics.specs.WellFormed.{WellFormed}
+use Rattle.golog_semantics.specs.ReportLaws.{RangesFit}
 use Rattle.golog_semantics.specs.ProgFits.{outermost}
 use Rattle.golog_semantics.proofs.Among.{Among, contains-among}
 use Rattle.golog_semantics.proofs.GroundNumbers.{some-same}
@@ -98,14 +99,14 @@ taken agent formed =
       free = ap (say.is_free agent) is ∙ found-passes (is_free (declared_names agent)) (range_with_len 0 STEMS) some.0 some.1;
     }
 
-pub prints_back : (text : Text) (agent : Agent) (prog : Prog) → text ≡ text_of_prog agent prog → IsPrintable agent prog → ReadsBack text agent prog
-prints_back text agent prog e printable =
+pub prints_back : (text : Text) (agent : Agent) (prog : Prog) → RangesFit agent → text ≡ text_of_prog agent prog → IsPrintable agent prog → ReadsBack text agent prog
+prints_back text agent prog ranges e printable =
     let k = stem_no agent in
     let t = taken agent printable.formed in
     let small = t.small in
-    let ready : Ready agent k = record { formed = printable.formed; ranges = printable.ranges; small = t.small; free = t.free } in
+    let ready : Ready agent k = record { formed = printable.formed; ranges = ranges; small = t.small; free = t.free } in
     let form = prog_form agent (stem_text k) prog in
-    let atoms : atoms_fit form ≡ true = prog-atoms agent printable.formed printable.ranges k (omega (arith, small)) prog outermost few-none 0 printable.fitting printable.written in
+    let atoms : atoms_fit form ≡ true = prog-atoms agent printable.formed ranges k (omega (arith, small)) prog outermost few-none 0 printable.fitting printable.written in
     let back : printed.ReadsBack text form = reads_back text form atoms (e ∙ sym (prog-tells agent (stem_text k) prog)) in (
       back.0,
       back.1,

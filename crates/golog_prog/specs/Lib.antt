@@ -6,3 +6,4 @@ pub mod Programs
 pub mod Items
 pub mod Printing
 pub mod ReadBack
+pub mod Laws

@@ -9,7 +9,6 @@ use Rattle.golog_tree.specs.declared.prog.Prog.{Prog}
 use Rattle.golog_tree.specs.declared.draft.DraftTheory.{DraftTheory}
 use Rattle.golog_tree.specs.declared.draft_prog.DraftProg.{DraftProg}
 use Rattle.golog_semantics.specs.WellFormed.{WellFormed}
-use Rattle.golog_semantics.specs.ReportLaws.{RangesFit}
 use Rattle.golog_semantics.specs.ProgFits.{fits}
 use Rattle.golog_semantics.specs.Written.{is_written_prog}
 use Rattle.golog_check.specs.DeclaredItems as check
@@ -44,10 +43,8 @@ SpellsProg agent prog form =
 abbrev pub ReadsBack : List ℕ → Agent → Prog → Type 0
 ReadsBack text agent prog = (form : Form) × (tokens text ≡ spelling form) × SpellsProg agent prog form
 
--- A program of a well-formed agent that a file can say. The ends of its sorts of whole numbers are in the range of
--- their type.
+-- a program of a well-formed agent that a file can say
 pub record IsPrintable (agent : Agent) (prog : Prog) : Type 0 where
   pub formed : WellFormed agent
-  pub ranges : RangesFit agent
   pub fitting : IsTrue (fits agent prog)
   pub written : IsTrue (is_written_prog agent prog 0)

@@ -3,6 +3,7 @@ ghost use Rattle.golog_prog.specs.Printing.{in_list, args_texts, cond_text, prog
 ghost use Rattle.golog_prog.specs.ReadBack.{IsPrintable, ReadsBack};
 
 use crate::cond_text::{add_args, add_binder, add_cond, add_word, open_list};
+use crate::laws::ranges_fit;
 use crate::named::{action_name, action_sorts, add_count, proc_name, proc_sorts, stem_of};
 use golog_base::{Bytes, NoMemory};
 use golog_tree::{Agent, Arg, Cond, Prog};
@@ -170,6 +171,8 @@ pub fn print_prog(alloc: Global, agent: &Agent, prog: &Prog) -> Result<Bytes, No
     ensures text { IfOk result (λ text. text ≡ text_of_prog agent.now prog.now) }
     ensures back { IfOk result (λ text. IsPrintable agent.now prog.now → ReadsBack text agent.now prog.now) }
 {
+    // That a text of a whole number reads back rests on it.
+    ranges_fit(agent);
     let stem = stem_of(alloc, agent)?;
     let mut text = Bytes::new(alloc);
     match add_prog(&mut text, agent, stem.as_slice(), prog) {

@@ -1,3 +1,4 @@
 pub mod Counted
 pub mod Closed
 pub mod Grounded
+pub mod Evaluated

@@ -20,6 +20,14 @@ pub const LIFT: &[u8] = b"(agent
     (action off (level)) (action turn (door level))
     (main (pick (v0_0 level) (act off v0_0))))";
 
+/// A lamp on each of three floors, of which nobody knows whether the last is lit, and a red sign.
+pub const LAMPS: &[u8] = b"(agent
+    (sort floor 1 3) (sort colour red blue)
+    (fluent lit (floor) bool false)
+    (start (lit 1) true) (start (lit 3) unknown)
+    (fluent sign () colour red)
+    (main nil))";
+
 /// Whether the condition is that the lamp is on, or that the bell is awaited: that fluent is the first in its
 /// file.
 pub fn is_first_fluent(cond: &Cond) -> bool {

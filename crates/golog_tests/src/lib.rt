@@ -24,4 +24,6 @@ mod steps;
 #[cfg(test)]
 mod texts;
 #[cfg(test)]
+mod truths;
+#[cfg(test)]
 mod values;
