@@ -4,9 +4,9 @@ ghost use Rattle.golog_prog.specs.Laws.{ConditionsStayKept, SignatureStays};
 
 use golog_tree::{Agent, SortItem};
 
-/// The ends of the sorts of whole numbers are in the range of their type, as the law `names_tell_apart` asks. This
-/// does nothing but read them: what a number's type says is known where the number is read, and no clause says it
-/// of an agent.
+/// The ends of the sorts of whole numbers are in the range of their type, which the law `names_tell_apart`
+/// asks. This does nothing but read them: what a number's type says of it is known where it is read, and no
+/// clause says it of an agent.
 pub fn ranges_fit(agent: &Agent)
     ensures { RangesFit agent.now }
 {
@@ -23,7 +23,8 @@ pub fn signature_stays()
     ensures { SignatureStays }
 {}
 
-/// A condition that keeps the rules over a theory keeps them over each agent that a check makes of the theory.
+/// A condition that keeps the rules over a theory, as one that was read does, keeps them over each agent that
+/// a check makes of the theory.
 pub fn conditions_stay_kept()
     ensures { ConditionsStayKept }
 {}

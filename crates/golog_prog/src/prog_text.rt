@@ -171,7 +171,7 @@ pub fn print_prog(alloc: Global, agent: &Agent, prog: &Prog) -> Result<Bytes, No
     ensures text { IfOk result (λ text. text ≡ text_of_prog agent.now prog.now) }
     ensures back { IfOk result (λ text. IsPrintable agent.now prog.now → ReadsBack text agent.now prog.now) }
 {
-    // That a text of a whole number reads back rests on it.
+    // Only with this is it known that the text of a whole number reads back.
     ranges_fit(agent);
     let stem = stem_of(alloc, agent)?;
     let mut text = Bytes::new(alloc);

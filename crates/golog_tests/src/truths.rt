@@ -45,12 +45,7 @@ fn truth_of_draft(alloc: Global, agent: &Agent, draft: &DraftCond) -> Option<Tru
 }
 
 /// That of the condition that a form spells over the theory.
-fn truth_of_form(
-    alloc: Global,
-    agent: &Agent,
-    theory: &DraftTheory,
-    form: &Form,
-) -> Option<Truth>
+fn truth_of_form(alloc: Global, agent: &Agent, theory: &DraftTheory, form: &Form) -> Option<Truth>
     requires formed { WellFormed agent.now }
     requires kept { (cond : DraftCond) → CondKeeps theory.now cond → AgentCondKeeps agent.now cond }
 {
@@ -64,12 +59,7 @@ fn truth_of_form(
 }
 
 /// That of the condition that a text spells over the theory.
-fn truth_of_text(
-    alloc: Global,
-    agent: &Agent,
-    theory: &DraftTheory,
-    text: &[u8],
-) -> Option<Truth>
+fn truth_of_text(alloc: Global, agent: &Agent, theory: &DraftTheory, text: &[u8]) -> Option<Truth>
     requires formed { WellFormed agent.now }
     requires kept { (cond : DraftCond) → CondKeeps theory.now cond → AgentCondKeeps agent.now cond }
 {
@@ -139,6 +129,11 @@ fn lamps_truths(alloc: Global) -> [Option<Truth>; 4] {
 
 #[test]
 fn conditions_that_were_read_have_their_truths(rt: HostRuntime) {
-    let wanted = [Some(Truth::Yes), Some(Truth::No), Some(Truth::Unknown), None];
+    let wanted = [
+        Some(Truth::Yes),
+        Some(Truth::No),
+        Some(Truth::Unknown),
+        None,
+    ];
     assert_eq!(rt; lamps_truths(rt.alloc()), wanted);
 }
