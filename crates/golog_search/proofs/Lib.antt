@@ -3,3 +3,5 @@ pub mod Runless
 pub mod LeftBlockless
 pub mod Answering
 pub mod Choosing
+pub mod SameArguments
+pub mod SamePrograms

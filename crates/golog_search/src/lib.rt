@@ -4,6 +4,7 @@
 mod deciding;
 mod decision;
 mod laws;
+mod same;
 
 pub use deciding::{NEST_LIMIT, decide};
 pub use decision::{Blocked, Decision};
