@@ -5,3 +5,6 @@ pub mod Answering
 pub mod Choosing
 pub mod SameArguments
 pub mod SamePrograms
+pub mod SearchedWays
+pub mod LevelsStay
+pub mod LevelParts

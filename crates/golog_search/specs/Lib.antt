@@ -1,2 +1,4 @@
 pub mod Decided
 pub mod Laws
+pub mod Levels
+pub mod Finding

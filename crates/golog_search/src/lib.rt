@@ -3,10 +3,13 @@
 
 mod deciding;
 mod decision;
+mod found;
 mod laws;
+mod level;
 mod same;
 
 pub use deciding::{NEST_LIMIT, decide};
 pub use decision::{Blocked, Decision};
+pub use found::Found;
 pub use golog_semantics::Move;
 pub use laws::{blockless_left, blockless_steps, decided_is_answered};

@@ -1,0 +1,16 @@
+use Rattle.std.proofs.Common.{◌≡◌, ℕ, List, sym, ap, ◌∙◌}
+use Rattle.golog_tree.specs.declared.cond.Truth.{Truth}
+use Rattle.golog_semantics.specs.Modes.{holds}
+use Rattle.golog_semantics.specs.Truth.{Env, truth_of}
+use Rattle.golog_ways.proofs.Acting.{closed_cond}
+use Rattle.golog_search.proofs.level.is_open.Goals as goal
+
+pub value-requires-clause-fits : goal.value-requires-clause-fits
+value-requires-clause-fits c = closed_cond c.args.agent.now c.args.front.now.cond c.new.result c.requires.closed
+
+pub returns : goal.returns
+returns c =
+    c.holds.ensures
+    ∙ ap (holds c.args.mode)
+    (c.value.ensures ∙ ap (λ (v : List ℕ). truth_of c.args.agent.now v c.args.front.now.cond c.new.result) c.values.ensures
+    ∙ ap (truth_of c.args.agent.now c.args.state.now c.args.front.now.cond) c.new.ensures)

@@ -1,0 +1,27 @@
+-- What the search of a block comes to.
+use Rattle.std.specs.Prelude.{ℕ, Bool, nat_lt, if◌then◌else◌, Option, Some, None}
+use Rattle.golog_tree.specs.declared.agent.Agent.{Agent}
+use Rattle.golog_semantics.specs.declared.Mode.{Mode}
+use Rattle.golog_semantics.specs.declared.Mode.TheVariants.{Must, Near}
+use Rattle.golog_semantics.specs.declared.search.Block.{Block}
+use Rattle.golog_semantics.specs.Truth.{Values}
+use Rattle.golog_semantics.specs.Search.{Run, best}
+use Rattle.golog_semantics.specs.Blocks.{is_cut, work}
+use Rattle.golog_search.specs.declared.found.Found.{Found}
+use Rattle.golog_search.specs.declared.found.Found.TheVariants.{Absent, Fuel, Run as Runs}
+
+-- the mode in which runs are looked for
+abbrev pub mode_of : Bool → Mode
+mode_of certain = if certain then Must else Near
+
+-- the run, where there is one, and else whether something stayed unseen
+abbrev pub run_or : Bool → Option Run → Found
+run_or cut (Some run) = Runs run
+run_or cut None = Absent cut
+
+-- The search of a block wants more than its fuel where its work is above it. Else it finds the first run of least
+-- length, where there is one of at least one and at most as many ways as the depth.
+unfoldable pub found : Agent → Values → Mode → Block → Found
+found agent values m block =
+    if nat_lt block.fuel (work agent m block.depth block.body values) then Fuel
+    else run_or (is_cut agent m block.depth block.body values) (best agent m block.depth block.body values)

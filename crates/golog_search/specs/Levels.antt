@@ -1,0 +1,69 @@
+-- The states that a search reaches, one step further at a time, each with the step that led there.
+use Rattle.std.specs.Prelude.{◌≡◌, ℕ, zero, suc, Bool, true, false, not, ◌||◌, IsTrue, if◌then◌else◌, Option, Some, None, List, [], ◌∷◌, ◌++◌, All, fold, slice_get}
+use Rattle.std.specs.List.{list_any}
+use Rattle.golog_tree.specs.declared.agent.Agent.{Agent}
+use Rattle.golog_tree.specs.declared.prog.Prog.{Prog}
+use Rattle.golog_tree.specs.declared.prog.Way.{Way}
+use Rattle.golog_semantics.specs.declared.Mode.{Mode}
+use Rattle.golog_semantics.specs.Truth.{Values}
+use Rattle.golog_semantics.specs.Values.{after}
+use Rattle.golog_semantics.specs.Search.{Run, final, is_followed, plain_ways}
+use Rattle.golog_semantics.specs.Blocks.{State, same_state}
+use Rattle.golog_semantics.specs.BlockFree.{has_block}
+use Rattle.golog_semantics.specs.ProgFits.{fits}
+use Rattle.golog_semantics.specs.SortLaws.{AreInSorts}
+use Rattle.golog_search.specs.declared.level.Level.{Level}
+use Rattle.golog_search.specs.declared.level.Reached.{Reached}
+
+-- the program left and the values there
+abbrev pub state_of : Reached → State
+state_of r = (r.way.left, r.state)
+
+-- the state is among these
+abbrev pub is_there : List Reached → State → Bool
+is_there states s = list_any (λ r. same_state s (state_of r)) states
+
+-- where a way leads from these values, and where the state before it stands
+abbrev pub reached_by : Agent → ℕ → Values → Way → Reached
+reached_by agent from values w = record { way = w; state = after agent values w.label; from = from }
+
+-- nothing reached yet
+abbrev pub nothing_reached : Level
+nothing_reached = record { states = []; cut = false }
+
+-- with one more state, where it is not there yet
+abbrev pub with_state : Level → Reached → Level
+with_state l r =
+    if is_there l.states (state_of r) then l else record { states = l.states ++ r ∷ []; cut = l.cut }
+
+-- with the state that a way leads to, unless the way is not followed
+abbrev pub with_way : Agent → ℕ → Values → Level → Way → Level
+with_way agent from values l w =
+    if is_followed w then with_state l (reached_by agent from values w)
+    else record { states = l.states; cut = true }
+
+-- with all that one step leads to from these states, which stand from this place on
+abbrev pub with_steps : Agent → Mode → ℕ → Level → List Reached → Level
+with_steps agent m from l [] = l
+with_steps agent m from l (r ∷ states) =
+    with_steps agent m (suc from)
+    (fold (with_way agent from r.state) l (plain_ways agent r.state m r.way.left)) states
+
+-- what one step leads to from these states
+abbrev pub next_level : Agent → Mode → List Reached → Level
+next_level agent m states = with_steps agent m 0 nothing_reached states
+
+-- a program that a search of an agent may reach, and the values there: it stays inside the agent, has no block,
+-- and the values are in their sorts
+pub record IsSearched (agent : Agent) (p : Prog) (values : Values) : Type 0 where
+  pub program : IsTrue (fits agent p)
+  pub blockless : IsTrue (not (has_block agent p))
+  pub sorts : AreInSorts agent values
+
+-- so it is of all these states
+abbrev pub AreSearched : Agent → List Reached → Type 0
+AreSearched agent states = All (λ r. IsSearched agent r.way.left r.state) states
+
+-- the program may end in this state
+abbrev pub ends_at : Agent → Mode → Reached → Bool
+ends_at agent m r = final agent r.state m r.way.left
