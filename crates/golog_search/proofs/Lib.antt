@@ -8,3 +8,4 @@ pub mod SamePrograms
 pub mod SearchedWays
 pub mod LevelsStay
 pub mod LevelParts
+pub mod RunsTo

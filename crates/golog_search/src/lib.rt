@@ -3,6 +3,7 @@
 
 mod deciding;
 mod decision;
+mod finding;
 mod found;
 mod laws;
 mod level;
