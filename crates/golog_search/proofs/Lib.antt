@@ -9,3 +9,4 @@ pub mod SearchedWays
 pub mod LevelsStay
 pub mod LevelParts
 pub mod RunsTo
+pub mod FirstRuns
