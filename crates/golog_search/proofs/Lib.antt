@@ -10,3 +10,5 @@ pub mod LevelsStay
 pub mod LevelParts
 pub mod RunsTo
 pub mod FirstRuns
+pub mod Ending
+pub mod Counting
