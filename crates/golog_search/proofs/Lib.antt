@@ -12,3 +12,4 @@ pub mod RunsTo
 pub mod FirstRuns
 pub mod Ending
 pub mod Counting
+pub mod Searching
