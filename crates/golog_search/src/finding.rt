@@ -1,10 +1,11 @@
-ghost use Rattle.std.specs.Prelude.{◌≡◌, [], ◌∷◌, ◌++◌, ◌||◌, false, IfOk, OnOk, reverse};
+ghost use Rattle.std.specs.Prelude.{◌≡◌, ◌+◌, ◌<◌, [], ◌∷◌, ◌++◌, ◌||◌, false, IfOk, IsTrue, MatchOption, OnOk, not, reverse};
 ghost use Rattle.std.specs.List.{position_from};
 ghost use Rattle.golog_semantics.specs.BlockFree.{has_block};
 ghost use Rattle.golog_semantics.specs.ProgFits.{fits};
 ghost use Rattle.golog_semantics.specs.SortLaws.{AreInSorts};
+ghost use Rattle.golog_semantics.specs.Ways.{is_empty};
 ghost use Rattle.golog_semantics.specs.WellFormed.{WellFormed};
-ghost use Rattle.golog_search.specs.Finding.{found as found_by, mode_of as mode_for};
+ghost use Rattle.golog_search.specs.Finding.{found, mode_of as mode_for};
 ghost use Rattle.golog_search.specs.Levels.{AreSearched, ends_at, next_level as next_of, run_to as run_of, start_of};
 
 use crate::found::Found;
@@ -114,6 +115,13 @@ impl Search {
         })
     }
 
+    /// Whether something stays unseen: what comes after the last level, or after a step that was not followed.
+    fn is_cut(&self) -> bool
+        ensures { result ≡ (not (is_empty self.now.last) || self.now.cut) }
+    {
+        !self.last.is_empty() || self.cut
+    }
+
     /// Looks one step further.
     fn deepen(&mut self, alloc: Global, agent: &Agent, mode: Mode) -> Result<(), NoMemory>
         requires agent { WellFormed agent.now }
@@ -128,4 +136,52 @@ impl Search {
         self.cut = self.cut || next.cut;
         self.before.push(last)
     }
+}
+
+/// What is left of the fuel once as many states are looked at: `None` where it does not suffice.
+fn spent(fuel: usize, count: usize) -> Option<usize>
+    ensures { MatchOption result (fuel < count) (λ rest. rest + count ≡ fuel) }
+{
+    if count <= fuel {
+        Some(fuel - count)
+    } else {
+        None
+    }
+}
+
+/// The search of a block in a state, in mode `Must` where the run is to be certain, else in mode `Near`. `Run`
+/// is the first run of least length, where there is one of at least one and at most as many steps as the depth.
+/// `Fuel` comes exactly where the search would look at more states than the fuel: at the distinct states of
+/// each number of steps below the least length of a run, or below the depth where there is none. Else `Absent`
+/// tells whether something stayed unseen. `NoMemory` where none is left for the states.
+pub fn find(
+    alloc: Global,
+    agent: &Agent,
+    block: &Block,
+    state: &State,
+    certain: bool,
+) -> Result<Found, NoMemory>
+    requires agent { WellFormed agent.now }
+    requires program { IsTrue (fits agent.now block.now.body) }
+    requires blockless { IsTrue (not (has_block agent.now block.now.body)) }
+    requires sorts { AreInSorts agent.now state.now }
+    ensures { IfOk result (λ f. f ≡ found agent.now state.now (mode_for certain) block.now) }
+{
+    let mode = mode_of(certain);
+    let mut search = Search::new(alloc, &block.body, state)?;
+    let mut fuel = block.fuel as usize;
+    for _step in 0..block.depth {
+        let Some(rest) = spent(fuel, search.last.len()) else {
+            return Ok(Found::Fuel);
+        };
+        fuel = rest;
+        search.deepen(alloc, agent, mode)?;
+        if let Some(place) = first_end(alloc, agent, mode, search.last.as_slice())? {
+            let run = run_to(alloc, search.before.as_slice(), search.last.as_slice(), place)?;
+            return Ok(Found::Run(run));
+        }
+    }
+    Ok(Found::Absent {
+        cut: search.is_cut(),
+    })
 }

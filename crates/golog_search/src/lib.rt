@@ -11,6 +11,7 @@ mod same;
 
 pub use deciding::{NEST_LIMIT, decide};
 pub use decision::{Blocked, Decision};
+pub use finding::find;
 pub use found::Found;
-pub use golog_semantics::Move;
+pub use golog_semantics::{Block, Move};
 pub use laws::{blockless_left, blockless_steps, decided_is_answered};
