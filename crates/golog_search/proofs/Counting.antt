@@ -14,7 +14,7 @@ use Rattle.golog_semantics.specs.Ways.{is_empty}
 use Rattle.golog_semantics.specs.Search.{Run, best, best_from, is_followed, plain_ways}
 use Rattle.golog_semantics.specs.Blocks.{State, distinct, has_path, is_cut, level, meets_cut, next_states, option_length, same_state, work}
 use Rattle.golog_search.specs.declared.level.Level.{Level}
-use Rattle.golog_search.specs.declared.level.Reached.{Reached}
+use Rattle.golog_search.specs.declared.reached.Reached.{Reached}
 use Rattle.golog_search.specs.Levels.{count_before, cut_before, level_at, next_level, is_there, reached_by, start_of, state_of}
 use Rattle.golog_search.proofs.FirstRuns.{same_state-eq}
 use Rattle.golog_search.proofs.LevelParts.{any-append, cut_at, cuts, fresh, next_level-parts, next_level-states, or-assoc, or-false, or-swap, or-true, steps_all, steps_from}
@@ -97,7 +97,7 @@ module _ (agent : Agent) (m : Mode) where
   paths-more n (r ∷ rs) from =
       let ways = plain_ways agent r.state m r.way.left in
       let one = any-map (λ (x : Reached). path n (state_of x)) (reached_by agent from r.state) (filter is_followed ways)
-          ∙ any-filter (λ w. path n (w.left, after agent r.state w.label)) is_followed ways in
+      ∙ any-filter (λ w. path n (w.left, after agent r.state w.label)) is_followed ways in
       ap (λ b. path (suc n) (state_of r) || b) (paths-more n rs (suc from))
       ∙ ap (λ b. b || list_any (λ x. path n (state_of x)) (steps_all agent m (suc from) rs)) (sym one)
       ∙ sym (any-append (λ (x : Reached). path n (state_of x)) (steps_from agent m from r) (steps_all agent m (suc from) rs))
@@ -108,7 +108,7 @@ module _ (agent : Agent) (m : Mode) where
       let ways = plain_ways agent r.state m r.way.left in
       let there = list_any (λ x. meets n (state_of x)) (steps_all agent m (suc from) rs) in
       let one = any-split (λ w. meets n (w.left, after agent r.state w.label)) is_followed ways
-          ∙ ap (λ b. cuts agent m ways || b) (sym (any-map (λ (x : Reached). meets n (state_of x)) (reached_by agent from r.state) (filter is_followed ways))) in
+      ∙ ap (λ b. cuts agent m ways || b) (sym (any-map (λ (x : Reached). meets n (state_of x)) (reached_by agent from r.state) (filter is_followed ways))) in
       ap (λ b. meets (suc n) (state_of r) || b) (meets-more n rs (suc from))
       ∙ ap (λ b. b || (list_any (cut_at agent m) rs || there)) one
       ∙ swap-four (cuts agent m ways) (list_any (λ x. meets n (state_of x)) (steps_from agent m from r)) (list_any (cut_at agent m) rs) there
@@ -144,7 +144,7 @@ module _ (agent : Agent) (m : Mode) where
         let same : n + 0 ≡ n = omega arith in
         let one : not (is_empty (level_at agent m p values n)) ≡ path n (p, values) = sym (any-all (level_at agent m p values n)) ∙ paths-from n 0 ∙ ap (λ k. path k (p, values)) same in
         let other : cut_before agent m p values n ≡ meets n (p, values) =
-            sym (ap (λ b. cut_before agent m p values n || b) (any-none (level_at agent m p values n)) ∙ or-false (cut_before agent m p values n)) ∙ meets-from n 0 ∙ ap (λ k. meets k (p, values)) same in
+        sym (ap (λ b. cut_before agent m p values n || b) (any-none (level_at agent m p values n)) ∙ or-false (cut_before agent m p values n)) ∙ meets-from n 0 ∙ ap (λ k. meets k (p, values)) same in
         ap (λ b. b || cut_before agent m p values n) one ∙ ap (λ b. path n (p, values) || b) other
 
 module _ (agent : Agent) (m : Mode) (p : Prog) (values : Values) where

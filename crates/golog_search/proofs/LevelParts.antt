@@ -10,7 +10,7 @@ use Rattle.golog_semantics.specs.Values.{after}
 use Rattle.golog_semantics.specs.Search.{is_followed, plain_ways}
 use Rattle.golog_semantics.specs.Blocks.{State, distinct, next_states, same_state}
 use Rattle.golog_search.specs.declared.level.Level.{Level}
-use Rattle.golog_search.specs.declared.level.Reached.{Reached}
+use Rattle.golog_search.specs.declared.reached.Reached.{Reached}
 use Rattle.golog_search.specs.Levels.{is_there, next_level, nothing_reached, reached_by, state_of, with_state, with_steps, with_way}
 
 append-none : {A : Type 0} (xs : List A) → xs ++ [] ≡ xs
@@ -139,7 +139,7 @@ module _ (agent : Agent) (m : Mode) where
       ∙ steps-fold rs (suc from) (record { states = l.states ++ here; cut = l.cut || cut_at r })
       ∙ (λ i. record {
         states = (append_assoc l.states here (fresh (l.states ++ here) (steps_all (suc from) rs))
-        ∙ ap (λ z. l.states ++ z) (sym (fresh-append l.states (steps_from from r) (steps_all (suc from) rs)))) i;
+            ∙ ap (λ z. l.states ++ z) (sym (fresh-append l.states (steps_from from r) (steps_all (suc from) rs)))) i;
         cut = or-assoc l.cut (cut_at r) (list_any cut_at rs) i;
       })
 

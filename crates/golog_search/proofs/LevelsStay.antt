@@ -12,7 +12,7 @@ use Rattle.golog_semantics.specs.WellFormed.{WellFormed}
 use Rattle.golog_semantics.proofs.ByParts.{OfEach}
 use Rattle.golog_semantics.proofs.CausesKeep.{steps_stay_in_sorts}
 use Rattle.golog_search.specs.declared.level.Level.{Level}
-use Rattle.golog_search.specs.declared.level.Reached.{Reached}
+use Rattle.golog_search.specs.declared.reached.Reached.{Reached}
 use Rattle.golog_search.specs.Levels.{AreSearched, IsSearched, is_there, next_level, nothing_reached, reached_by, state_of, with_state, with_steps, with_way}
 use Rattle.golog_search.proofs.SearchedWays.{WayStays, ways_stay}
 

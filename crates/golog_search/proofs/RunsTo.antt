@@ -4,7 +4,7 @@ use Rattle.std.specs.Prelude.{reverse, slice_get}
 use Rattle.std.specs.Option.{option_map_or}
 use Rattle.std.proofs.lemmas.List.{reverse-append}
 use Rattle.golog_semantics.specs.Search.{Run}
-use Rattle.golog_search.specs.declared.level.Reached.{Reached}
+use Rattle.golog_search.specs.declared.reached.Reached.{Reached}
 use Rattle.golog_search.specs.Levels.{run_to}
 
 -- what a level goes on from: the run so far and its last step

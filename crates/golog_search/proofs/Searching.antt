@@ -17,10 +17,10 @@ use Rattle.golog_semantics.specs.Blocks.{is_cut, option_length, work}
 use Rattle.golog_semantics.specs.RunLaws.{IsLeast, NoneUpTo}
 use Rattle.golog_semantics.proofs.BestRuns.{best_is_least}
 use Rattle.golog_ways.specs.First.{head_of}
-use Rattle.golog_search.specs.declared.finding.Search.{Search}
+use Rattle.golog_search.specs.declared.search.Search.{Search}
 use Rattle.golog_search.specs.declared.found.Found.{Found}
 use Rattle.golog_search.specs.declared.found.Found.TheVariants.{Absent, Fuel, Run as Runs}
-use Rattle.golog_search.specs.declared.level.Reached.{Reached}
+use Rattle.golog_search.specs.declared.reached.Reached.{Reached}
 use Rattle.golog_search.specs.Finding.{found, run_or}
 use Rattle.golog_search.specs.Levels.{AreSearched, HasSeen, IsSearched, count_before, cut_before, ends_at, level_at, levels_before, next_level, run_to, start_of}
 use Rattle.golog_search.proofs.Counting.{count-grows, cut-is, worked}
@@ -47,7 +47,7 @@ module _ (agent : Agent) (m : Mode) (block : Block) (values : Values) where
       cut = ap (λ (s : Search). s.cut) e;
     };
     searched = subst (λ (s : Search). AreSearched agent s.last) (sym e)
-    (All-cons (λ (r : Reached). IsSearched agent r.way.left r.state) (start_of block.body values) [] h (All-nil (λ (r : Reached). IsSearched agent r.way.left r.state)));
+        (All-cons (λ (r : Reached). IsSearched agent r.way.left r.state) (start_of block.body values) [] h (All-nil (λ (r : Reached). IsSearched agent r.way.left r.state)));
     absent = λ k low high. absurd (omega arith);
     fuel_left = omega arith;
   }
@@ -68,10 +68,10 @@ module _ (agent : Agent) (m : Mode) (block : Block) (values : Values) where
     seen = seen;
     searched = searched;
     absent = λ k low high. elim (cases_lt n k) [
-      inl less ↦ (let same : n + 1 ≡ k = omega arith in
-      ap (λ j. first_run agent m j (block.body, values)) (sym same)
-      ∙ run-absent agent m block.body values (n + 1) (ap (position_from (ends_at agent m) 0) (sym seen.last) ∙ none)) |
-      inr not_less ↦ h.absent k low (omega arith)
+      | inl less ↦ (let same : n + 1 ≡ k = omega arith in
+          ap (λ j. first_run agent m j (block.body, values)) (sym same)
+          ∙ run-absent agent m block.body values (n + 1) (ap (position_from (ends_at agent m) 0) (sym seen.last) ∙ none))
+      | inr not_less ↦ h.absent k low (omega arith)
     ];
     fuel_left = spent-fuel n fuel rest old h spent;
   }
@@ -89,8 +89,8 @@ module _ (agent : Agent) (m : Mode) (block : Block) (values : Values) where
   -- the best run is longer than each length of which there is none
   longer : (n : ℕ) → ((k : ℕ) → 1 ≤ k → k ≤ n → first_run agent m k (block.body, values) ≡ None) → (run : Run) → IsLeast agent m block.body values block.depth run → n < length run
   longer n absent run least = elim (cases_lt n (length run)) [
-    inl less ↦ less |
-    inr not_less ↦ absurd (no-head (runs agent m (length run) block.body values) least.later run least.first (absent (length run) least.some (omega arith)))
+    | inl less ↦ less
+    | inr not_less ↦ absurd (no-head (runs agent m (length run) block.body values) least.later run least.first (absent (length run) least.some (omega arith)))
   ]
 
   count-up : (a b : ℕ) → a ≤ b → count_before agent m block.body values a ≤ count_before agent m block.body values b
@@ -145,8 +145,8 @@ module _ (agent : Agent) (m : Mode) (block : Block) (values : Values) where
   least-is n less absent run e (Some other) b h =
       let long : n < length other = longer n absent other h in
       let count : length other ≡ suc n = elim (cases_lt (suc n) (length other)) [
-        inl shorter ↦ absurd (head-some (runs agent m (suc n) block.body values) run e (h.least (suc n) (omega arith) shorter)) |
-        inr not_shorter ↦ (omega arith)
+        | inl shorter ↦ absurd (head-some (runs agent m (suc n) block.body values) run e (h.least (suc n) (omega arith) shorter))
+        | inr not_shorter ↦ (omega arith)
       ] in
       (ap Some (same-head (runs agent m (length other) block.body values) h.later run other h.first (ap (λ k. first_run agent m k (block.body, values)) count ∙ e)), count)
 
@@ -162,7 +162,7 @@ module _ (agent : Agent) (m : Mode) (block : Block) (values : Values) where
       let best_of = best agent m block.depth block.body values in
       let least = least-is n less h.absent run first best_of refl (is-least best_of refl) in
       let works : work agent m block.depth block.body values ≡ count_before agent m block.body values (suc n) =
-          worked agent m block.body values block.depth best_of refl ∙ ap (count_before agent m block.body values) least.1 in
+      worked agent m block.body values block.depth best_of refl ∙ ap (count_before agent m block.body values) least.1 in
       let count : length old.last ≡ length (level_at agent m block.body values n) = ap length h.seen.last in
       let left : fuel + count_before agent m block.body values n ≡ block.fuel = h.fuel_left in
       ap Runs (ap (λ b. run_to b new.last place) here.before ∙ ap (λ l. run_to (levels_before agent m block.body values (suc n)) l place) here.last)

@@ -1,4 +1,5 @@
--- The states that a search reaches, one step further at a time, each with the step that led there.
+-- The states that a search reaches, one step further at a time, each with the step that led there. They are as
+-- code keeps them; `level` of golog_semantics says which states they are. This project's own.
 use Rattle.std.specs.Prelude.{◌≡◌, ℕ, zero, suc, ◌+◌, Bool, true, false, not, ◌||◌, IsTrue, if◌then◌else◌, List, [], ◌∷◌, ◌++◌, All, fold, length, reverse, slice_get}
 use Rattle.std.specs.List.{list_any}
 use Rattle.std.specs.Option.{option_map_or}
@@ -15,8 +16,8 @@ use Rattle.golog_semantics.specs.BlockFree.{has_block}
 use Rattle.golog_semantics.specs.ProgFits.{fits}
 use Rattle.golog_semantics.specs.SortLaws.{AreInSorts}
 use Rattle.golog_search.specs.declared.level.Level.{Level}
-use Rattle.golog_search.specs.declared.level.Reached.{Reached}
-use Rattle.golog_search.specs.declared.finding.Search.{Search}
+use Rattle.golog_search.specs.declared.reached.Reached.{Reached}
+use Rattle.golog_search.specs.declared.search.Search.{Search}
 
 -- the program left and the values there
 abbrev pub state_of : Reached → State
@@ -56,8 +57,8 @@ with_steps agent m from l (r ∷ states) =
 abbrev pub next_level : Agent → Mode → List Reached → Level
 next_level agent m states = with_steps agent m 0 nothing_reached states
 
--- a program that a search of an agent may reach, and the values there: it stays inside the agent, has no block,
--- and the values are in their sorts
+-- a program that a search of an agent may reach, and the values there: it stays inside the agent, has no
+-- block, and the values are in their sorts
 pub record IsSearched (agent : Agent) (p : Prog) (values : Values) : Type 0 where
   pub program : IsTrue (fits agent p)
   pub blockless : IsTrue (not (has_block agent p))

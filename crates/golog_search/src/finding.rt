@@ -1,54 +1,27 @@
-ghost use Rattle.std.specs.Prelude.{◌≡◌, ◌+◌, ◌<◌, [], ◌∷◌, ◌++◌, ◌||◌, false, IfOk, IsTrue, MatchOption, OnOk, not, reverse};
+ghost use Rattle.std.specs.Prelude.{◌≡◌, ◌+◌, ◌<◌, IfOk, IsTrue, MatchOption, not, reverse};
 ghost use Rattle.std.specs.List.{position_from};
 ghost use Rattle.golog_semantics.specs.BlockFree.{has_block};
 ghost use Rattle.golog_semantics.specs.ProgFits.{fits};
 ghost use Rattle.golog_semantics.specs.SortLaws.{AreInSorts};
-ghost use Rattle.golog_semantics.specs.Ways.{is_empty};
 ghost use Rattle.golog_semantics.specs.WellFormed.{WellFormed};
 ghost use Rattle.golog_search.specs.Finding.{found, mode_of as mode_for};
-ghost use Rattle.golog_search.specs.Levels.{AreSearched, ends_at, next_level as next_of, run_to as run_of, start_of};
+ghost use Rattle.golog_search.specs.Levels.{AreSearched, ends_at, run_to as run_of};
 
 use crate::found::Found;
-use crate::level::{Reached, next_level};
+use crate::reached::Reached;
+use crate::search::Search;
 use golog_base::{List, NoMemory};
 use golog_progress::State;
 use golog_semantics::{Block, Mode};
-use golog_tree::{Agent, Label, Prog, Way, copy_prog};
+use golog_tree::{Agent, Way, copy_prog};
 use golog_ways::is_final;
 use std::alloc::Global;
-use std::mem;
 
-/// What a search has seen: the states that it has reached, level by level, those of the last level by
-/// themselves, and whether some step was not followed.
-#[derive(Drop)]
-pub struct Search {
-    pub before: List<List<Reached>>,
-    pub last: List<Reached>,
-    pub cut: bool,
-}
-
-/// The mode in which runs are looked for.
+/// The mode in which runs are looked for: `Must` where they are to be certain, else `Near`.
 fn mode_of(certain: bool) -> Mode
     ensures { result ≡ mode_for certain }
 {
     if certain { Mode::Must } else { Mode::Near }
-}
-
-/// Where a search begins.
-fn start(alloc: Global, prog: &Prog, state: &State) -> Result<Reached, NoMemory>
-    ensures { IfOk result (λ reached. reached ≡ start_of prog.now state.now) }
-{
-    let state = state.copy(alloc)?;
-    let left = copy_prog(alloc, prog)?;
-    let way = Way {
-        label: Label::Quiet,
-        left,
-    };
-    Ok(Reached {
-        way,
-        state,
-        from: 0,
-    })
 }
 
 /// A copy of the step.
@@ -62,7 +35,8 @@ fn copy_way(alloc: Global, way: &Way) -> Result<Way, NoMemory>
     })
 }
 
-/// The run that led to the state at a place of a level, through the levels before it.
+/// The run that led to the state at a place among these, through the levels before them. A place where no
+/// state stands has the empty run.
 fn run_to(
     alloc: Global,
     before: &[List<Reached>],
@@ -101,44 +75,7 @@ fn first_end(
     Ok(None)
 }
 
-impl Search {
-    /// A search that stands where it begins.
-    fn new(alloc: Global, prog: &Prog, state: &State) -> Result<Search, NoMemory>
-        ensures { IfOk result (λ search. search
-            ≡ record { before = []; last = start_of prog.now state.now ∷ []; cut = false }) }
-    {
-        let start = start(alloc, prog, state)?;
-        Ok(Search {
-            before: List::new(alloc),
-            last: List::from_vec(vec![in alloc; start]?),
-            cut: false,
-        })
-    }
-
-    /// Whether something stays unseen: what comes after the last level, or after a step that was not followed.
-    fn is_cut(&self) -> bool
-        ensures { result ≡ (not (is_empty self.now.last) || self.now.cut) }
-    {
-        !self.last.is_empty() || self.cut
-    }
-
-    /// Looks one step further.
-    fn deepen(&mut self, alloc: Global, agent: &Agent, mode: Mode) -> Result<(), NoMemory>
-        requires agent { WellFormed agent.now }
-        requires searched { AreSearched agent.now self.old.last }
-        ensures before { OnOk result (self.new.before ≡ self.old.before ++ self.old.last ∷ []) }
-        ensures last { OnOk result (self.new.last ≡ (next_of agent.now mode self.old.last).states) }
-        ensures cut { OnOk result (self.new.cut ≡ (self.old.cut || (next_of agent.now mode self.old.last).cut)) }
-        ensures searched { OnOk result (AreSearched agent.now self.new.last) }
-    {
-        let next = next_level(alloc, agent, mode, self.last.as_slice())?;
-        let last = mem::replace(&mut self.last, next.states);
-        self.cut = self.cut || next.cut;
-        self.before.push(last)
-    }
-}
-
-/// What is left of the fuel once as many states are looked at: `None` where it does not suffice.
+/// What is left of the fuel when so many states are looked at, and `None` where it does not suffice.
 fn spent(fuel: usize, count: usize) -> Option<usize>
     ensures { MatchOption result (fuel < count) (λ rest. rest + count ≡ fuel) }
 {
@@ -149,11 +86,13 @@ fn spent(fuel: usize, count: usize) -> Option<usize>
     }
 }
 
-/// The search of a block in a state, in mode `Must` where the run is to be certain, else in mode `Near`. `Run`
-/// is the first run of least length, where there is one of at least one and at most as many steps as the depth.
+/// The search of a block in a state: of runs that are certain, or else of runs that there may be were more
+/// known. A run has at least one step and at most as many as the depth, and leads to where the program may end.
+///
 /// `Fuel` comes exactly where the search would look at more states than the fuel: at the distinct states of
-/// each number of steps below the least length of a run, or below the depth where there is none. Else `Absent`
-/// tells whether something stayed unseen. `NoMemory` where none is left for the states.
+/// each number of steps below the least length of a run, or below the depth where there is no run. Else `Run`
+/// is the first run of least length, and where there is none `Absent` tells whether something stayed unseen.
+/// `NoMemory` comes where none is left for the states.
 pub fn find(
     alloc: Global,
     agent: &Agent,
@@ -177,7 +116,12 @@ pub fn find(
         fuel = rest;
         search.deepen(alloc, agent, mode)?;
         if let Some(place) = first_end(alloc, agent, mode, search.last.as_slice())? {
-            let run = run_to(alloc, search.before.as_slice(), search.last.as_slice(), place)?;
+            let run = run_to(
+                alloc,
+                search.before.as_slice(),
+                search.last.as_slice(),
+                place,
+            )?;
             return Ok(Found::Run(run));
         }
     }

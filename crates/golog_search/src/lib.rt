@@ -1,4 +1,4 @@
-//! What a program does next.
+//! What a program does next, and the search of a block.
 #![tactic(auto)]
 
 mod deciding;
@@ -7,7 +7,10 @@ mod finding;
 mod found;
 mod laws;
 mod level;
+mod reached;
 mod same;
+mod search;
+mod steps;
 
 pub use deciding::{NEST_LIMIT, decide};
 pub use decision::{Blocked, Decision};

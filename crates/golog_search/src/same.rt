@@ -3,7 +3,7 @@ ghost use Rattle.std.specs.Prelude.{◌≡◌, ◌↔◌, IsTrue};
 use golog_base::{Boxed, List};
 use golog_tree::{Arg, Cond, Prog, Term, Way};
 
-// Whether two lists of arguments are equal.
+/// Whether two lists of arguments are equal.
 fn are_same_args(one: &List<Arg>, other: &List<Arg>) -> bool
     ensures { IsTrue result ↔ (one.now ≡ other.now) }
 {
@@ -12,7 +12,7 @@ fn are_same_args(one: &List<Arg>, other: &List<Arg>) -> bool
 
 /// Whether two terms are equal.
 #[cycle(is_same_cond)]
-pub fn is_same_term(one: &Term, other: &Term) -> bool
+fn is_same_term(one: &Term, other: &Term) -> bool
     ensures { IsTrue result ↔ (one.now ≡ other.now) }
 {
     match (one, other) {
@@ -44,7 +44,7 @@ pub fn is_same_term(one: &Term, other: &Term) -> bool
     }
 }
 
-// Whether two lists of conditions are equal.
+/// Whether two lists of conditions are equal.
 #[cycle(is_same_cond)]
 fn are_same_conds(one: &[Cond], other: &[Cond]) -> bool
     ensures { IsTrue result ↔ (one.now ≡ other.now) }
@@ -64,7 +64,7 @@ fn are_same_conds(one: &[Cond], other: &[Cond]) -> bool
 
 /// Whether two conditions are equal.
 #[cycle(is_same_cond)]
-pub fn is_same_cond(one: &Cond, other: &Cond) -> bool
+fn is_same_cond(one: &Cond, other: &Cond) -> bool
     ensures { IsTrue result ↔ (one.now ≡ other.now) }
 {
     match (one, other) {
@@ -119,17 +119,17 @@ pub fn is_same_cond(one: &Cond, other: &Cond) -> bool
     }
 }
 
-/// Whether two ways have the same label and the same left.
+/// Whether two steps are equal.
 #[cycle(is_same_prog)]
-pub fn is_same_way(one: &Way, other: &Way) -> bool
+fn is_same_way(one: &Way, other: &Way) -> bool
     ensures { IsTrue result ↔ (one.now ≡ other.now) }
 {
     one.label == other.label && is_same_prog(&one.left, &other.left)
 }
 
-/// Whether two lists of ways are equal.
+/// Whether two lists of steps are equal.
 #[cycle(is_same_prog)]
-pub fn are_same_ways(one: &[Way], other: &[Way]) -> bool
+fn are_same_ways(one: &[Way], other: &[Way]) -> bool
     ensures { IsTrue result ↔ (one.now ≡ other.now) }
 {
     let mut rest = other;
@@ -145,7 +145,7 @@ pub fn are_same_ways(one: &[Way], other: &[Way]) -> bool
     rest.is_empty()
 }
 
-// Whether two parts of programs are equal.
+/// Whether two parts of programs are equal.
 #[cycle(is_same_prog)]
 fn is_same_part(one: &Boxed<Prog>, other: &Boxed<Prog>) -> bool
     ensures { IsTrue result ↔ (one.now ≡ other.now) }

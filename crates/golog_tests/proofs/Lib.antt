@@ -2,3 +2,4 @@ pub mod Counted
 pub mod Closed
 pub mod Grounded
 pub mod Evaluated
+pub mod Searched

@@ -28,6 +28,35 @@ pub const LAMPS: &[u8] = b"(agent
     (fluent sign () colour red)
     (main nil))";
 
+/// Stairs of four levels, to be gone up to the last from the first.
+pub const STAIRS: &[u8] = b"(agent
+    (sort level 1 4)
+    (fluent at () level 1)
+    (action up ()) (poss (up) (< (at) 4)) (causes (up) (at) (+ (at) 1))
+    (main (seq (star (act up)) (test (= (at) 4)))))";
+
+/// A road to `a` and on to `b` or to `c`, of which the way to `b` is blocked.
+pub const ROADS: &[u8] = b"(agent
+    (sort place a b c)
+    (fluent blocked (place) bool false) (start (blocked b) true)
+    (action go (place)) (poss (go x) (not (blocked x)))
+    (main (seq (act go a) (choice (act go b) (act go c)))))";
+
+/// Two actions, each of which may be followed by a third, and leaves other values than the other.
+pub const BRANCHES: &[u8] = b"(agent
+    (fluent p () bool false) (fluent q () bool false)
+    (action a ()) (action b ()) (action c ())
+    (causes (a) (p) true) (causes (b) (q) true)
+    (main (seq (choice (act a) (act b)) (act c))))";
+
+/// A door that may be gone through where it is open, which nobody knows until they look.
+pub const DOOR: &[u8] = b"(agent
+    (device door)
+    (fluent opened () bool)
+    (action look () door) (action go ())
+    (senses (look) (opened))
+    (main (seq (act look) (test (opened)) (act go))))";
+
 /// Whether the condition is that the lamp is on, or that the bell is awaited: that fluent is the first in its
 /// file.
 pub fn is_first_fluent(cond: &Cond) -> bool {

@@ -20,6 +20,8 @@ mod prints;
 #[cfg(test)]
 mod puts;
 #[cfg(test)]
+mod searches;
+#[cfg(test)]
 mod steps;
 #[cfg(test)]
 mod texts;

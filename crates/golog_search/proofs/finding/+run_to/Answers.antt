@@ -3,7 +3,7 @@ use Rattle.std.specs.Prelude.{reverse, slice_get}
 use Rattle.std.proofs.lemmas.Bool.{ltb-false, ltb-true}
 use Rattle.std.proofs.lemmas.Option.{slice_get_past, slice_get_read}
 use Rattle.golog_tree.specs.declared.prog.Way.{Way}
-use Rattle.golog_search.specs.declared.level.Reached.{Reached}
+use Rattle.golog_search.specs.declared.reached.Reached.{Reached}
 use Rattle.golog_search.specs.Levels.{run_to}
 use Rattle.golog_search.proofs.RunsTo.{reverse-last, run_to-none, run_to-some, with_step}
 use Rattle.golog_search.proofs.finding.+run_to.Goals as goal
@@ -26,7 +26,7 @@ returns t c =
     let earlier = reverse (take n c.args.before.now) in
     let nearer = c.nearer-item.result in
     let run : c.in_ok-run.run' ≡ run_to earlier nearer reached.from =
-        c.in_ok-run.ensures ∙ ap (λ (l : List Reached). run_to earlier l reached.from) c.as_slice.ensures in
+    c.in_ok-run.ensures ∙ ap (λ (l : List Reached). run_to earlier l reached.from) c.as_slice.ensures in
     c.in_ok-push.ensures.ok
     ∙ ap (λ (ws : List Way). ws ++ c.in_ok-copy_way.field-0 ∷ []) run
     ∙ ap (λ (w : Way). run_to earlier nearer reached.from ++ w ∷ []) c.in_ok-copy_way.ensures

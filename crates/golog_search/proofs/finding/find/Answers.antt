@@ -2,7 +2,7 @@ use Rattle.std.proofs.Common.{◌≡◌, ℕ, ◌+◌, ◌<◌, List, Some, None
 use Rattle.std.specs.Prelude.{length, reverse}
 use Rattle.std.specs.List.{position_from}
 use Rattle.golog_semantics.specs.declared.Mode.{Mode}
-use Rattle.golog_search.specs.declared.level.Reached.{Reached}
+use Rattle.golog_search.specs.declared.reached.Reached.{Reached}
 use Rattle.golog_search.specs.declared.found.Found.TheVariants.{Absent, Run as Runs}
 use Rattle.golog_search.specs.Finding.{found}
 use Rattle.golog_search.specs.Levels.{ends_at, run_to}
@@ -32,10 +32,10 @@ returns-in-Some-2 c =
     let seen = seen-further agent m block values c.loop-step._step old new c.loop-step.invariant.seen c.in_ok-deepen.ensures.before c.in_ok-deepen.ensures.last c.in_ok-deepen.ensures.cut in
     let rest : c.in-Some.rest + length old.last ≡ c.loop-step.fuel = ap (λ k. c.in-Some.rest + k) (sym c.len.ensures) ∙ c.in-Some.ensures in
     let ended : position_from (ends_at agent m) 0 new.last ≡ Some place =
-        ap (position_from (ends_at agent m) 0) (sym c.as_slice.ensures) ∙ sym c.in_ok-place.ensures ∙ c.in-Some-2.is in
+    ap (position_from (ends_at agent m) 0) (sym c.as_slice.ensures) ∙ sym c.in_ok-place.ensures ∙ c.in-Some-2.is in
     let run : c.in_ok-run.run' ≡ run_to (reverse new.before) new.last place =
-        c.in_ok-run.ensures ∙ ap (λ (b : List (List Reached)). run_to (reverse b) c.as_slice-in-Some-2-2.result.now place) c.as_slice-in-Some-2.ensures
-        ∙ ap (λ (l : List Reached). run_to (reverse new.before) l place) c.as_slice-in-Some-2-2.ensures in
+    c.in_ok-run.ensures ∙ ap (λ (b : List (List Reached)). run_to (reverse b) c.as_slice-in-Some-2-2.result.now place) c.as_slice-in-Some-2.ensures
+    ∙ ap (λ (l : List Reached). run_to (reverse new.before) l place) c.as_slice-in-Some-2-2.ensures in
     ap Runs run
     ∙ finds agent m block values c.loop-step._step c.loop-step.fuel c.in-Some.rest place old new c.loop-step.invariant (omega arith) rest seen ended
     ∙ ap (λ (k : Mode). found agent values k block) c.mode_of-mode.ensures
@@ -51,7 +51,7 @@ loop-step-preserved c =
     let seen = seen-further agent m block values c.loop-step._step old new c.loop-step.invariant.seen c.in_ok-deepen.ensures.before c.in_ok-deepen.ensures.last c.in_ok-deepen.ensures.cut in
     let rest : c.in-Some.rest + length old.last ≡ c.loop-step.fuel = ap (λ k. c.in-Some.rest + k) (sym c.len.ensures) ∙ c.in-Some.ensures in
     let none : position_from (ends_at agent m) 0 new.last ≡ None =
-        ap (position_from (ends_at agent m) 0) (sym c.as_slice.ensures) ∙ sym c.in_ok-place.ensures ∙ c.in_default-2.is in
+    ap (position_from (ends_at agent m) 0) (sym c.as_slice.ensures) ∙ sym c.in_ok-place.ensures ∙ c.in_default-2.is in
     goes-further agent m block values c.loop-step._step c.loop-step.fuel c.in-Some.rest old new c.loop-step.invariant rest seen c.in_ok-deepen.ensures.searched none
 
 pub returns : goal.returns

@@ -11,5 +11,5 @@ returns-clause-searched c =
     let agent = c.args.agent.now in
     let states = c.args.states.now in
     let is : next_level agent c.args.mode states ≡ c.loop-from.level =
-        c.loop-from.invariant ∙ at_drop_all (with_steps agent c.args.mode c.loop-from.from c.loop-from.level) states c.loop-from.from (omega arith) in
+    c.loop-from.invariant ∙ at_drop_all (with_steps agent c.args.mode c.loop-from.from c.loop-from.level) states c.loop-from.from (omega arith) in
     subst (λ (l : Level). AreSearched agent l.states) is (next_level-stays agent c.requires.agent c.args.mode states c.requires.searched)

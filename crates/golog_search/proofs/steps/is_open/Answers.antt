@@ -3,7 +3,7 @@ use Rattle.golog_tree.specs.declared.cond.Truth.{Truth}
 use Rattle.golog_semantics.specs.Modes.{holds}
 use Rattle.golog_semantics.specs.Truth.{Env, truth_of}
 use Rattle.golog_ways.proofs.Acting.{closed_cond}
-use Rattle.golog_search.proofs.level.is_open.Goals as goal
+use Rattle.golog_search.proofs.steps.is_open.Goals as goal
 
 pub value-requires-clause-fits : goal.value-requires-clause-fits
 value-requires-clause-fits c = closed_cond c.args.agent.now c.args.front.now.cond c.new.result c.requires.closed

@@ -1,7 +1,7 @@
 use Rattle.std.proofs.Common.{◌≡◌}
 use Rattle.golog_semantics.specs.Fronts.{open_ways}
 use Rattle.golog_ways.specs.FrontLists.{guarded}
-use Rattle.golog_search.proofs.level.open_ways.Given as goal
+use Rattle.golog_search.proofs.steps.open_ways.Given as goal
 
 -- the ways of the fronts so far whose condition holds
 abbrev pub invariant-loop-front : goal.invariant-loop-front

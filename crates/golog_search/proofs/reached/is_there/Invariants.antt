@@ -1,6 +1,6 @@
 use Rattle.std.proofs.Common.{◌≡◌, drop}
 use Rattle.golog_search.specs.Levels.{is_there}
-use Rattle.golog_search.proofs.level.is_there.Given as goal
+use Rattle.golog_search.proofs.reached.is_there.Given as goal
 
 -- the states still to be tried decide
 abbrev pub invariant-loop-reached : goal.invariant-loop-reached

@@ -1,0 +1,178 @@
+ghost use Rattle.std.specs.Prelude.{◌≡◌, IfOk};
+ghost use Rattle.golog_semantics.specs.WellFormed.{WellFormed};
+ghost use Rattle.golog_agent.specs.Built.{IsBuilt};
+
+use crate::agents::{BRANCHES, DOOR, ROADS, STAIRS};
+use golog_agent::read_agent;
+use golog_base::NoMemory;
+use golog_progress::start;
+use golog_search::{Block, Found, find};
+use golog_tree::{Agent, Label, Way, copy_prog};
+use std::alloc::Global;
+
+/// What is asked of a search: how long its runs may be, how many states may be looked at, and whether its run
+/// is to be certain.
+#[derive(Clone, Copy)]
+struct Asked {
+    depth: u32,
+    fuel: u32,
+    certain: bool,
+}
+
+/// What a search is to come to: a run of these labels, none, or want of fuel.
+#[derive(Clone, Copy)]
+enum Wanted<'a> {
+    Run(&'a [Label]),
+    Absent { cut: bool },
+    Fuel,
+}
+
+/// Whether the steps have these labels.
+fn has_labels(run: &[Way], labels: &[Label]) -> bool {
+    let mut rest = labels;
+    for way in run {
+        let Some((first, later)) = rest.split_first() else {
+            return false;
+        };
+        if way.label != *first {
+            return false;
+        }
+        rest = later;
+    }
+    rest.is_empty()
+}
+
+/// Whether this is what the search was to come to.
+fn is_wanted(found: &Found, wanted: Wanted<'_>) -> bool {
+    match (found, wanted) {
+        (Found::Run(run), Wanted::Run(labels)) => has_labels(run.as_slice(), labels),
+        (Found::Absent { cut }, Wanted::Absent { cut: c }) => *cut == c,
+        (Found::Fuel, Wanted::Fuel) => true,
+        _ => false,
+    }
+}
+
+/// The agent's program as a search block.
+fn block_of(alloc: Global, agent: &Agent, asked: Asked) -> Result<Block, NoMemory>
+    ensures { IfOk result (λ block. block.body ≡ agent.now.main) }
+{
+    let body = copy_prog(alloc, &agent.main)?;
+    Ok(Block {
+        depth: asked.depth,
+        fuel: asked.fuel,
+        body,
+    })
+}
+
+/// What the search of that block comes to at the start.
+#[tactic(auto, using(crate::proofs::Searched::body_fits, crate::proofs::Searched::body_free))]
+fn find_at_start(
+    alloc: Global,
+    agent: &Agent,
+    block: &Block,
+    certain: bool,
+) -> Result<Found, NoMemory>
+    requires formed { WellFormed agent.now }
+    requires built { IsBuilt agent.now }
+    requires body { block.now.body ≡ agent.now.main }
+{
+    match start(alloc, agent) {
+        Ok(state) => find(alloc, agent, block, &state, certain),
+        Err(NoMemory) => Err(NoMemory),
+    }
+}
+
+/// Whether it comes to what is wanted.
+fn block_comes_to(
+    alloc: Global,
+    agent: &Agent,
+    block: &Block,
+    certain: bool,
+    wanted: Wanted<'_>,
+) -> bool
+    requires formed { WellFormed agent.now }
+    requires built { IsBuilt agent.now }
+    requires body { block.now.body ≡ agent.now.main }
+{
+    let made = find_at_start(alloc, agent, block, certain);
+    let answer = match &made {
+        Ok(found) => is_wanted(found, wanted),
+        Err(_fault) => false,
+    };
+    drop(made);
+    answer
+}
+
+/// The same of the agent's program.
+fn main_comes_to(alloc: Global, agent: &Agent, asked: Asked, wanted: Wanted<'_>) -> bool
+    requires formed { WellFormed agent.now }
+    requires built { IsBuilt agent.now }
+{
+    let made = block_of(alloc, agent, asked);
+    let answer = match &made {
+        Ok(block) => block_comes_to(alloc, agent, block, asked.certain, wanted),
+        Err(_fault) => false,
+    };
+    drop(made);
+    answer
+}
+
+/// The same of the program of an agent that is read.
+fn comes_to(alloc: Global, bytes: &[u8], asked: Asked, wanted: Wanted<'_>) -> bool {
+    let read = read_agent(alloc, bytes);
+    let answer = match &read {
+        Ok(agent) => main_comes_to(alloc, agent, asked, wanted),
+        Err(_fault) => false,
+    };
+    drop(read);
+    answer
+}
+
+/// A certain run of at most so many steps, with so much fuel.
+fn certain(depth: u32, fuel: u32) -> Asked {
+    Asked {
+        depth,
+        fuel,
+        certain: true,
+    }
+}
+
+#[test]
+fn a_run_as_long_as_the_depth_is_found(rt: HostRuntime) {
+    let up = [Label::Do(2), Label::Do(2), Label::Do(2), Label::Quiet];
+    assert!(rt; comes_to(rt.alloc(), STAIRS, certain(4, 1000), Wanted::Run(&up)));
+}
+
+#[test]
+fn a_run_beyond_the_depth_is_cut(rt: HostRuntime) {
+    assert!(rt; comes_to(rt.alloc(), STAIRS, certain(3, 1000), Wanted::Absent { cut: true }));
+}
+
+#[test]
+fn the_first_of_the_shortest_runs_is_found(rt: HostRuntime) {
+    let first = [Label::Do(2), Label::Do(4)];
+    assert!(rt; comes_to(rt.alloc(), BRANCHES, certain(4, 3), Wanted::Run(&first)));
+}
+
+#[test]
+fn a_search_may_want_fuel(rt: HostRuntime) {
+    assert!(rt; comes_to(rt.alloc(), BRANCHES, certain(4, 2), Wanted::Fuel));
+}
+
+#[test]
+fn a_run_goes_round_what_is_blocked(rt: HostRuntime) {
+    let round = [Label::Do(2), Label::Do(4)];
+    assert!(rt; comes_to(rt.alloc(), ROADS, certain(4, 1000), Wanted::Run(&round)));
+}
+
+#[test]
+fn a_run_that_is_not_certain_may_be(rt: HostRuntime) {
+    let through = [Label::Do(2), Label::Quiet, Label::Do(3)];
+    let near = Asked {
+        depth: 4,
+        fuel: 1000,
+        certain: false,
+    };
+    assert!(rt; comes_to(rt.alloc(), DOOR, certain(4, 1000), Wanted::Absent { cut: false }));
+    assert!(rt; comes_to(rt.alloc(), DOOR, near, Wanted::Run(&through)));
+}
