@@ -1,6 +1,6 @@
 -- What a step leaves of a program without search blocks has none.
-use Rattle.std.proofs.Common.{◌≡◌, ℕ, ◌+◌, Bool, true, false, if◌then◌else◌, List, [], ◌∷◌, Option, Some, None, refl, sym, ap, ◌∙◌, subst}
-use Rattle.std.specs.Prelude.{not, ◌||◌, slice_get, Contains}
+use Rattle.std.proofs.Common.{◌≡◌, ℕ, ◌+◌, Bool, true, false, if◌then◌else◌, List, [], ◌∷◌, Option, Some, None, refl, sym, ◌∙◌, subst}
+use Rattle.std.specs.Prelude.{not, ◌||◌, slice_get}
 use Rattle.golog_tree.specs.declared.agent.Agent.{Agent}
 use Rattle.golog_tree.specs.declared.agent.ProcItem.{ProcItem}
 use Rattle.golog_tree.specs.declared.cond.Arg.{Arg}
@@ -11,9 +11,8 @@ use Rattle.golog_tree.specs.declared.prog.Prog.TheVariants as prog
 use Rattle.golog_tree.specs.declared.prog.Prog.TheViews.{out-Prog}
 use Rattle.golog_tree.specs.declared.prog.Prog.TheFolds.{fold_out-Prog, fold-Way, map-Prog}
 use Rattle.golog_tree.specs.declared.prog.Way.{Way}
-use Rattle.golog_tree.specs.Tidy.{Layer, tidy_pair, tidy_right, tidy_seq, tidy_conc, tidy_prio}
+use Rattle.golog_tree.specs.Tidy.{Layer, tidy_pair, tidy_right, tidy_seq}
 use Rattle.golog_semantics.specs.declared.Mode.{Mode}
-use Rattle.golog_semantics.specs.declared.search.Move.{Move}
 use Rattle.golog_semantics.specs.Truth.{Values}
 use Rattle.golog_semantics.specs.Program.{put_arg, put_args, body_with}
 use Rattle.golog_semantics.specs.Blocks.{block_moves, moves}

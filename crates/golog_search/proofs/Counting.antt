@@ -1,5 +1,5 @@
 -- How many states a search looks at, and what it leaves unseen.
-use Rattle.std.proofs.Common.{◌≡◌, ℕ, zero, suc, ◌+◌, ◌≤◌, ◌<◌, Bool, true, false, if◌then◌else◌, List, [], ◌∷◌, ◌++◌, length, map, Option, Some, None, refl, sym, ap, ◌∙◌, subst, arith}
+use Rattle.std.proofs.Common.{◌≡◌, ℕ, zero, suc, ◌+◌, ◌≤◌, Bool, true, false, if◌then◌else◌, List, [], ◌∷◌, ◌++◌, length, map, Option, refl, sym, ap, ◌∙◌, subst, arith}
 use Rattle.std.specs.Prelude.{not, ◌&&◌, ◌||◌, filter, sum_by, unwrap_or}
 use Rattle.std.specs.List.{flat_map, list_any, range_with_len}
 use Rattle.std.proofs.lemmas.List.{length-map}
@@ -11,13 +11,13 @@ use Rattle.golog_semantics.specs.declared.Mode.{Mode}
 use Rattle.golog_semantics.specs.Truth.{Values}
 use Rattle.golog_semantics.specs.Values.{after}
 use Rattle.golog_semantics.specs.Ways.{is_empty}
-use Rattle.golog_semantics.specs.Search.{Run, best, best_from, is_followed, plain_ways}
+use Rattle.golog_semantics.specs.Search.{Run, best, is_followed, plain_ways}
 use Rattle.golog_semantics.specs.Blocks.{State, distinct, has_path, is_cut, level, meets_cut, next_states, option_length, same_state, work}
 use Rattle.golog_search.specs.declared.level.Level.{Level}
 use Rattle.golog_search.specs.declared.reached.Reached.{Reached}
-use Rattle.golog_search.specs.Levels.{count_before, cut_before, level_at, next_level, is_there, reached_by, start_of, state_of}
+use Rattle.golog_search.specs.Levels.{count_before, cut_before, level_at, is_there, reached_by, state_of}
 use Rattle.golog_search.proofs.FirstRuns.{same_state-eq}
-use Rattle.golog_search.proofs.LevelParts.{any-append, cut_at, cuts, fresh, next_level-parts, next_level-states, or-assoc, or-false, or-swap, or-true, steps_all, steps_from}
+use Rattle.golog_search.proofs.LevelParts.{any-append, cut_at, cuts, fresh, next_level-parts, next_level-states, or-assoc, or-false, steps_all, steps_from}
 
 -- whether some of these pass, as their distinct states tell
 module _ (f : State → Bool) where

@@ -1,5 +1,5 @@
 -- The first state of a level in which the program may end, and the first run of that length.
-use Rattle.std.proofs.Common.{◌≡◌, ℕ, zero, suc, ◌+◌, ◌≤◌, ◌<◌, Bool, true, false, if◌then◌else◌, List, [], ◌∷◌, ◌++◌, length, Option, Some, None, refl, sym, ap, ◌∙◌, subst, arith}
+use Rattle.std.proofs.Common.{◌≡◌, ℕ, suc, ◌+◌, Bool, true, false, if◌then◌else◌, List, [], ◌∷◌, ◌++◌, Option, Some, None, refl, sym, ap, ◌∙◌, arith}
 use Rattle.std.specs.Prelude.{slice_get}
 use Rattle.std.specs.List.{position_from}
 use Rattle.std.specs.Option.{option_map, option_or}
@@ -8,11 +8,11 @@ use Rattle.golog_tree.specs.declared.agent.Agent.{Agent}
 use Rattle.golog_tree.specs.declared.prog.Prog.{Prog}
 use Rattle.golog_semantics.specs.declared.Mode.{Mode}
 use Rattle.golog_semantics.specs.Truth.{Values}
-use Rattle.golog_semantics.specs.Search.{Run, best_from, final, first_of, runs}
+use Rattle.golog_semantics.specs.Search.{Run, best_from, first_of, runs}
 use Rattle.golog_ways.specs.First.{head_of}
 use Rattle.golog_search.specs.declared.reached.Reached.{Reached}
 use Rattle.golog_search.specs.Levels.{ends_at, level_at, state_of}
-use Rattle.golog_search.proofs.FirstRuns.{AreLed, first_in, first_run, first-through, led_to, levels-led, run_through, to_place}
+use Rattle.golog_search.proofs.FirstRuns.{first_in, first_run, first-through, led_to, levels-led, run_through, to_place}
 
 append-none : (run : Run) → run ++ [] ≡ run
 append-none [] = refl

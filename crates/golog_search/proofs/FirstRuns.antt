@@ -1,7 +1,7 @@
 -- The first run of a length, found among the states that so many steps lead to.
 use Rattle.std.proofs.Common.{◌≡◌, ℕ, zero, suc, ◌+◌, Bool, true, false, if◌then◌else◌, List, [], ◌∷◌, ◌++◌, map, Option, Some, None, refl, sym, ap, ◌∙◌, append_assoc, arith}
 use Rattle.std.specs.Prelude.{◌||◌, filter, slice_get}
-use Rattle.std.specs.List.{flat_map, list_any}
+use Rattle.std.specs.List.{flat_map}
 use Rattle.std.specs.Option.{option_map, option_or}
 use Rattle.golog_tree.specs.declared.agent.Agent.{Agent}
 use Rattle.golog_tree.specs.declared.prog.Prog.{Prog}
@@ -18,9 +18,9 @@ use Rattle.golog_semantics.proofs.Words.{and-left, and-right}
 use Rattle.golog_ways.specs.First.{head_of}
 use Rattle.golog_search.specs.declared.level.Level.{Level}
 use Rattle.golog_search.specs.declared.reached.Reached.{Reached}
-use Rattle.golog_search.specs.Levels.{is_there, level_at, levels_before, next_level, reached_by, run_to, start_of, state_of}
+use Rattle.golog_search.specs.Levels.{is_there, level_at, levels_before, reached_by, run_to, start_of, state_of}
 use Rattle.golog_search.proofs.LevelParts.{fresh, next_level-parts, steps_all, steps_from}
-use Rattle.golog_search.proofs.RunsTo.{run_to-some, with_step}
+use Rattle.golog_search.proofs.RunsTo.{run_to-some}
 
 pub same_state-eq : (s t : State) → same_state s t ≡ true → s ≡ t
 same_state-eq (p, v) (q, w) e =

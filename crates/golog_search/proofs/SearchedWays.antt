@@ -1,6 +1,6 @@
 -- The ways of programs that a search reaches, and where they lead.
-use Rattle.std.proofs.Common.{◌≡◌, ℕ, suc, ◌+◌, ◌<◌, Bool, true, false, if◌then◌else◌, List, [], ◌∷◌, ◌++◌, map, refl, sym, ap, ◌∙◌, subst, arith}
-use Rattle.std.specs.Prelude.{not, ◌&&◌, All, fold}
+use Rattle.std.proofs.Common.{◌≡◌, Bool, true, false, List, [], ◌∷◌, map, refl, ap, subst}
+use Rattle.std.specs.Prelude.{not}
 use Rattle.std.specs.List.{list_all}
 use Rattle.golog_tree.specs.declared.agent.Agent.{Agent}
 use Rattle.golog_tree.specs.declared.prog.Prog.{Prog}
@@ -26,7 +26,7 @@ use Rattle.golog_semantics.proofs.Tests.{and_both}
 use Rattle.golog_ways.specs.FrontBlock.{has_front_block}
 use Rattle.golog_ways.proofs.FrontBlocks.{block-held}
 use Rattle.golog_search.specs.Levels.{IsSearched}
-use Rattle.golog_search.proofs.Blockless.{P, blockless, lefts_blockless, not_so}
+use Rattle.golog_search.proofs.Blockless.{blockless, lefts_blockless, not_so}
 
 -- no block stands at the front of a program without blocks
 pub free-of : (agent : Agent) (p : Prog) (values : Values) → IsSearched agent p values → has_front_block agent p ≡ false

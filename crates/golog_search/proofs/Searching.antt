@@ -1,13 +1,12 @@
 -- What a search has found out that looked as far as so many steps.
-use Rattle.std.proofs.Common.{◌≡◌, ℕ, zero, suc, ◌+◌, ◌-◌, ◌≤◌, ◌<◌, Bool, true, false, if◌then◌else◌, List, [], ◌∷◌, ◌++◌, length, Option, Some, None, refl, sym, ap, ◌∙◌, subst, arith, inl, inr}
-use Rattle.std.specs.Prelude.{not, ◌||◌, nat_lt, reverse, unwrap_or, MatchOption}
+use Rattle.std.proofs.Common.{◌≡◌, ℕ, suc, ◌+◌, ◌-◌, ◌≤◌, ◌<◌, false, if◌then◌else◌, List, [], ◌∷◌, ◌++◌, length, Option, Some, None, refl, sym, ap, ◌∙◌, subst, arith, inl, inr}
+use Rattle.std.specs.Prelude.{not, ◌||◌, reverse, unwrap_or, MatchOption}
 use Rattle.std.specs.List.{position_from}
 use Rattle.std.proofs.lemmas.Bool.{cases_lt, lt-ltb, le-ltb}
 use Rattle.std.proofs.lemmas.List.{reverse-append}
 use Rattle.std.proofs.lemmas.Option.{same_Some}
 use Rattle.std.proofs.lemmas.List.Elements.{All-nil, All-cons}
 use Rattle.golog_tree.specs.declared.agent.Agent.{Agent}
-use Rattle.golog_tree.specs.declared.prog.Prog.{Prog}
 use Rattle.golog_semantics.specs.declared.Mode.{Mode}
 use Rattle.golog_semantics.specs.declared.search.Block.{Block}
 use Rattle.golog_semantics.specs.Truth.{Values}
@@ -18,7 +17,6 @@ use Rattle.golog_semantics.specs.RunLaws.{IsLeast, NoneUpTo}
 use Rattle.golog_semantics.proofs.BestRuns.{best_is_least}
 use Rattle.golog_ways.specs.First.{head_of}
 use Rattle.golog_search.specs.declared.search.Search.{Search}
-use Rattle.golog_search.specs.declared.found.Found.{Found}
 use Rattle.golog_search.specs.declared.found.Found.TheVariants.{Absent, Fuel, Run as Runs}
 use Rattle.golog_search.specs.declared.reached.Reached.{Reached}
 use Rattle.golog_search.specs.Finding.{found, run_or}

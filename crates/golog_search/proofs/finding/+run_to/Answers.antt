@@ -1,11 +1,11 @@
-use Rattle.std.proofs.Common.{◌≡◌, ℕ, ◌+◌, ◌-◌, ◌<◌, List, [], ◌∷◌, ◌++◌, length, take, Some, None, refl, sym, ap, ◌∙◌, subst, arith}
+use Rattle.std.proofs.Common.{◌≡◌, ◌+◌, ◌-◌, ◌<◌, List, [], ◌∷◌, ◌++◌, length, take, Some, None, refl, sym, ap, ◌∙◌, arith}
 use Rattle.std.specs.Prelude.{reverse, slice_get}
 use Rattle.std.proofs.lemmas.Bool.{ltb-false, ltb-true}
 use Rattle.std.proofs.lemmas.Option.{slice_get_past, slice_get_read}
 use Rattle.golog_tree.specs.declared.prog.Way.{Way}
 use Rattle.golog_search.specs.declared.reached.Reached.{Reached}
 use Rattle.golog_search.specs.Levels.{run_to}
-use Rattle.golog_search.proofs.RunsTo.{reverse-last, run_to-none, run_to-some, with_step}
+use Rattle.golog_search.proofs.RunsTo.{reverse-last, run_to-none, run_to-some}
 use Rattle.golog_search.proofs.finding.+run_to.Goals as goal
 
 pub returns-in_default-get : goal.returns-in_default-get

@@ -1,9 +1,8 @@
-use Rattle.std.proofs.Common.{◌≡◌, List, sym, ◌∙◌, subst, arith}
+use Rattle.std.proofs.Common.{◌≡◌, ◌∙◌, subst, arith}
 use Rattle.std.proofs.lemmas.List.{at_drop_all}
 use Rattle.golog_search.specs.declared.level.Level.{Level}
 use Rattle.golog_search.specs.Levels.{AreSearched, next_level, with_steps}
 use Rattle.golog_search.proofs.LevelsStay.{next_level-stays}
-use Rattle.golog_search.proofs.Searching.{begins}
 use Rattle.golog_search.proofs.level.next_level.Goals as goal
 
 pub returns-clause-searched : goal.returns-clause-searched

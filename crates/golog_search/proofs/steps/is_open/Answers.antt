@@ -1,7 +1,6 @@
-use Rattle.std.proofs.Common.{◌≡◌, ℕ, List, sym, ap, ◌∙◌}
-use Rattle.golog_tree.specs.declared.cond.Truth.{Truth}
+use Rattle.std.proofs.Common.{ℕ, List, ap, ◌∙◌}
 use Rattle.golog_semantics.specs.Modes.{holds}
-use Rattle.golog_semantics.specs.Truth.{Env, truth_of}
+use Rattle.golog_semantics.specs.Truth.{truth_of}
 use Rattle.golog_ways.proofs.Acting.{closed_cond}
 use Rattle.golog_search.proofs.steps.is_open.Goals as goal
 

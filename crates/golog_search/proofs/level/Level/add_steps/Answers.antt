@@ -1,7 +1,6 @@
-use Rattle.std.proofs.Common.{◌≡◌, ℕ, List, true, refl, sym, ap, ◌∙◌, subst}
+use Rattle.std.proofs.Common.{◌≡◌, List, true, refl, sym, ◌∙◌, subst}
 use Rattle.std.specs.List.{list_all}
 use Rattle.golog_tree.specs.declared.prog.Way.{Way}
-use Rattle.golog_semantics.specs.Search.{plain_ways}
 use Rattle.golog_search.proofs.SearchedWays.{label_is, labels_fit}
 use Rattle.golog_search.proofs.level.Level.add_steps.Goals as goal
 
