@@ -145,7 +145,14 @@ fn a_run_as_long_as_the_depth_is_found(rt: HostRuntime) {
 
 #[test]
 fn a_run_beyond_the_depth_is_cut(rt: HostRuntime) {
-    assert!(rt; comes_to(rt.alloc(), STAIRS, certain(3, 1000), Wanted::Absent { cut: true }));
+    assert!(rt;
+        comes_to(
+            rt.alloc(),
+            STAIRS,
+            certain(3, 1000),
+            Wanted::Absent { cut: true }
+        )
+    );
 }
 
 #[test]
@@ -173,6 +180,13 @@ fn a_run_that_is_not_certain_may_be(rt: HostRuntime) {
         fuel: 1000,
         certain: false,
     };
-    assert!(rt; comes_to(rt.alloc(), DOOR, certain(4, 1000), Wanted::Absent { cut: false }));
+    assert!(rt;
+        comes_to(
+            rt.alloc(),
+            DOOR,
+            certain(4, 1000),
+            Wanted::Absent { cut: false }
+        )
+    );
     assert!(rt; comes_to(rt.alloc(), DOOR, near, Wanted::Run(&through)));
 }
