@@ -1,5 +1,5 @@
 -- The answer, where no result is awaited and the journal is not full, by what the program does next.
-use Rattle.std.proofs.Common.{◌≡◌, Bool, true, false, List, [], ◌∷◌, Option, Some, None, refl, sym, ap, ◌∙◌}
+use Rattle.std.proofs.Common.{◌≡◌, Bool, true, false, List, [], ◌∷◌, Option, Some, None, refl, ap, ◌∙◌}
 use Rattle.std.specs.Prelude.{not, ◌||◌, nat_lt, if◌then◌else◌}
 use Rattle.golog_tree.specs.declared.agent.Agent.{Agent}
 use Rattle.golog_tree.specs.declared.prog.Prog.{Prog}
@@ -18,8 +18,8 @@ use Rattle.golog_search.specs.declared.decision.Blocked.{Blocked}
 use Rattle.golog_search.specs.declared.decision.Blocked.TheVariants.{Unknown, Depth, Stuck}
 use Rattle.golog_search.specs.declared.decision.Decision.{Decision}
 use Rattle.golog_search.specs.declared.decision.Decision.TheVariants.{Final, Step, Blocked as Blocking, Deep}
-use Rattle.golog_search.specs.Decided.{decision, along, stepping, blocked}
-use Rattle.golog_search.specs.Laws.{answer_of, blocked_answer}
+use Rattle.golog_search.specs.Decided.{decision, stepping}
+use Rattle.golog_search.specs.Laws.{answer_of}
 
 -- the answer, by what it is decided by
 abbrev cases : Bool → Bool → Bool → Bool → List Move → Bool → Bool → Bool → Option Answer

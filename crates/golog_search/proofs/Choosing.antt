@@ -1,5 +1,5 @@
 -- What a program does next, from what is asked of its ways and ends.
-use Rattle.std.proofs.Common.{◌≡◌, Bool, true, false, if◌then◌else◌, List, [], ◌∷◌, map, Option, Some, None, refl, sym, ap, ◌∙◌, subst}
+use Rattle.std.proofs.Common.{◌≡◌, Bool, true, false, if◌then◌else◌, List, [], ◌∷◌, map, Some, None, refl, sym, ap, ◌∙◌}
 use Rattle.std.specs.Prelude.{not, ◌||◌}
 use Rattle.std.proofs.lemmas.Option.{same_Some}
 use Rattle.golog_tree.specs.declared.agent.Agent.{Agent}
@@ -16,9 +16,7 @@ use Rattle.golog_semantics.specs.Blocks.{moves}
 use Rattle.golog_semantics.specs.BlockFree.{has_block}
 use Rattle.golog_semantics.proofs.NoBlocks.{blockless_steps}
 use Rattle.golog_ways.specs.First.{head_of, first_way, has_way}
-use Rattle.golog_search.specs.declared.decision.Blocked.{Blocked}
 use Rattle.golog_search.specs.declared.decision.Blocked.TheVariants.{Unknown, Depth, Stuck}
-use Rattle.golog_search.specs.declared.decision.Decision.{Decision}
 use Rattle.golog_search.specs.declared.decision.Decision.TheVariants.{Final, Blocked as Blocking}
 use Rattle.golog_search.specs.Decided.{decision, blocked, along, stepping}
 use Rattle.golog_search.proofs.Blockless.{not_so}

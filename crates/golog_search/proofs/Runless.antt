@@ -1,5 +1,5 @@
 -- A step of a program without search blocks begins no run.
-use Rattle.std.proofs.Common.{◌≡◌, ℕ, zero, suc, ◌<◌, Bool, true, false, List, [], ◌∷◌, map, None, refl, arith}
+use Rattle.std.proofs.Common.{◌≡◌, ℕ, zero, suc, Bool, true, false, List, [], ◌∷◌, map, None, refl, arith}
 use Rattle.golog_tree.specs.declared.agent.Agent.{Agent}
 use Rattle.golog_tree.specs.declared.prog.Label.TheVariants.{Quiet, Do}
 use Rattle.golog_tree.specs.declared.prog.Prog.{Prog}

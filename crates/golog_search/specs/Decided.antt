@@ -1,5 +1,5 @@
 -- What a program does next at the values that are known, whatever stands in the journal.
-use Rattle.std.specs.Prelude.{Bool, not, ◌||◌, nat_lt, if◌then◌else◌, List, [], ◌∷◌}
+use Rattle.std.specs.Prelude.{not, ◌||◌, nat_lt, if◌then◌else◌, List, [], ◌∷◌}
 use Rattle.golog_tree.specs.declared.agent.Agent.{Agent}
 use Rattle.golog_tree.specs.declared.prog.Prog.{Prog}
 use Rattle.golog_tree.specs.Nest.{nest}

@@ -1,7 +1,7 @@
 -- What the search of a block comes to.
 --
--- That a search block looks for a run that leads to Final is De Giacomo and Levesque's (1999). The least length,
--- the depth, the fuel, and what is told where there is no run are this project's own.
+-- That a search block looks for a run that leads to Final is De Giacomo and Levesque's (1999). The least
+-- length, the depth, the fuel, and what is told where there is no run are this project's own.
 use Rattle.std.specs.Prelude.{Bool, nat_lt, if◌then◌else◌, Option, Some, None}
 use Rattle.golog_tree.specs.declared.agent.Agent.{Agent}
 use Rattle.golog_semantics.specs.declared.Mode.{Mode}

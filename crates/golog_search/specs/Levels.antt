@@ -1,5 +1,5 @@
--- The states that a search reaches, one step further at a time, each with the step that led there. They are as
--- code keeps them; `level` of golog_semantics says which states they are. This project's own.
+-- The states that a search reaches, one step further at a time, each with the step that led there. They are
+-- as code keeps them; `level` of golog_semantics says which states they are. This project's own.
 use Rattle.std.specs.Prelude.{◌≡◌, ℕ, zero, suc, ◌+◌, Bool, true, false, not, ◌||◌, IsTrue, if◌then◌else◌, List, [], ◌∷◌, ◌++◌, All, fold, length, reverse, slice_get}
 use Rattle.std.specs.List.{list_any}
 use Rattle.std.specs.Option.{option_map_or}

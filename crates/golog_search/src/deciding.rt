@@ -17,9 +17,9 @@ use std::alloc::Global;
 /// The deepest nest of what a step leaves.
 pub const NEST_LIMIT: u32 = 2048;
 
-/// What the program does next in the state, of a program that holds and reaches no search block: it ends where
-/// that is certain; else it takes the first certain step, unless what that leaves nests above 2,048; and else
-/// it is blocked. `Fuel` is never answered.
+/// What the program does next in the state, of a program that holds and reaches no search block: it ends
+/// where that is certain; else it takes the first certain step, unless what that leaves nests above 2,048;
+/// and else it is blocked. `Fuel` is never answered.
 pub fn decide(
     alloc: Global,
     agent: &Agent,

@@ -86,8 +86,9 @@ fn spent(fuel: usize, count: usize) -> Option<usize>
     }
 }
 
-/// The search of a block in a state: of runs that are certain, or else of runs that there may be were more
-/// known. A run has at least one step and at most as many as the depth, and leads to where the program may end.
+/// The search of a block in a state, for a run that is certain, or else for one that there may be were more
+/// known. A run has at least one step and at most as many as the depth, and leads to where the program may
+/// end.
 ///
 /// `Fuel` comes exactly where the search would look at more states than the fuel: at the distinct states of
 /// each number of steps below the least length of a run, or below the depth where there is no run. Else `Run`

@@ -15,8 +15,8 @@ use golog_semantics::Mode;
 use golog_tree::{Agent, Way, nest};
 use std::alloc::Global;
 
-/// The distinct states that are so many steps away, and whether some step there is not followed, as what it
-/// leaves nests too deep.
+/// The distinct states that are so many steps away, and whether some step that would lead there is not
+/// followed, since what it leaves nests too deep.
 #[derive(Drop)]
 pub struct Level {
     pub states: List<Reached>,
