@@ -13,3 +13,4 @@ pub mod FirstRuns
 pub mod Ending
 pub mod Counting
 pub mod Searching
+pub mod GoingThrough

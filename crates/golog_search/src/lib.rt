@@ -1,6 +1,7 @@
 //! What a program does next, and the search of a block.
 #![tactic(auto)]
 
+mod block_steps;
 mod deciding;
 mod decision;
 mod finding;
