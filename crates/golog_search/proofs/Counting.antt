@@ -48,11 +48,11 @@ module _ (f : State → Bool) where
       go false there true e one other = ap (λ a. a || list_any passes (fresh (seen ++ x ∷ []) xs)) e ∙ ap (λ a. a || list_any passes xs) (sym e)
       go false there false e one other = ap (λ a. passes x || a) (other e)
 
-any-map : {A B : Type 0} (f : B → Bool) (g : A → B) (xs : List A) → list_any f (map g xs) ≡ list_any (λ x. f (g x)) xs
+pub any-map : {A B : Type 0} (f : B → Bool) (g : A → B) (xs : List A) → list_any f (map g xs) ≡ list_any (λ x. f (g x)) xs
 any-map f g [] = refl
 any-map f g (x ∷ xs) = ap (λ b. f (g x) || b) (any-map f g xs)
 
-any-filter : (f keep : Way → Bool) (ws : List Way) → list_any f (filter keep ws) ≡ list_any (λ w. keep w && f w) ws
+pub any-filter : (f keep : Way → Bool) (ws : List Way) → list_any f (filter keep ws) ≡ list_any (λ w. keep w && f w) ws
 any-filter f keep [] = refl
 any-filter f keep (w ∷ ws) = go (keep w) (any-filter f keep ws)
   where
@@ -60,7 +60,7 @@ any-filter f keep (w ∷ ws) = go (keep w) (any-filter f keep ws)
     go true e = ap (λ b. f w || b) e
     go false e = e
 
-swap-four : (a b c d : Bool) → ((a || b) || (c || d)) ≡ ((a || c) || (b || d))
+pub swap-four : (a b c d : Bool) → ((a || b) || (c || d)) ≡ ((a || c) || (b || d))
 swap-four true b c d = refl
 swap-four false true true d = refl
 swap-four false true false d = refl

@@ -14,3 +14,5 @@ pub mod Ending
 pub mod Counting
 pub mod Searching
 pub mod GoingThrough
+pub mod BlockSteps
+pub mod FirstSteps

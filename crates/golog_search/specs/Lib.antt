@@ -2,3 +2,4 @@ pub mod Decided
 pub mod Laws
 pub mod Levels
 pub mod Finding
+pub mod BlockSteps

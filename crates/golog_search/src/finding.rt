@@ -25,7 +25,7 @@ fn mode_of(certain: bool) -> Mode
 }
 
 /// A copy of the step.
-fn copy_way(alloc: Global, way: &Way) -> Result<Way, NoMemory>
+pub fn copy_way(alloc: Global, way: &Way) -> Result<Way, NoMemory>
     ensures { IfOk result (λ copy. copy ≡ way.now) }
 {
     let left = copy_prog(alloc, &way.left)?;
