@@ -16,7 +16,6 @@ use Rattle.golog_semantics.specs.Blocks.{begins_run, block_moves, has_path, is_c
 use Rattle.golog_search.proofs.Counting.{any-filter, swap-four}
 use Rattle.golog_search.proofs.LevelParts.{or-assoc}
 
-
 module _ {A : Type 0} where
   any-same : (f g : A → Bool) → ((x : A) → f x ≡ g x) → (xs : List A) → list_any f xs ≡ list_any g xs
   any-same f g e [] = refl

@@ -1,15 +1,16 @@
 ghost use Rattle.std.specs.Prelude.{◌≡◌, ◌≤◌, IfOk, IsTrue, Some, not};
 ghost use Rattle.std.specs.List.{list_any};
-ghost use Rattle.golog_semantics.specs.declared.Mode.TheVariants.{Must};
-ghost use Rattle.golog_semantics.specs.Blocks.{beginning, goes_through as leads_to_final, going_on, is_kept as keeps_run, labels_of as labels_in};
 ghost use Rattle.golog_tree.specs.declared.prog.Prog.TheVariants as prog;
-ghost use Rattle.golog_ways.specs.First.{head_of};
+ghost use Rattle.golog_semantics.specs.declared.Mode.TheVariants.{Must};
+ghost use Rattle.golog_semantics.specs.BlockFree.{has_block};
+ghost use Rattle.golog_semantics.specs.Blocks.{beginning, goes_through as leads_to_final, going_on};
+ghost use Rattle.golog_semantics.specs.Blocks.{is_kept as keeps_run, labels_of as labels_in};
+ghost use Rattle.golog_semantics.specs.ProgFits.{fits};
 ghost use Rattle.golog_semantics.specs.Same.{same_way};
 ghost use Rattle.golog_semantics.specs.Search.{Run, plain_ways};
-ghost use Rattle.golog_semantics.specs.BlockFree.{has_block};
-ghost use Rattle.golog_semantics.specs.ProgFits.{fits};
 ghost use Rattle.golog_semantics.specs.SortLaws.{AreInSorts};
 ghost use Rattle.golog_semantics.specs.WellFormed.{WellFormed};
+ghost use Rattle.golog_ways.specs.First.{head_of};
 ghost use Rattle.golog_search.specs.BlockSteps.{first_of_block as first_of, near_of_block as near_of};
 ghost use Rattle.golog_search.specs.Levels.{IsSearched};
 
@@ -192,9 +193,9 @@ pub fn first_of_block(
     }
 }
 
-/// How sure it is that a block has a step, whatever run it follows: `Near` where a run may begin with a step,
-/// else `Possible` where one may lie beyond what the search looks at, and else `Absent`. `Fuel` comes exactly
-/// where the search, in mode `Near`, would look at more states than the block's fuel.
+/// In which of the modes `Near` and `May` a block has a step, whatever run it follows: `Near` where a run may
+/// begin with a step, else `Possible` where one may lie beyond what the search looks at, and else `Absent`.
+/// `Fuel` comes exactly where the search, in mode `Near`, would look at more states than the block's fuel.
 pub fn near_of_block(
     alloc: Global,
     agent: &Agent,

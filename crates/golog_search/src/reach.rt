@@ -9,23 +9,23 @@ pub enum FirstStep {
     Fuel,
 }
 
-/// How sure it is that a search block has a step.
+/// In which modes a search block has a step.
 #[derive(Drop)]
 pub enum Reach {
-    /// It has none, whatever is unknown.
+    /// It has none in any mode.
     Absent,
-    /// It may have one only beyond what the search looked at.
+    /// It has one in mode `May` alone: a run may lie beyond what a search looks at.
     Possible,
-    /// It may have one, as a run may begin with it.
+    /// It has one in modes `Near` and `May`: a run may begin with it.
     Near,
-    /// It has one.
+    /// It has one in each mode.
     Certain,
 }
 
-/// How sure a search is, that takes what is unknown to be so, that a block has a step.
+/// What a search in mode `Near` tells of the steps of a block.
 #[derive(Drop)]
 pub enum NearStep {
-    /// So sure, and never certain.
+    /// In which of the modes `Near` and `May` it has one, and so never `Certain`.
     Reach(Reach),
     /// The search would look at more states than the block's fuel.
     Fuel,

@@ -11,7 +11,7 @@ returns-then-branch c =
     let block = c.args.block.now in
     let rest = c.args.rest.now in
     let kept : is_kept c.args.agent.now c.args.state.now block.body rest ≡ true =
-        ap (is_kept c.args.agent.now c.args.state.now block.body) (sym c.as_slice.ensures) ∙ sym c.in_ok-is_kept.ensures ∙ c.if-branch.true in
+    ap (is_kept c.args.agent.now c.args.state.now block.body) (sym c.as_slice.ensures) ∙ sym c.in_ok-is_kept.ensures ∙ c.if-branch.true in
     ap Step (c.in_ok-step_along.ensures ∙ ap (λ (r : List Way). head_of (going_on block.depth block.fuel r)) c.as_slice-then-branch.ensures)
     ∙ first-kept c.args.agent.now c.args.state.now block rest kept
 
@@ -20,7 +20,7 @@ returns-in_ok-step_into-in-Run c =
     let block = c.args.block.now in
     let rest = c.args.rest.now in
     let kept : is_kept c.args.agent.now c.args.state.now block.body rest ≡ false =
-        ap (is_kept c.args.agent.now c.args.state.now block.body) (sym c.as_slice.ensures) ∙ sym c.in_ok-is_kept.ensures ∙ c.if-branch.false in
+    ap (is_kept c.args.agent.now c.args.state.now block.body) (sym c.as_slice.ensures) ∙ sym c.in_ok-is_kept.ensures ∙ c.if-branch.false in
     ap Step (c.in_ok-step_into-in-Run.ensures ∙ ap (λ (r : List Way). head_of (beginning block.depth block.fuel (Some r))) c.as_slice-in-Run.ensures)
     ∙ ap (first_found block.depth block.fuel) (sym c.in-Run.is ∙ c.in_ok-run.ensures)
     ∙ first-searched c.args.agent.now c.args.state.now block rest kept
@@ -30,7 +30,7 @@ returns-in-Absent c =
     let block = c.args.block.now in
     let rest = c.args.rest.now in
     let kept : is_kept c.args.agent.now c.args.state.now block.body rest ≡ false =
-        ap (is_kept c.args.agent.now c.args.state.now block.body) (sym c.as_slice.ensures) ∙ sym c.in_ok-is_kept.ensures ∙ c.if-branch.false in
+    ap (is_kept c.args.agent.now c.args.state.now block.body) (sym c.as_slice.ensures) ∙ sym c.in_ok-is_kept.ensures ∙ c.if-branch.false in
     ap (first_found block.depth block.fuel) (sym c.in-Absent.is ∙ c.in_ok-run.ensures)
     ∙ first-searched c.args.agent.now c.args.state.now block rest kept
 
@@ -39,6 +39,6 @@ returns-in-Fuel c =
     let block = c.args.block.now in
     let rest = c.args.rest.now in
     let kept : is_kept c.args.agent.now c.args.state.now block.body rest ≡ false =
-        ap (is_kept c.args.agent.now c.args.state.now block.body) (sym c.as_slice.ensures) ∙ sym c.in_ok-is_kept.ensures ∙ c.if-branch.false in
+    ap (is_kept c.args.agent.now c.args.state.now block.body) (sym c.as_slice.ensures) ∙ sym c.in_ok-is_kept.ensures ∙ c.if-branch.false in
     ap (first_found block.depth block.fuel) (sym c.in-Fuel.is ∙ c.in_ok-run.ensures)
     ∙ first-searched c.args.agent.now c.args.state.now block rest kept

@@ -23,7 +23,8 @@ loop-way-preserved c =
     let way = c.way-item.result in
     let later = drop (c.loop-way.way-index + 1) c.args.rest.now in
     let searched : IsSearched agent left there = c.loop-way.invariant.1 in
-    let step : IsStep agent c.requires.agent Must left there searched way = sym c.in_ok-is_certain.ensures ∙ c.if-not-branch.false in
-    (c.loop-way.invariant.0 ∙ goes-on agent left there c.args.rest.now c.loop-way.way-index way (omega arith) c.way-item.is step
-    ∙ ap (goes_through agent way.left later) (sym c.in_ok-there-2.ensures),
-    subst (λ (v : Values). IsSearched agent way.left v) (sym c.in_ok-there-2.ensures) (led-searched agent c.requires.agent Must left there searched way step))
+    let step : IsStep agent c.requires.agent Must left there searched way = sym c.in_ok-is_certain.ensures ∙ c.if-not-branch.false in (
+      c.loop-way.invariant.0 ∙ goes-on agent left there c.args.rest.now c.loop-way.way-index way (omega arith) c.way-item.is step
+          ∙ ap (goes_through agent way.left later) (sym c.in_ok-there-2.ensures),
+      subst (λ (v : Values). IsSearched agent way.left v) (sym c.in_ok-there-2.ensures) (led-searched agent c.requires.agent Must left there searched way step),
+    )
