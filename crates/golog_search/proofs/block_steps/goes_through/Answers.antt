@@ -1,4 +1,4 @@
-use Rattle.std.proofs.Common.{◌≡◌, ◌+◌, true, drop, sym, ap, ◌∙◌, subst, arith}
+use Rattle.std.proofs.Common.{◌+◌, drop, sym, ap, ◌∙◌, subst, arith}
 use Rattle.golog_semantics.specs.declared.Mode.TheVariants.{Must}
 use Rattle.golog_semantics.specs.Blocks.{goes_through}
 use Rattle.golog_semantics.specs.Truth.{Values}
