@@ -16,9 +16,10 @@ ghost use Rattle.golog_search.specs.Levels.{IsSearched};
 
 use crate::finding::{copy_way, find};
 use crate::found::Found;
-use crate::level::{state_after, ways_of};
+use crate::reached::state_after;
 use crate::reach::{FirstStep, NearStep, Reach};
 use crate::same::is_same_way;
+use crate::steps::ways_of;
 use golog_base::{Boxed, List, NoMemory};
 use golog_progress::State;
 use golog_semantics::{Block, Mode, Move};

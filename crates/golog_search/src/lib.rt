@@ -8,6 +8,7 @@ mod finding;
 mod found;
 mod laws;
 mod level;
+mod reach;
 mod reached;
 mod same;
 mod search;
