@@ -16,8 +16,8 @@ ghost use Rattle.golog_search.specs.Levels.{IsSearched};
 
 use crate::finding::{copy_way, find};
 use crate::found::Found;
-use crate::reached::state_after;
 use crate::reach::{FirstStep, NearStep, Reach};
+use crate::reached::state_after;
 use crate::same::is_same_way;
 use crate::steps::ways_of;
 use golog_base::{Boxed, List, NoMemory};

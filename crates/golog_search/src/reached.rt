@@ -22,7 +22,12 @@ pub struct Reached {
 }
 
 /// The state after a step.
-pub fn state_after(alloc: Global, agent: &Agent, state: &State, label: Label) -> Result<State, NoMemory>
+pub fn state_after(
+    alloc: Global,
+    agent: &Agent,
+    state: &State,
+    label: Label,
+) -> Result<State, NoMemory>
     requires agent { WellFormed agent.now }
     requires sorts { AreInSorts agent.now state.now }
     requires label { IsTrue (fits_label agent.now label) }

@@ -121,7 +121,7 @@ fn is_same_cond(one: &Cond, other: &Cond) -> bool
 
 /// Whether two steps are equal.
 #[cycle(is_same_prog)]
-fn is_same_way(one: &Way, other: &Way) -> bool
+pub fn is_same_way(one: &Way, other: &Way) -> bool
     ensures { IsTrue result ↔ (one.now ≡ other.now) }
 {
     one.label == other.label && is_same_prog(&one.left, &other.left)
