@@ -9,6 +9,7 @@ pub mod SearchedWays
 pub mod LevelsStay
 pub mod LevelParts
 pub mod RunsTo
+pub mod Seen
 pub mod FirstRuns
 pub mod Ending
 pub mod Counting

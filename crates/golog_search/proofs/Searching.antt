@@ -20,7 +20,8 @@ use Rattle.golog_search.specs.declared.search.Search.{Search}
 use Rattle.golog_search.specs.declared.found.Found.TheVariants.{Absent, Fuel, Run as Runs}
 use Rattle.golog_search.specs.declared.reached.Reached.{Reached}
 use Rattle.golog_search.specs.Finding.{found, run_or}
-use Rattle.golog_search.specs.Levels.{AreSearched, HasSeen, IsSearched, count_before, cut_before, ends_at, level_at, levels_before, next_level, run_to, start_of}
+use Rattle.golog_search.specs.Levels.{AreSearched, IsSearched, ends_at, next_level, run_to, start_of}
+use Rattle.golog_search.proofs.Seen.{HasSeen, count_before, cut_before, level_at, levels_before}
 use Rattle.golog_search.proofs.Counting.{count-grows, cut-is, worked}
 use Rattle.golog_search.proofs.Ending.{run-absent, run-found}
 use Rattle.golog_search.proofs.FirstRuns.{first_run, to_place}

@@ -1,6 +1,6 @@
 -- The states that a search reaches, one step further at a time, each with the step that led there. They are
 -- as code keeps them; `level` of golog_semantics says which states they are. This project's own.
-use Rattle.std.specs.Prelude.{◌≡◌, ℕ, zero, suc, ◌+◌, Bool, true, false, not, ◌||◌, IsTrue, if◌then◌else◌, List, [], ◌∷◌, ◌++◌, All, fold, length, reverse, slice_get}
+use Rattle.std.specs.Prelude.{ℕ, suc, Bool, true, false, not, IsTrue, if◌then◌else◌, List, [], ◌∷◌, ◌++◌, All, fold, slice_get}
 use Rattle.std.specs.List.{list_any}
 use Rattle.std.specs.Option.{option_map_or}
 use Rattle.golog_tree.specs.declared.agent.Agent.{Agent}
@@ -17,7 +17,6 @@ use Rattle.golog_semantics.specs.ProgFits.{fits}
 use Rattle.golog_semantics.specs.SortLaws.{AreInSorts}
 use Rattle.golog_search.specs.declared.level.Level.{Level}
 use Rattle.golog_search.specs.declared.reached.Reached.{Reached}
-use Rattle.golog_search.specs.declared.search.Search.{Search}
 
 -- the program left and the values there
 abbrev pub state_of : Reached → State
@@ -81,30 +80,3 @@ abbrev pub run_to : List (List Reached) → List Reached → ℕ → Run
 run_to [] states place = []
 run_to (nearer ∷ earlier) states place = option_map_or
     (λ (r : Reached). run_to earlier nearer r.from ++ r.way ∷ []) (slice_get states place) []
-
-module _ (agent : Agent) (m : Mode) (p : Prog) (values : Values) where
-  -- the states that so many steps lead to
-  abbrev pub level_at : ℕ → List Reached
-  level_at zero = start_of p values ∷ []
-  level_at (suc n) = (next_level agent m (level_at n)).states
-
-  -- the levels before this one, the last of them first
-  abbrev pub levels_before : ℕ → List (List Reached)
-  levels_before zero = []
-  levels_before (suc n) = level_at n ∷ levels_before n
-
-  -- some step of the levels before this one is not followed
-  abbrev pub cut_before : ℕ → Bool
-  cut_before zero = false
-  cut_before (suc n) = cut_before n || (next_level agent m (level_at n)).cut
-
-  -- how many states stand in the levels before this one
-  abbrev pub count_before : ℕ → ℕ
-  count_before zero = 0
-  count_before (suc n) = count_before n + length (level_at n)
-
-  -- what a search has seen that looked as far as so many steps
-  pub record HasSeen (n : ℕ) (search : Search) : Type 0 where
-    pub before : reverse search.before ≡ levels_before n
-    pub last : search.last ≡ level_at n
-    pub cut : search.cut ≡ cut_before n
