@@ -20,3 +20,4 @@ pub use finding::find;
 pub use found::Found;
 pub use golog_semantics::{Block, Move};
 pub use laws::{blockless_left, blockless_steps, decided_is_answered};
+pub use weighing::{is_heavy, some_block_weighs};

@@ -18,7 +18,8 @@ mod programs;
 mod single;
 mod step;
 
-pub use blocks::has_front_block;
+pub use blocks::{has_front_block, may_skip};
+pub use bodies::body_of;
 pub use ending::end_cond;
 pub use front_lists::Front;
 pub use golog_semantics::Mode;

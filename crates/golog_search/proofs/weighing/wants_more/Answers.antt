@@ -1,0 +1,10 @@
+use Rattle.std.proofs.Common.{ap, ◌∙◌}
+use Rattle.golog_search.specs.Finding.{mode_of}
+use Rattle.golog_search.specs.Weighing.{lacks_fuel}
+use Rattle.golog_search.proofs.HeavyPrograms.{lacks-found}
+use Rattle.golog_search.proofs.weighing.wants_more.Goals as goal
+
+pub returns : goal.returns
+returns c =
+    c.lacks_fuel.ensures ∙ ap lacks_fuel c.in_ok-found.ensures
+    ∙ lacks-found c.args.agent.now c.args.state.now (mode_of c.args.certain) c.args.block.now

@@ -1,0 +1,495 @@
+ghost use Rattle.std.specs.Prelude.{◌≡◌, ◌||◌, IfOk, IsTrue, not, true};
+ghost use Rattle.std.specs.List.{list_any};
+ghost use Rattle.golog_semantics.specs.BlockFree.{has_block};
+ghost use Rattle.golog_semantics.specs.Blocks.{goes_through as through, is_kept, moves};
+ghost use Rattle.golog_semantics.specs.Heavy.{front_blocks, heavy, is_above};
+ghost use Rattle.golog_semantics.specs.ProgFits.{fits};
+ghost use Rattle.golog_semantics.specs.Same.{same_way};
+ghost use Rattle.golog_semantics.specs.SortLaws.{AreInSorts};
+ghost use Rattle.golog_semantics.specs.Ways.{is_empty};
+ghost use Rattle.golog_semantics.specs.WellFormed.{WellFormed};
+ghost use Rattle.golog_ways.specs.Closed.{IsClosed};
+ghost use Rattle.golog_search.specs.Finding.{mode_of};
+ghost use Rattle.golog_search.specs.Levels.{IsSearched};
+ghost use Rattle.golog_search.specs.Weighing.{lacks_fuel as lacks, some_weighs as weighs_some};
+ghost use Rattle.golog_search.specs.Weighing.{weighs_by, weighs_unless_kept};
+
+use crate::finding::find;
+use crate::found::Found;
+use crate::level::{state_after, ways_of};
+use crate::same::is_same_way;
+use golog_base::NoMemory;
+use golog_progress::State;
+use golog_semantics::{Block, Mode};
+use golog_tree::{Agent, Arg, Prog, Way, copy_prog, put_arg, sort_size};
+use golog_ways::{body_of, is_final, may_skip};
+use std::alloc::Global;
+
+/// Whether a search wants more than the fuel.
+fn lacks_fuel(found: &Found) -> bool
+    ensures { result ≡ lacks found.now }
+{
+    match found {
+        Found::Run(_) => false,
+        Found::Absent { .. } => false,
+        Found::Fuel => true,
+    }
+}
+
+/// Whether the search of a block wants more than the fuel, in mode `Must` where the run is to be certain, else
+/// in mode `Near`.
+fn wants_more(
+    alloc: Global,
+    agent: &Agent,
+    block: &Block,
+    state: &State,
+    certain: bool,
+) -> Result<bool, NoMemory>
+    requires agent { WellFormed agent.now }
+    requires program { IsTrue (fits agent.now block.now.body) }
+    requires blockless { IsTrue (not (has_block agent.now block.now.body)) }
+    requires sorts { AreInSorts agent.now state.now }
+    ensures { IfOk result (λ b. b ≡ is_above agent.now state.now (mode_of certain) block.now) }
+{
+    let found = find(alloc, agent, block, state, certain)?;
+    Ok(lacks_fuel(&found))
+}
+
+/// Whether two ways are the same.
+fn is_same(one: &Way, other: &Way) -> bool
+    ensures { result ≡ same_way one.now other.now }
+{
+    is_same_way(one, other)
+}
+
+/// Whether the way is among these.
+fn is_among(way: &Way, ways: &[Way]) -> bool
+    ensures { result ≡ list_any (same_way way.now) ways.now }
+{
+    for other in ways {
+        if is_same(way, other) {
+            return true;
+        }
+    }
+    false
+}
+
+/// Whether the run goes through from the state to one in which the program may end.
+fn goes_through(
+    alloc: Global,
+    agent: &Agent,
+    body: &Prog,
+    run: &[Way],
+    state: &State,
+) -> Result<bool, NoMemory>
+    requires agent { WellFormed agent.now }
+    requires searched { IsSearched agent.now body.now state.now }
+    ensures { IfOk result (λ b. b ≡ through agent.now body.now run.now state.now) }
+{
+    let [way, later @ ..] = run else {
+        return is_final(alloc, agent, Mode::Must, body, state);
+    };
+    let ways = ways_of(alloc, agent, Mode::Must, body, state)?;
+    if is_among(way, ways.as_slice()) {
+        let next = state_after(alloc, agent, state, way.label)?;
+        goes_through(alloc, agent, &way.left, later, &next)
+    } else {
+        Ok(false)
+    }
+}
+
+/// Whether a run is under way that goes through from the state.
+fn follows(
+    alloc: Global,
+    agent: &Agent,
+    body: &Prog,
+    rest: &[Way],
+    state: &State,
+) -> Result<bool, NoMemory>
+    requires agent { WellFormed agent.now }
+    requires searched { IsSearched agent.now body.now state.now }
+    ensures { IfOk result (λ b. b ≡ is_kept agent.now state.now body.now rest.now) }
+{
+    if rest.is_empty() {
+        Ok(false)
+    } else {
+        goes_through(alloc, agent, body, rest, state)
+    }
+}
+
+/// The block of these parts.
+fn block_of(alloc: Global, depth: u32, fuel: u32, body: &Prog) -> Result<Block, NoMemory>
+    ensures { IfOk result (λ block. block ≡ record { depth = depth; fuel = fuel; body = body.now }) }
+{
+    let body = copy_prog(alloc, body)?;
+    Ok(Block { depth, fuel, body })
+}
+
+/// Whether a block may keep the program from an answer, where it stands in the higher part of a `prio` or does
+/// not, and the program is stepless or is not.
+fn block_weighs(
+    alloc: Global,
+    agent: &Agent,
+    block: &Block,
+    state: &State,
+    stepless: bool,
+    higher: bool,
+) -> Result<bool, NoMemory>
+    requires agent { WellFormed agent.now }
+    requires program { IsTrue (fits agent.now block.now.body) }
+    requires blockless { IsTrue (not (has_block agent.now block.now.body)) }
+    requires sorts { AreInSorts agent.now state.now }
+    ensures { IfOk result (λ b. b ≡ weighs_by agent.now state.now stepless
+        (record { block = block.now; is_higher = higher })) }
+{
+    if wants_more(alloc, agent, block, state, true)? {
+        Ok(true)
+    } else if stepless || higher {
+        wants_more(alloc, agent, block, state, false)
+    } else {
+        Ok(false)
+    }
+}
+
+/// Whether a block of these parts weighs.
+fn search_weighs(
+    alloc: Global,
+    agent: &Agent,
+    depth: u32,
+    fuel: u32,
+    body: &Prog,
+    state: &State,
+    stepless: bool,
+    higher: bool,
+) -> Result<bool, NoMemory>
+    requires agent { WellFormed agent.now }
+    requires searched { IsSearched agent.now body.now state.now }
+    ensures { IfOk result (λ b. b ≡ weighs_by agent.now state.now stepless
+        (record { block = record { depth = depth; fuel = fuel; body = body.now }; is_higher = higher })) }
+{
+    let block = block_of(alloc, depth, fuel, body)?;
+    block_weighs(alloc, agent, &block, state, stepless, higher)
+}
+
+/// Whether a block of these parts weighs, unless it follows a run that goes through, when it does not.
+fn follow_weighs(
+    alloc: Global,
+    agent: &Agent,
+    depth: u32,
+    fuel: u32,
+    body: &Prog,
+    rest: &[Way],
+    state: &State,
+    stepless: bool,
+    higher: bool,
+) -> Result<bool, NoMemory>
+    requires agent { WellFormed agent.now }
+    requires searched { IsSearched agent.now body.now state.now }
+    ensures { IfOk result (λ b. b ≡ weighs_unless_kept agent.now state.now stepless higher
+        (record { depth = depth; fuel = fuel; body = body.now }) rest.now) }
+{
+    if follows(alloc, agent, body, rest, state)? {
+        Ok(false)
+    } else {
+        search_weighs(alloc, agent, depth, fuel, body, state, stepless, higher)
+    }
+}
+
+/// Whether some block at the front of a program weighs.
+#[cycle(weighing)]
+fn some_weighs(
+    alloc: Global,
+    agent: &Agent,
+    prog: &Prog,
+    state: &State,
+    stepless: bool,
+    higher: bool,
+) -> Result<bool, NoMemory>
+    requires agent { WellFormed agent.now }
+    requires closed { IsClosed agent.now prog.now }
+    requires sorts { AreInSorts agent.now state.now }
+    ensures { IfOk result (λ b. b ≡ weighs_some agent.now state.now stepless higher prog.now) }
+{
+    match prog {
+        Prog::Nil => Ok(false),
+        Prog::Act { .. } => Ok(false),
+        Prog::Test(_) => Ok(false),
+        Prog::Seq(one, other) => {
+            weighs_in_seq(
+                alloc,
+                agent,
+                one.get(),
+                other.get(),
+                state,
+                stepless,
+                higher,
+            )
+        }
+        Prog::Choice(one, other) => {
+            either_weighs(
+                alloc,
+                agent,
+                one.get(),
+                other.get(),
+                state,
+                stepless,
+                higher,
+            )
+        }
+        Prog::If { yes, no, .. } => {
+            either_weighs(alloc, agent, yes.get(), no.get(), state, stepless, higher)
+        }
+        Prog::Conc(one, other) => {
+            either_weighs(
+                alloc,
+                agent,
+                one.get(),
+                other.get(),
+                state,
+                stepless,
+                higher,
+            )
+        }
+        Prog::Prio(high, low) => {
+            weighs_in_prio(alloc, agent, high.get(), low.get(), state, stepless, higher)
+        }
+        Prog::Pick { var, sort, body } => {
+            weighs_in_pick(
+                alloc,
+                agent,
+                *var,
+                *sort,
+                body.get(),
+                state,
+                stepless,
+                higher,
+            )
+        }
+        Prog::Star(body) => some_weighs(alloc, agent, body.get(), state, stepless, higher),
+        Prog::Cstar(body) => some_weighs(alloc, agent, body.get(), state, stepless, higher),
+        Prog::While { body, .. } => some_weighs(alloc, agent, body.get(), state, stepless, higher),
+        Prog::Call { item, args } => {
+            weighs_in_call(
+                alloc,
+                agent,
+                *item,
+                args.as_slice(),
+                state,
+                stepless,
+                higher,
+            )
+        }
+        Prog::Search { depth, fuel, body } => {
+            search_weighs(
+                alloc,
+                agent,
+                *depth,
+                *fuel,
+                body.get(),
+                state,
+                stepless,
+                higher,
+            )
+        }
+        Prog::Follow {
+            depth,
+            fuel,
+            body,
+            rest,
+        } => {
+            let rest = rest.as_slice();
+            follow_weighs(
+                alloc,
+                agent,
+                *depth,
+                *fuel,
+                body.get(),
+                rest,
+                state,
+                stepless,
+                higher,
+            )
+        }
+    }
+}
+
+/// Whether some block weighs at the front of one program or the other.
+#[cycle(weighing)]
+fn either_weighs(
+    alloc: Global,
+    agent: &Agent,
+    one: &Prog,
+    other: &Prog,
+    state: &State,
+    stepless: bool,
+    higher: bool,
+) -> Result<bool, NoMemory>
+    requires agent { WellFormed agent.now }
+    requires one { IsClosed agent.now one.now }
+    requires other { IsClosed agent.now other.now }
+    requires sorts { AreInSorts agent.now state.now }
+    ensures { IfOk result (λ b. b ≡ (weighs_some agent.now state.now stepless higher one.now
+        || weighs_some agent.now state.now stepless higher other.now)) }
+{
+    if some_weighs(alloc, agent, one, state, stepless, higher)? {
+        Ok(true)
+    } else {
+        some_weighs(alloc, agent, other, state, stepless, higher)
+    }
+}
+
+/// The same of the two parts of a `prio`.
+#[cycle(weighing)]
+fn weighs_in_prio(
+    alloc: Global,
+    agent: &Agent,
+    high: &Prog,
+    low: &Prog,
+    state: &State,
+    stepless: bool,
+    higher: bool,
+) -> Result<bool, NoMemory>
+    requires agent { WellFormed agent.now }
+    requires high { IsClosed agent.now high.now }
+    requires low { IsClosed agent.now low.now }
+    requires sorts { AreInSorts agent.now state.now }
+    ensures { IfOk result (λ b. b ≡ (weighs_some agent.now state.now stepless true high.now
+        || weighs_some agent.now state.now stepless higher low.now)) }
+{
+    if some_weighs(alloc, agent, high, state, stepless, true)? {
+        Ok(true)
+    } else {
+        some_weighs(alloc, agent, low, state, stepless, higher)
+    }
+}
+
+/// The second part stands at the front only where the first may be skipped.
+#[cycle(weighing)]
+fn weighs_in_seq(
+    alloc: Global,
+    agent: &Agent,
+    one: &Prog,
+    other: &Prog,
+    state: &State,
+    stepless: bool,
+    higher: bool,
+) -> Result<bool, NoMemory>
+    requires agent { WellFormed agent.now }
+    requires closed { IsClosed agent.now (Prog.Seq one.now other.now) }
+    requires sorts { AreInSorts agent.now state.now }
+    ensures { IfOk result (λ b. b ≡ weighs_some agent.now state.now stepless higher
+        (Prog.Seq one.now other.now)) }
+{
+    if may_skip(agent, one) {
+        either_weighs(alloc, agent, one, other, state, stepless, higher)
+    } else {
+        some_weighs(alloc, agent, one, state, stepless, higher)
+    }
+}
+
+/// The same of a program that is not needed any more.
+#[cycle(weighing)]
+fn weighs_in(
+    alloc: Global,
+    agent: &Agent,
+    prog: Prog,
+    state: &State,
+    stepless: bool,
+    higher: bool,
+) -> Result<bool, NoMemory>
+    requires agent { WellFormed agent.now }
+    requires closed { IsClosed agent.now prog }
+    requires sorts { AreInSorts agent.now state.now }
+    ensures { IfOk result (λ b. b ≡ weighs_some agent.now state.now stepless higher prog) }
+{
+    some_weighs(alloc, agent, &prog, state, stepless, higher)
+}
+
+/// Each constant of the sort is put in.
+#[cycle(weighing)]
+fn weighs_in_pick(
+    alloc: Global,
+    agent: &Agent,
+    var: u8,
+    sort: u32,
+    body: &Prog,
+    state: &State,
+    stepless: bool,
+    higher: bool,
+) -> Result<bool, NoMemory>
+    requires agent { WellFormed agent.now }
+    requires closed { IsClosed agent.now (Prog.Pick var sort body.now) }
+    requires sorts { AreInSorts agent.now state.now }
+    ensures { IfOk result (λ b. b ≡ weighs_some agent.now state.now stepless higher
+        (Prog.Pick var sort body.now)) }
+{
+    for constant in 0..sort_size(agent, sort) {
+        let put = put_arg(alloc, body, var, constant as u8)?;
+        if weighs_in(alloc, agent, put, state, stepless, higher)? {
+            return Ok(true);
+        }
+    }
+    Ok(false)
+}
+
+/// A call begins with the body.
+#[cycle(weighing)]
+fn weighs_in_call(
+    alloc: Global,
+    agent: &Agent,
+    item: u32,
+    args: &[Arg],
+    state: &State,
+    stepless: bool,
+    higher: bool,
+) -> Result<bool, NoMemory>
+    requires agent { WellFormed agent.now }
+    requires closed { IsClosed agent.now (Prog.Call item args.now) }
+    requires sorts { AreInSorts agent.now state.now }
+    ensures { IfOk result (λ b. b ≡ weighs_some agent.now state.now stepless higher
+        (Prog.Call item args.now)) }
+{
+    let body = body_of(alloc, agent, item, args)?;
+    weighs_in(alloc, agent, body, state, stepless, higher)
+}
+
+/// Whether some search block at the front of a program may keep it from an answer, where the program is
+/// stepless, which is to say has no certain step, or is not. `NoMemory` where none is left for the searches, or
+/// for the bodies of picks and calls, with constants put in.
+pub fn some_block_weighs(
+    alloc: Global,
+    agent: &Agent,
+    prog: &Prog,
+    state: &State,
+    stepless: bool,
+) -> Result<bool, NoMemory>
+    requires agent { WellFormed agent.now }
+    requires program { IsTrue (fits agent.now prog.now) }
+    requires sorts { AreInSorts agent.now state.now }
+    ensures { IfOk result (λ b. b ≡ list_any (weighs_by agent.now state.now stepless)
+        (front_blocks agent.now state.now prog.now)) }
+{
+    some_weighs(alloc, agent, prog, state, stepless, false)
+}
+
+/// Whether a program does not certainly end, and some search block at its front may keep it from an answer, as
+/// `some_block_weighs` says. `NoMemory` as there.
+pub fn is_heavy(
+    alloc: Global,
+    agent: &Agent,
+    prog: &Prog,
+    state: &State,
+    stepless: bool,
+) -> Result<bool, NoMemory>
+    requires agent { WellFormed agent.now }
+    requires program { IsTrue (fits agent.now prog.now) }
+    requires sorts { AreInSorts agent.now state.now }
+    requires steps { stepless ≡ is_empty (moves agent.now state.now Mode.Must prog.now) }
+    ensures { IfOk result (λ b. b ≡ heavy agent.now state.now prog.now) }
+{
+    if is_final(alloc, agent, Mode::Must, prog, state)? {
+        Ok(false)
+    } else {
+        some_block_weighs(alloc, agent, prog, state, stepless)
+    }
+}
