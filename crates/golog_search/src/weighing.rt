@@ -25,6 +25,27 @@ use golog_tree::{Agent, Arg, Prog, Way, copy_prog, put_arg, sort_size};
 use golog_ways::{body_of, is_final, may_skip};
 use std::alloc::Global;
 
+/// How blocks stand at a front: whether the program is stepless, which is to say has no certain step, and
+/// whether they are in the higher part of a `prio`.
+#[derive(Clone, Copy)]
+struct Standing {
+    stepless: bool,
+    higher: bool,
+}
+
+impl Standing {
+    /// The same in the higher part of a `prio`.
+    fn raised(self) -> Standing
+        ensures stepless { result.stepless ≡ self.stepless }
+        ensures higher { result.higher ≡ true }
+    {
+        Standing {
+            stepless: self.stepless,
+            higher: true,
+        }
+    }
+}
+
 /// Whether a search wants more than the fuel.
 fn lacks_fuel(found: &Found) -> bool
     ensures { result ≡ lacks found.now }
@@ -36,8 +57,8 @@ fn lacks_fuel(found: &Found) -> bool
     }
 }
 
-/// Whether the search of a block wants more than the fuel, in mode `Must` where the run is to be certain, else
-/// in mode `Near`.
+/// Whether the search of a block wants more than the fuel, in mode `Must` where the run is to be certain,
+/// else in mode `Near`.
 fn wants_more(
     alloc: Global,
     agent: &Agent,
@@ -125,26 +146,24 @@ fn block_of(alloc: Global, depth: u32, fuel: u32, body: &Prog) -> Result<Block, 
     Ok(Block { depth, fuel, body })
 }
 
-/// Whether a block may keep the program from an answer, where it stands in the higher part of a `prio` or does
-/// not, and the program is stepless or is not.
+/// Whether a block may keep the program from an answer.
 fn block_weighs(
     alloc: Global,
     agent: &Agent,
     block: &Block,
     state: &State,
-    stepless: bool,
-    higher: bool,
+    standing: Standing,
 ) -> Result<bool, NoMemory>
     requires agent { WellFormed agent.now }
     requires program { IsTrue (fits agent.now block.now.body) }
     requires blockless { IsTrue (not (has_block agent.now block.now.body)) }
     requires sorts { AreInSorts agent.now state.now }
-    ensures { IfOk result (λ b. b ≡ weighs_by agent.now state.now stepless
-        (record { block = block.now; is_higher = higher })) }
+    ensures { IfOk result (λ b. b ≡ weighs_by agent.now state.now standing.stepless
+        (record { block = block.now; is_higher = standing.higher })) }
 {
     if wants_more(alloc, agent, block, state, true)? {
         Ok(true)
-    } else if stepless || higher {
+    } else if standing.stepless || standing.higher {
         wants_more(alloc, agent, block, state, false)
     } else {
         Ok(false)
@@ -159,16 +178,18 @@ fn search_weighs(
     fuel: u32,
     body: &Prog,
     state: &State,
-    stepless: bool,
-    higher: bool,
+    standing: Standing,
 ) -> Result<bool, NoMemory>
     requires agent { WellFormed agent.now }
     requires searched { IsSearched agent.now body.now state.now }
-    ensures { IfOk result (λ b. b ≡ weighs_by agent.now state.now stepless
-        (record { block = record { depth = depth; fuel = fuel; body = body.now }; is_higher = higher })) }
+    ensures { IfOk result (λ b. b ≡ weighs_by agent.now state.now standing.stepless
+        (record {
+          block = record { depth = depth; fuel = fuel; body = body.now };
+          is_higher = standing.higher;
+        })) }
 {
     let block = block_of(alloc, depth, fuel, body)?;
-    block_weighs(alloc, agent, &block, state, stepless, higher)
+    block_weighs(alloc, agent, &block, state, standing)
 }
 
 /// Whether a block of these parts weighs, unless it follows a run that goes through, when it does not.
@@ -180,18 +201,17 @@ fn follow_weighs(
     body: &Prog,
     rest: &[Way],
     state: &State,
-    stepless: bool,
-    higher: bool,
+    standing: Standing,
 ) -> Result<bool, NoMemory>
     requires agent { WellFormed agent.now }
     requires searched { IsSearched agent.now body.now state.now }
-    ensures { IfOk result (λ b. b ≡ weighs_unless_kept agent.now state.now stepless higher
+    ensures { IfOk result (λ b. b ≡ weighs_unless_kept agent.now state.now standing.stepless standing.higher
         (record { depth = depth; fuel = fuel; body = body.now }) rest.now) }
 {
     if follows(alloc, agent, body, rest, state)? {
         Ok(false)
     } else {
-        search_weighs(alloc, agent, depth, fuel, body, state, stepless, higher)
+        search_weighs(alloc, agent, depth, fuel, body, state, standing)
     }
 }
 
@@ -202,94 +222,44 @@ fn some_weighs(
     agent: &Agent,
     prog: &Prog,
     state: &State,
-    stepless: bool,
-    higher: bool,
+    standing: Standing,
 ) -> Result<bool, NoMemory>
     requires agent { WellFormed agent.now }
     requires closed { IsClosed agent.now prog.now }
     requires sorts { AreInSorts agent.now state.now }
-    ensures { IfOk result (λ b. b ≡ weighs_some agent.now state.now stepless higher prog.now) }
+    ensures { IfOk result (λ b. b ≡ weighs_some agent.now state.now standing.stepless standing.higher
+        prog.now) }
 {
     match prog {
         Prog::Nil => Ok(false),
         Prog::Act { .. } => Ok(false),
         Prog::Test(_) => Ok(false),
         Prog::Seq(one, other) => {
-            weighs_in_seq(
-                alloc,
-                agent,
-                one.get(),
-                other.get(),
-                state,
-                stepless,
-                higher,
-            )
+            weighs_in_seq(alloc, agent, one.get(), other.get(), state, standing)
         }
         Prog::Choice(one, other) => {
-            either_weighs(
-                alloc,
-                agent,
-                one.get(),
-                other.get(),
-                state,
-                stepless,
-                higher,
-            )
+            either_weighs(alloc, agent, one.get(), other.get(), state, standing)
         }
         Prog::If { yes, no, .. } => {
-            either_weighs(alloc, agent, yes.get(), no.get(), state, stepless, higher)
+            either_weighs(alloc, agent, yes.get(), no.get(), state, standing)
         }
         Prog::Conc(one, other) => {
-            either_weighs(
-                alloc,
-                agent,
-                one.get(),
-                other.get(),
-                state,
-                stepless,
-                higher,
-            )
+            either_weighs(alloc, agent, one.get(), other.get(), state, standing)
         }
         Prog::Prio(high, low) => {
-            weighs_in_prio(alloc, agent, high.get(), low.get(), state, stepless, higher)
+            weighs_in_prio(alloc, agent, high.get(), low.get(), state, standing)
         }
         Prog::Pick { var, sort, body } => {
-            weighs_in_pick(
-                alloc,
-                agent,
-                *var,
-                *sort,
-                body.get(),
-                state,
-                stepless,
-                higher,
-            )
+            weighs_in_pick(alloc, agent, *var, *sort, body.get(), state, standing)
         }
-        Prog::Star(body) => some_weighs(alloc, agent, body.get(), state, stepless, higher),
-        Prog::Cstar(body) => some_weighs(alloc, agent, body.get(), state, stepless, higher),
-        Prog::While { body, .. } => some_weighs(alloc, agent, body.get(), state, stepless, higher),
+        Prog::Star(body) => some_weighs(alloc, agent, body.get(), state, standing),
+        Prog::Cstar(body) => some_weighs(alloc, agent, body.get(), state, standing),
+        Prog::While { body, .. } => some_weighs(alloc, agent, body.get(), state, standing),
         Prog::Call { item, args } => {
-            weighs_in_call(
-                alloc,
-                agent,
-                *item,
-                args.as_slice(),
-                state,
-                stepless,
-                higher,
-            )
+            weighs_in_call(alloc, agent, *item, args.as_slice(), state, standing)
         }
         Prog::Search { depth, fuel, body } => {
-            search_weighs(
-                alloc,
-                agent,
-                *depth,
-                *fuel,
-                body.get(),
-                state,
-                stepless,
-                higher,
-            )
+            search_weighs(alloc, agent, *depth, *fuel, body.get(), state, standing)
         }
         Prog::Follow {
             depth,
@@ -297,18 +267,9 @@ fn some_weighs(
             body,
             rest,
         } => {
+            let body = body.get();
             let rest = rest.as_slice();
-            follow_weighs(
-                alloc,
-                agent,
-                *depth,
-                *fuel,
-                body.get(),
-                rest,
-                state,
-                stepless,
-                higher,
-            )
+            follow_weighs(alloc, agent, *depth, *fuel, body, rest, state, standing)
         }
     }
 }
@@ -321,20 +282,20 @@ fn either_weighs(
     one: &Prog,
     other: &Prog,
     state: &State,
-    stepless: bool,
-    higher: bool,
+    standing: Standing,
 ) -> Result<bool, NoMemory>
     requires agent { WellFormed agent.now }
     requires one { IsClosed agent.now one.now }
     requires other { IsClosed agent.now other.now }
     requires sorts { AreInSorts agent.now state.now }
-    ensures { IfOk result (λ b. b ≡ (weighs_some agent.now state.now stepless higher one.now
-        || weighs_some agent.now state.now stepless higher other.now)) }
+    ensures { IfOk result (λ b. b ≡
+        (weighs_some agent.now state.now standing.stepless standing.higher one.now
+        || weighs_some agent.now state.now standing.stepless standing.higher other.now)) }
 {
-    if some_weighs(alloc, agent, one, state, stepless, higher)? {
+    if some_weighs(alloc, agent, one, state, standing)? {
         Ok(true)
     } else {
-        some_weighs(alloc, agent, other, state, stepless, higher)
+        some_weighs(alloc, agent, other, state, standing)
     }
 }
 
@@ -346,20 +307,19 @@ fn weighs_in_prio(
     high: &Prog,
     low: &Prog,
     state: &State,
-    stepless: bool,
-    higher: bool,
+    standing: Standing,
 ) -> Result<bool, NoMemory>
     requires agent { WellFormed agent.now }
     requires high { IsClosed agent.now high.now }
     requires low { IsClosed agent.now low.now }
     requires sorts { AreInSorts agent.now state.now }
-    ensures { IfOk result (λ b. b ≡ (weighs_some agent.now state.now stepless true high.now
-        || weighs_some agent.now state.now stepless higher low.now)) }
+    ensures { IfOk result (λ b. b ≡ (weighs_some agent.now state.now standing.stepless true high.now
+        || weighs_some agent.now state.now standing.stepless standing.higher low.now)) }
 {
-    if some_weighs(alloc, agent, high, state, stepless, true)? {
+    if some_weighs(alloc, agent, high, state, standing.raised())? {
         Ok(true)
     } else {
-        some_weighs(alloc, agent, low, state, stepless, higher)
+        some_weighs(alloc, agent, low, state, standing)
     }
 }
 
@@ -371,19 +331,18 @@ fn weighs_in_seq(
     one: &Prog,
     other: &Prog,
     state: &State,
-    stepless: bool,
-    higher: bool,
+    standing: Standing,
 ) -> Result<bool, NoMemory>
     requires agent { WellFormed agent.now }
     requires closed { IsClosed agent.now (Prog.Seq one.now other.now) }
     requires sorts { AreInSorts agent.now state.now }
-    ensures { IfOk result (λ b. b ≡ weighs_some agent.now state.now stepless higher
+    ensures { IfOk result (λ b. b ≡ weighs_some agent.now state.now standing.stepless standing.higher
         (Prog.Seq one.now other.now)) }
 {
     if may_skip(agent, one) {
-        either_weighs(alloc, agent, one, other, state, stepless, higher)
+        either_weighs(alloc, agent, one, other, state, standing)
     } else {
-        some_weighs(alloc, agent, one, state, stepless, higher)
+        some_weighs(alloc, agent, one, state, standing)
     }
 }
 
@@ -394,15 +353,14 @@ fn weighs_in(
     agent: &Agent,
     prog: Prog,
     state: &State,
-    stepless: bool,
-    higher: bool,
+    standing: Standing,
 ) -> Result<bool, NoMemory>
     requires agent { WellFormed agent.now }
     requires closed { IsClosed agent.now prog }
     requires sorts { AreInSorts agent.now state.now }
-    ensures { IfOk result (λ b. b ≡ weighs_some agent.now state.now stepless higher prog) }
+    ensures { IfOk result (λ b. b ≡ weighs_some agent.now state.now standing.stepless standing.higher prog) }
 {
-    some_weighs(alloc, agent, &prog, state, stepless, higher)
+    some_weighs(alloc, agent, &prog, state, standing)
 }
 
 /// Each constant of the sort is put in.
@@ -414,18 +372,17 @@ fn weighs_in_pick(
     sort: u32,
     body: &Prog,
     state: &State,
-    stepless: bool,
-    higher: bool,
+    standing: Standing,
 ) -> Result<bool, NoMemory>
     requires agent { WellFormed agent.now }
     requires closed { IsClosed agent.now (Prog.Pick var sort body.now) }
     requires sorts { AreInSorts agent.now state.now }
-    ensures { IfOk result (λ b. b ≡ weighs_some agent.now state.now stepless higher
+    ensures { IfOk result (λ b. b ≡ weighs_some agent.now state.now standing.stepless standing.higher
         (Prog.Pick var sort body.now)) }
 {
     for constant in 0..sort_size(agent, sort) {
         let put = put_arg(alloc, body, var, constant as u8)?;
-        if weighs_in(alloc, agent, put, state, stepless, higher)? {
+        if weighs_in(alloc, agent, put, state, standing)? {
             return Ok(true);
         }
     }
@@ -440,22 +397,21 @@ fn weighs_in_call(
     item: u32,
     args: &[Arg],
     state: &State,
-    stepless: bool,
-    higher: bool,
+    standing: Standing,
 ) -> Result<bool, NoMemory>
     requires agent { WellFormed agent.now }
     requires closed { IsClosed agent.now (Prog.Call item args.now) }
     requires sorts { AreInSorts agent.now state.now }
-    ensures { IfOk result (λ b. b ≡ weighs_some agent.now state.now stepless higher
+    ensures { IfOk result (λ b. b ≡ weighs_some agent.now state.now standing.stepless standing.higher
         (Prog.Call item args.now)) }
 {
     let body = body_of(alloc, agent, item, args)?;
-    weighs_in(alloc, agent, body, state, stepless, higher)
+    weighs_in(alloc, agent, body, state, standing)
 }
 
 /// Whether some search block at the front of a program may keep it from an answer, where the program is
-/// stepless, which is to say has no certain step, or is not. `NoMemory` where none is left for the searches, or
-/// for the bodies of picks and calls, with constants put in.
+/// stepless, which is to say has no certain step, or is not. `NoMemory` where none is left for the searches,
+/// or for the bodies of picks and calls, with constants put in.
 pub fn some_block_weighs(
     alloc: Global,
     agent: &Agent,
@@ -469,11 +425,15 @@ pub fn some_block_weighs(
     ensures { IfOk result (λ b. b ≡ list_any (weighs_by agent.now state.now stepless)
         (front_blocks agent.now state.now prog.now)) }
 {
-    some_weighs(alloc, agent, prog, state, stepless, false)
+    let standing = Standing {
+        stepless,
+        higher: false,
+    };
+    some_weighs(alloc, agent, prog, state, standing)
 }
 
-/// Whether a program does not certainly end, and some search block at its front may keep it from an answer, as
-/// `some_block_weighs` says. `NoMemory` as there.
+/// Whether a program does not certainly end, and some search block at its front may keep it from an answer,
+/// as `some_block_weighs` says. `NoMemory` as there.
 pub fn is_heavy(
     alloc: Global,
     agent: &Agent,
