@@ -152,18 +152,18 @@ fn block_weighs(
     agent: &Agent,
     block: &Block,
     state: &State,
-    standing: Standing,
+    at: Standing,
 ) -> Result<bool, NoMemory>
     requires agent { WellFormed agent.now }
     requires program { IsTrue (fits agent.now block.now.body) }
     requires blockless { IsTrue (not (has_block agent.now block.now.body)) }
     requires sorts { AreInSorts agent.now state.now }
-    ensures { IfOk result (λ b. b ≡ weighs_by agent.now state.now standing.stepless
-        (record { block = block.now; is_higher = standing.higher })) }
+    ensures { IfOk result (λ b. b ≡ weighs_by agent.now state.now at.stepless
+        (record { block = block.now; is_higher = at.higher })) }
 {
     if wants_more(alloc, agent, block, state, true)? {
         Ok(true)
-    } else if standing.stepless || standing.higher {
+    } else if at.stepless || at.higher {
         wants_more(alloc, agent, block, state, false)
     } else {
         Ok(false)
@@ -178,18 +178,18 @@ fn search_weighs(
     fuel: u32,
     body: &Prog,
     state: &State,
-    standing: Standing,
+    at: Standing,
 ) -> Result<bool, NoMemory>
     requires agent { WellFormed agent.now }
     requires searched { IsSearched agent.now body.now state.now }
-    ensures { IfOk result (λ b. b ≡ weighs_by agent.now state.now standing.stepless
+    ensures { IfOk result (λ b. b ≡ weighs_by agent.now state.now at.stepless
         (record {
           block = record { depth = depth; fuel = fuel; body = body.now };
-          is_higher = standing.higher;
+          is_higher = at.higher;
         })) }
 {
     let block = block_of(alloc, depth, fuel, body)?;
-    block_weighs(alloc, agent, &block, state, standing)
+    block_weighs(alloc, agent, &block, state, at)
 }
 
 /// Whether a block of these parts weighs, unless it follows a run that goes through, when it does not.
@@ -201,17 +201,17 @@ fn follow_weighs(
     body: &Prog,
     rest: &[Way],
     state: &State,
-    standing: Standing,
+    at: Standing,
 ) -> Result<bool, NoMemory>
     requires agent { WellFormed agent.now }
     requires searched { IsSearched agent.now body.now state.now }
-    ensures { IfOk result (λ b. b ≡ weighs_unless_kept agent.now state.now standing.stepless standing.higher
+    ensures { IfOk result (λ b. b ≡ weighs_unless_kept agent.now state.now at.stepless at.higher
         (record { depth = depth; fuel = fuel; body = body.now }) rest.now) }
 {
     if follows(alloc, agent, body, rest, state)? {
         Ok(false)
     } else {
-        search_weighs(alloc, agent, depth, fuel, body, state, standing)
+        search_weighs(alloc, agent, depth, fuel, body, state, at)
     }
 }
 
@@ -222,44 +222,33 @@ fn some_weighs(
     agent: &Agent,
     prog: &Prog,
     state: &State,
-    standing: Standing,
+    at: Standing,
 ) -> Result<bool, NoMemory>
     requires agent { WellFormed agent.now }
     requires closed { IsClosed agent.now prog.now }
     requires sorts { AreInSorts agent.now state.now }
-    ensures { IfOk result (λ b. b ≡ weighs_some agent.now state.now standing.stepless standing.higher
-        prog.now) }
+    ensures { IfOk result (λ b. b ≡ weighs_some agent.now state.now at.stepless at.higher prog.now) }
 {
     match prog {
         Prog::Nil => Ok(false),
         Prog::Act { .. } => Ok(false),
         Prog::Test(_) => Ok(false),
-        Prog::Seq(one, other) => {
-            weighs_in_seq(alloc, agent, one.get(), other.get(), state, standing)
-        }
-        Prog::Choice(one, other) => {
-            either_weighs(alloc, agent, one.get(), other.get(), state, standing)
-        }
-        Prog::If { yes, no, .. } => {
-            either_weighs(alloc, agent, yes.get(), no.get(), state, standing)
-        }
-        Prog::Conc(one, other) => {
-            either_weighs(alloc, agent, one.get(), other.get(), state, standing)
-        }
-        Prog::Prio(high, low) => {
-            weighs_in_prio(alloc, agent, high.get(), low.get(), state, standing)
-        }
+        Prog::Seq(one, other) => weighs_in_seq(alloc, agent, one.get(), other.get(), state, at),
+        Prog::Choice(one, other) => either_weighs(alloc, agent, one.get(), other.get(), state, at),
+        Prog::If { yes, no, .. } => either_weighs(alloc, agent, yes.get(), no.get(), state, at),
+        Prog::Conc(one, other) => either_weighs(alloc, agent, one.get(), other.get(), state, at),
+        Prog::Prio(high, low) => weighs_in_prio(alloc, agent, high.get(), low.get(), state, at),
         Prog::Pick { var, sort, body } => {
-            weighs_in_pick(alloc, agent, *var, *sort, body.get(), state, standing)
+            weighs_in_pick(alloc, agent, *var, *sort, body.get(), state, at)
         }
-        Prog::Star(body) => some_weighs(alloc, agent, body.get(), state, standing),
-        Prog::Cstar(body) => some_weighs(alloc, agent, body.get(), state, standing),
-        Prog::While { body, .. } => some_weighs(alloc, agent, body.get(), state, standing),
+        Prog::Star(body) => some_weighs(alloc, agent, body.get(), state, at),
+        Prog::Cstar(body) => some_weighs(alloc, agent, body.get(), state, at),
+        Prog::While { body, .. } => some_weighs(alloc, agent, body.get(), state, at),
         Prog::Call { item, args } => {
-            weighs_in_call(alloc, agent, *item, args.as_slice(), state, standing)
+            weighs_in_call(alloc, agent, *item, args.as_slice(), state, at)
         }
         Prog::Search { depth, fuel, body } => {
-            search_weighs(alloc, agent, *depth, *fuel, body.get(), state, standing)
+            search_weighs(alloc, agent, *depth, *fuel, body.get(), state, at)
         }
         Prog::Follow {
             depth,
@@ -269,7 +258,7 @@ fn some_weighs(
         } => {
             let body = body.get();
             let rest = rest.as_slice();
-            follow_weighs(alloc, agent, *depth, *fuel, body, rest, state, standing)
+            follow_weighs(alloc, agent, *depth, *fuel, body, rest, state, at)
         }
     }
 }
@@ -282,20 +271,20 @@ fn either_weighs(
     one: &Prog,
     other: &Prog,
     state: &State,
-    standing: Standing,
+    at: Standing,
 ) -> Result<bool, NoMemory>
     requires agent { WellFormed agent.now }
     requires one { IsClosed agent.now one.now }
     requires other { IsClosed agent.now other.now }
     requires sorts { AreInSorts agent.now state.now }
     ensures { IfOk result (λ b. b ≡
-        (weighs_some agent.now state.now standing.stepless standing.higher one.now
-        || weighs_some agent.now state.now standing.stepless standing.higher other.now)) }
+        (weighs_some agent.now state.now at.stepless at.higher one.now
+        || weighs_some agent.now state.now at.stepless at.higher other.now)) }
 {
-    if some_weighs(alloc, agent, one, state, standing)? {
+    if some_weighs(alloc, agent, one, state, at)? {
         Ok(true)
     } else {
-        some_weighs(alloc, agent, other, state, standing)
+        some_weighs(alloc, agent, other, state, at)
     }
 }
 
@@ -307,19 +296,19 @@ fn weighs_in_prio(
     high: &Prog,
     low: &Prog,
     state: &State,
-    standing: Standing,
+    at: Standing,
 ) -> Result<bool, NoMemory>
     requires agent { WellFormed agent.now }
     requires high { IsClosed agent.now high.now }
     requires low { IsClosed agent.now low.now }
     requires sorts { AreInSorts agent.now state.now }
-    ensures { IfOk result (λ b. b ≡ (weighs_some agent.now state.now standing.stepless true high.now
-        || weighs_some agent.now state.now standing.stepless standing.higher low.now)) }
+    ensures { IfOk result (λ b. b ≡ (weighs_some agent.now state.now at.stepless true high.now
+        || weighs_some agent.now state.now at.stepless at.higher low.now)) }
 {
-    if some_weighs(alloc, agent, high, state, standing.raised())? {
+    if some_weighs(alloc, agent, high, state, at.raised())? {
         Ok(true)
     } else {
-        some_weighs(alloc, agent, low, state, standing)
+        some_weighs(alloc, agent, low, state, at)
     }
 }
 
@@ -331,18 +320,18 @@ fn weighs_in_seq(
     one: &Prog,
     other: &Prog,
     state: &State,
-    standing: Standing,
+    at: Standing,
 ) -> Result<bool, NoMemory>
     requires agent { WellFormed agent.now }
     requires closed { IsClosed agent.now (Prog.Seq one.now other.now) }
     requires sorts { AreInSorts agent.now state.now }
-    ensures { IfOk result (λ b. b ≡ weighs_some agent.now state.now standing.stepless standing.higher
+    ensures { IfOk result (λ b. b ≡ weighs_some agent.now state.now at.stepless at.higher
         (Prog.Seq one.now other.now)) }
 {
     if may_skip(agent, one) {
-        either_weighs(alloc, agent, one, other, state, standing)
+        either_weighs(alloc, agent, one, other, state, at)
     } else {
-        some_weighs(alloc, agent, one, state, standing)
+        some_weighs(alloc, agent, one, state, at)
     }
 }
 
@@ -353,14 +342,14 @@ fn weighs_in(
     agent: &Agent,
     prog: Prog,
     state: &State,
-    standing: Standing,
+    at: Standing,
 ) -> Result<bool, NoMemory>
     requires agent { WellFormed agent.now }
     requires closed { IsClosed agent.now prog }
     requires sorts { AreInSorts agent.now state.now }
-    ensures { IfOk result (λ b. b ≡ weighs_some agent.now state.now standing.stepless standing.higher prog) }
+    ensures { IfOk result (λ b. b ≡ weighs_some agent.now state.now at.stepless at.higher prog) }
 {
-    some_weighs(alloc, agent, &prog, state, standing)
+    some_weighs(alloc, agent, &prog, state, at)
 }
 
 /// Each constant of the sort is put in.
@@ -372,17 +361,17 @@ fn weighs_in_pick(
     sort: u32,
     body: &Prog,
     state: &State,
-    standing: Standing,
+    at: Standing,
 ) -> Result<bool, NoMemory>
     requires agent { WellFormed agent.now }
     requires closed { IsClosed agent.now (Prog.Pick var sort body.now) }
     requires sorts { AreInSorts agent.now state.now }
-    ensures { IfOk result (λ b. b ≡ weighs_some agent.now state.now standing.stepless standing.higher
+    ensures { IfOk result (λ b. b ≡ weighs_some agent.now state.now at.stepless at.higher
         (Prog.Pick var sort body.now)) }
 {
     for constant in 0..sort_size(agent, sort) {
         let put = put_arg(alloc, body, var, constant as u8)?;
-        if weighs_in(alloc, agent, put, state, standing)? {
+        if weighs_in(alloc, agent, put, state, at)? {
             return Ok(true);
         }
     }
@@ -397,16 +386,16 @@ fn weighs_in_call(
     item: u32,
     args: &[Arg],
     state: &State,
-    standing: Standing,
+    at: Standing,
 ) -> Result<bool, NoMemory>
     requires agent { WellFormed agent.now }
     requires closed { IsClosed agent.now (Prog.Call item args.now) }
     requires sorts { AreInSorts agent.now state.now }
-    ensures { IfOk result (λ b. b ≡ weighs_some agent.now state.now standing.stepless standing.higher
+    ensures { IfOk result (λ b. b ≡ weighs_some agent.now state.now at.stepless at.higher
         (Prog.Call item args.now)) }
 {
     let body = body_of(alloc, agent, item, args)?;
-    weighs_in(alloc, agent, body, state, standing)
+    weighs_in(alloc, agent, body, state, at)
 }
 
 /// Whether some search block at the front of a program may keep it from an answer, where the program is
@@ -425,11 +414,11 @@ pub fn some_block_weighs(
     ensures { IfOk result (λ b. b ≡ list_any (weighs_by agent.now state.now stepless)
         (front_blocks agent.now state.now prog.now)) }
 {
-    let standing = Standing {
+    let at = Standing {
         stepless,
         higher: false,
     };
-    some_weighs(alloc, agent, prog, state, standing)
+    some_weighs(alloc, agent, prog, state, at)
 }
 
 /// Whether a program does not certainly end, and some search block at its front may keep it from an answer,

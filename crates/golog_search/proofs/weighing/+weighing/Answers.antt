@@ -14,15 +14,15 @@ use Rattle.golog_search.proofs.weighing.+weighing.Goals as goal
 
 pub some_weighs-returns-in-Nil : goal.some_weighs-returns-in-Nil
 some_weighs-returns-in-Nil t c =
-    nil_weighs c.args.agent.now c.args.state.now c.args.standing.stepless c.args.standing.higher c.requires.agent.programs.guarded c.args.prog.now c.in-Nil.is
+    nil_weighs c.args.agent.now c.args.state.now c.args.at.stepless c.args.at.higher c.requires.agent.programs.guarded c.args.prog.now c.in-Nil.is
 
 pub some_weighs-returns-in-Act : goal.some_weighs-returns-in-Act
 some_weighs-returns-in-Act t c =
-    act_weighs c.args.agent.now c.args.state.now c.args.standing.stepless c.args.standing.higher c.requires.agent.programs.guarded c.args.prog.now c.in-Act.action c.in-Act.args c.in-Act.is
+    act_weighs c.args.agent.now c.args.state.now c.args.at.stepless c.args.at.higher c.requires.agent.programs.guarded c.args.prog.now c.in-Act.action c.in-Act.args c.in-Act.is
 
 pub some_weighs-returns-in-Test : goal.some_weighs-returns-in-Test
 some_weighs-returns-in-Test t c =
-    test_weighs c.args.agent.now c.args.state.now c.args.standing.stepless c.args.standing.higher c.requires.agent.programs.guarded c.args.prog.now c.in-Test.field-0 c.in-Test.is
+    test_weighs c.args.agent.now c.args.state.now c.args.at.stepless c.args.at.higher c.requires.agent.programs.guarded c.args.prog.now c.in-Test.field-0 c.in-Test.is
 
 pub some_weighs-weighs_in_seq-requires : goal.some_weighs-weighs_in_seq-requires
 some_weighs-weighs_in_seq-requires t c =
@@ -39,7 +39,7 @@ some_weighs-returns-in-Seq t c =
     let a = c.get.result.now in
     let b = c.get-in-Seq.result.now in
     let e = two_same (prog.Seq) c.args.prog.now c.in-Seq.one c.in-Seq.other a b c.in-Seq.is c.get.ensures c.get-in-Seq.ensures in
-    subst (λ (z : Prog). IfOk c.weighs_in_seq.result (λ b. b ≡ some_weighs c.args.agent.now c.args.state.now c.args.standing.stepless c.args.standing.higher z)) (sym e) c.weighs_in_seq.ensures
+    subst (λ (z : Prog). IfOk c.weighs_in_seq.result (λ b. b ≡ some_weighs c.args.agent.now c.args.state.now c.args.at.stepless c.args.at.higher z)) (sym e) c.weighs_in_seq.ensures
 
 pub some_weighs-either_weighs-requires : goal.some_weighs-either_weighs-requires
 some_weighs-either_weighs-requires t c =
@@ -59,7 +59,7 @@ some_weighs-returns-in-Choice t c =
     let a = c.get-in-Choice.result.now in
     let b = c.get-in-Choice-2.result.now in
     let e = two_same (prog.Choice) c.args.prog.now c.in-Choice.one c.in-Choice.other a b c.in-Choice.is c.get-in-Choice.ensures c.get-in-Choice-2.ensures in
-    ok_as c.either_weighs.result _ _ (choice_weighs c.args.agent.now c.args.state.now c.args.standing.stepless c.args.standing.higher c.requires.agent.programs.guarded c.args.prog.now a b e) c.either_weighs.ensures
+    ok_as c.either_weighs.result _ _ (choice_weighs c.args.agent.now c.args.state.now c.args.at.stepless c.args.at.higher c.requires.agent.programs.guarded c.args.prog.now a b e) c.either_weighs.ensures
 
 pub some_weighs-either_weighs-requires-in-If : goal.some_weighs-either_weighs-requires-in-If
 some_weighs-either_weighs-requires-in-If t c =
@@ -79,7 +79,7 @@ some_weighs-returns-in-If t c =
     let a = c.get-in-If.result.now in
     let b = c.get-in-If-2.result.now in
     let e = two_same (prog.If c.in-If.cond) c.args.prog.now c.in-If.yes c.in-If.no a b c.in-If.is c.get-in-If.ensures c.get-in-If-2.ensures in
-    ok_as c.either_weighs-in-If.result _ _ (if_weighs c.args.agent.now c.args.state.now c.args.standing.stepless c.args.standing.higher c.requires.agent.programs.guarded c.args.prog.now c.in-If.cond a b e) c.either_weighs-in-If.ensures
+    ok_as c.either_weighs-in-If.result _ _ (if_weighs c.args.agent.now c.args.state.now c.args.at.stepless c.args.at.higher c.requires.agent.programs.guarded c.args.prog.now c.in-If.cond a b e) c.either_weighs-in-If.ensures
 
 pub some_weighs-either_weighs-requires-in-Conc : goal.some_weighs-either_weighs-requires-in-Conc
 some_weighs-either_weighs-requires-in-Conc t c =
@@ -99,7 +99,7 @@ some_weighs-returns-in-Conc t c =
     let a = c.get-in-Conc.result.now in
     let b = c.get-in-Conc-2.result.now in
     let e = two_same (prog.Conc) c.args.prog.now c.in-Conc.one c.in-Conc.other a b c.in-Conc.is c.get-in-Conc.ensures c.get-in-Conc-2.ensures in
-    ok_as c.either_weighs-in-Conc.result _ _ (conc_weighs c.args.agent.now c.args.state.now c.args.standing.stepless c.args.standing.higher c.requires.agent.programs.guarded c.args.prog.now a b e) c.either_weighs-in-Conc.ensures
+    ok_as c.either_weighs-in-Conc.result _ _ (conc_weighs c.args.agent.now c.args.state.now c.args.at.stepless c.args.at.higher c.requires.agent.programs.guarded c.args.prog.now a b e) c.either_weighs-in-Conc.ensures
 
 pub some_weighs-weighs_in_prio-requires : goal.some_weighs-weighs_in_prio-requires
 some_weighs-weighs_in_prio-requires t c =
@@ -119,7 +119,7 @@ some_weighs-returns-in-Prio t c =
     let a = c.get-in-Prio.result.now in
     let b = c.get-in-Prio-2.result.now in
     let e = two_same (prog.Prio) c.args.prog.now c.in-Prio.high c.in-Prio.low a b c.in-Prio.is c.get-in-Prio.ensures c.get-in-Prio-2.ensures in
-    ok_as c.weighs_in_prio.result _ _ (prio_weighs c.args.agent.now c.args.state.now c.args.standing.stepless c.args.standing.higher c.requires.agent.programs.guarded c.args.prog.now a b e) c.weighs_in_prio.ensures
+    ok_as c.weighs_in_prio.result _ _ (prio_weighs c.args.agent.now c.args.state.now c.args.at.stepless c.args.at.higher c.requires.agent.programs.guarded c.args.prog.now a b e) c.weighs_in_prio.ensures
 
 pub some_weighs-some_weighs-requires : goal.some_weighs-some_weighs-requires
 some_weighs-some_weighs-requires t c =
@@ -135,7 +135,7 @@ pub some_weighs-returns-in-Star : goal.some_weighs-returns-in-Star
 some_weighs-returns-in-Star t c =
     let a = c.get-in-Star.result.now in
     let e = one_same (prog.Star) c.args.prog.now c.in-Star.body a c.in-Star.is c.get-in-Star.ensures in
-    ok_as c.some_weighs.result _ _ (star_weighs c.args.agent.now c.args.state.now c.args.standing.stepless c.args.standing.higher c.requires.agent.programs.guarded c.args.prog.now a e) c.some_weighs.ensures
+    ok_as c.some_weighs.result _ _ (star_weighs c.args.agent.now c.args.state.now c.args.at.stepless c.args.at.higher c.requires.agent.programs.guarded c.args.prog.now a e) c.some_weighs.ensures
 
 pub some_weighs-some_weighs-requires-in-Cstar : goal.some_weighs-some_weighs-requires-in-Cstar
 some_weighs-some_weighs-requires-in-Cstar t c =
@@ -151,7 +151,7 @@ pub some_weighs-returns-in-Cstar : goal.some_weighs-returns-in-Cstar
 some_weighs-returns-in-Cstar t c =
     let a = c.get-in-Cstar.result.now in
     let e = one_same (prog.Cstar) c.args.prog.now c.in-Cstar.body a c.in-Cstar.is c.get-in-Cstar.ensures in
-    ok_as c.some_weighs-in-Cstar.result _ _ (cstar_weighs c.args.agent.now c.args.state.now c.args.standing.stepless c.args.standing.higher c.requires.agent.programs.guarded c.args.prog.now a e) c.some_weighs-in-Cstar.ensures
+    ok_as c.some_weighs-in-Cstar.result _ _ (cstar_weighs c.args.agent.now c.args.state.now c.args.at.stepless c.args.at.higher c.requires.agent.programs.guarded c.args.prog.now a e) c.some_weighs-in-Cstar.ensures
 
 pub some_weighs-some_weighs-requires-in-While : goal.some_weighs-some_weighs-requires-in-While
 some_weighs-some_weighs-requires-in-While t c =
@@ -167,7 +167,7 @@ pub some_weighs-returns-in-While : goal.some_weighs-returns-in-While
 some_weighs-returns-in-While t c =
     let a = c.get-in-While.result.now in
     let e = one_same (prog.While c.in-While.cond) c.args.prog.now c.in-While.body a c.in-While.is c.get-in-While.ensures in
-    ok_as c.some_weighs-in-While.result _ _ (while_weighs c.args.agent.now c.args.state.now c.args.standing.stepless c.args.standing.higher c.requires.agent.programs.guarded c.args.prog.now c.in-While.cond a e) c.some_weighs-in-While.ensures
+    ok_as c.some_weighs-in-While.result _ _ (while_weighs c.args.agent.now c.args.state.now c.args.at.stepless c.args.at.higher c.requires.agent.programs.guarded c.args.prog.now c.in-While.cond a e) c.some_weighs-in-While.ensures
 
 pub some_weighs-weighs_in_pick-requires : goal.some_weighs-weighs_in_pick-requires
 some_weighs-weighs_in_pick-requires t c =
@@ -182,7 +182,7 @@ pub some_weighs-returns-in-Pick : goal.some_weighs-returns-in-Pick
 some_weighs-returns-in-Pick t c =
     let a = c.get-in-Pick.result.now in
     let e = one_same (prog.Pick c.in-Pick.var c.in-Pick.sort) c.args.prog.now c.in-Pick.body a c.in-Pick.is c.get-in-Pick.ensures in
-    subst (λ (z : Prog). IfOk c.weighs_in_pick.result (λ b. b ≡ some_weighs c.args.agent.now c.args.state.now c.args.standing.stepless c.args.standing.higher z)) (sym e) c.weighs_in_pick.ensures
+    subst (λ (z : Prog). IfOk c.weighs_in_pick.result (λ b. b ≡ some_weighs c.args.agent.now c.args.state.now c.args.at.stepless c.args.at.higher z)) (sym e) c.weighs_in_pick.ensures
 
 pub some_weighs-weighs_in_call-requires : goal.some_weighs-weighs_in_call-requires
 some_weighs-weighs_in_call-requires t c =
@@ -197,7 +197,7 @@ pub some_weighs-returns-in-Call : goal.some_weighs-returns-in-Call
 some_weighs-returns-in-Call t c =
     let a = c.as_slice.result.now in
     let e = c.in-Call.is ∙ ap (prog.Call c.in-Call.item) (sym c.as_slice.ensures) in
-    subst (λ (z : Prog). IfOk c.weighs_in_call.result (λ b. b ≡ some_weighs c.args.agent.now c.args.state.now c.args.standing.stepless c.args.standing.higher z)) (sym e) c.weighs_in_call.ensures
+    subst (λ (z : Prog). IfOk c.weighs_in_call.result (λ b. b ≡ some_weighs c.args.agent.now c.args.state.now c.args.at.stepless c.args.at.higher z)) (sym e) c.weighs_in_call.ensures
 
 pub some_weighs-search_weighs-requires-clause-searched : goal.some_weighs-search_weighs-requires-clause-searched
 some_weighs-search_weighs-requires-clause-searched t c =
@@ -209,7 +209,7 @@ pub some_weighs-returns-in-Search : goal.some_weighs-returns-in-Search
 some_weighs-returns-in-Search t c =
     let a = c.get-in-Search.result.now in
     let e = one_same (prog.Search c.in-Search.depth c.in-Search.fuel) c.args.prog.now c.in-Search.body a c.in-Search.is c.get-in-Search.ensures in
-    ok_as c.search_weighs.result _ _ (search_weighs c.args.agent.now c.args.state.now c.args.standing.stepless c.args.standing.higher c.requires.agent.programs.guarded c.args.prog.now a c.in-Search.depth c.in-Search.fuel e) c.search_weighs.ensures
+    ok_as c.search_weighs.result _ _ (search_weighs c.args.agent.now c.args.state.now c.args.at.stepless c.args.at.higher c.requires.agent.programs.guarded c.args.prog.now a c.in-Search.depth c.in-Search.fuel e) c.search_weighs.ensures
 
 pub some_weighs-follow_weighs-requires-clause-searched : goal.some_weighs-follow_weighs-requires-clause-searched
 some_weighs-follow_weighs-requires-clause-searched t c =
@@ -223,7 +223,7 @@ some_weighs-returns-in-Follow t c =
     let rest = c.as_slice-rest.result.now in
     let same = one_same (λ (z : Prog). prog.Follow c.in-Follow.depth c.in-Follow.fuel z c.in-Follow.rest) c.args.prog.now c.in-Follow.body a c.in-Follow.is c.get-body.ensures in
     let e = same ∙ ap (prog.Follow c.in-Follow.depth c.in-Follow.fuel a) (sym c.as_slice-rest.ensures) in
-    ok_as c.follow_weighs.result _ _ (follow_weighs c.args.agent.now c.args.state.now c.args.standing.stepless c.args.standing.higher c.requires.agent.programs.guarded c.args.prog.now a c.in-Follow.depth c.in-Follow.fuel rest e) c.follow_weighs.ensures
+    ok_as c.follow_weighs.result _ _ (follow_weighs c.args.agent.now c.args.state.now c.args.at.stepless c.args.at.higher c.requires.agent.programs.guarded c.args.prog.now a c.in-Follow.depth c.in-Follow.fuel rest e) c.follow_weighs.ensures
 
 pub either_weighs-some_weighs-requires : goal.either_weighs-some_weighs-requires
 either_weighs-some_weighs-requires t c =
@@ -270,11 +270,11 @@ weighs_in_seq-some_weighs-requires t c =
 
 pub weighs_in_seq-returns-then-may_skip : goal.weighs_in_seq-returns-then-may_skip
 weighs_in_seq-returns-then-may_skip t c =
-    ok_as c.either_weighs.result _ _ (seq_weighs c.args.agent.now c.args.state.now c.args.standing.stepless c.args.standing.higher c.requires.agent.programs.guarded c.args.one.now c.args.other.now (sym c.may_skip.ensures ∙ c.if-may_skip.true)) c.either_weighs.ensures
+    ok_as c.either_weighs.result _ _ (seq_weighs c.args.agent.now c.args.state.now c.args.at.stepless c.args.at.higher c.requires.agent.programs.guarded c.args.one.now c.args.other.now (sym c.may_skip.ensures ∙ c.if-may_skip.true)) c.either_weighs.ensures
 
 pub weighs_in_seq-returns-else-may_skip : goal.weighs_in_seq-returns-else-may_skip
 weighs_in_seq-returns-else-may_skip t c =
-    ok_as c.some_weighs.result _ _ (seq_first c.args.agent.now c.args.state.now c.args.standing.stepless c.args.standing.higher c.requires.agent.programs.guarded c.args.one.now c.args.other.now (sym c.may_skip.ensures ∙ c.if-may_skip.false)) c.some_weighs.ensures
+    ok_as c.some_weighs.result _ _ (seq_first c.args.agent.now c.args.state.now c.args.at.stepless c.args.at.higher c.requires.agent.programs.guarded c.args.one.now c.args.other.now (sym c.may_skip.ensures ∙ c.if-may_skip.false)) c.some_weighs.ensures
 
 pub weighs_in-some_weighs-requires : goal.weighs_in-some_weighs-requires
 weighs_in-some_weighs-requires t c =
@@ -283,7 +283,7 @@ weighs_in-some_weighs-requires t c =
 
 pub weighs_in_pick-loop-constant-init : goal.weighs_in_pick-loop-constant-init
 weighs_in_pick-loop-constant-init t c =
-    none_yet c.args.agent.now c.args.state.now c.args.standing.stepless c.args.standing.higher c.args.var c.args.sort c.args.body.now
+    none_yet c.args.agent.now c.args.state.now c.args.at.stepless c.args.at.higher c.args.var c.args.sort c.args.body.now
 
 pub weighs_in_pick-weighs_in-requires : goal.weighs_in_pick-weighs_in-requires
 weighs_in_pick-weighs_in-requires t c =
@@ -300,21 +300,21 @@ pub weighs_in_pick-loop-constant-preserved : goal.weighs_in_pick-loop-constant-p
 weighs_in_pick-loop-constant-preserved t c =
     let constant = c.loop-constant.constant in
     let below : constant < sort_size c.args.agent.now c.args.sort = omega arith in
-    let none : some_weighs c.args.agent.now c.args.state.now c.args.standing.stepless c.args.standing.higher (put_arg c.args.body.now c.args.var constant) ≡ false =
-    ap (some_weighs c.args.agent.now c.args.state.now c.args.standing.stepless c.args.standing.higher) (sym c.in_ok-put.ensures) ∙ sym c.in_ok-weighs_in.ensures ∙ c.if-branch.false in
-    none_more c.args.agent.now c.args.state.now c.args.standing.stepless c.args.standing.higher c.args.var c.args.sort c.args.body.now constant below none c.loop-constant.invariant
+    let none : some_weighs c.args.agent.now c.args.state.now c.args.at.stepless c.args.at.higher (put_arg c.args.body.now c.args.var constant) ≡ false =
+    ap (some_weighs c.args.agent.now c.args.state.now c.args.at.stepless c.args.at.higher) (sym c.in_ok-put.ensures) ∙ sym c.in_ok-weighs_in.ensures ∙ c.if-branch.false in
+    none_more c.args.agent.now c.args.state.now c.args.at.stepless c.args.at.higher c.args.var c.args.sort c.args.body.now constant below none c.loop-constant.invariant
 
 pub weighs_in_pick-returns-then-branch : goal.weighs_in_pick-returns-then-branch
 weighs_in_pick-returns-then-branch t c =
     let constant = c.loop-constant.constant in
     let below : constant < sort_size c.args.agent.now c.args.sort = omega arith in
-    let some : some_weighs c.args.agent.now c.args.state.now c.args.standing.stepless c.args.standing.higher (put_arg c.args.body.now c.args.var constant) ≡ true =
-    ap (some_weighs c.args.agent.now c.args.state.now c.args.standing.stepless c.args.standing.higher) (sym c.in_ok-put.ensures) ∙ sym c.in_ok-weighs_in.ensures ∙ c.if-branch.true in
-    pick_weighs c.args.agent.now c.args.state.now c.args.standing.stepless c.args.standing.higher c.requires.agent.programs.guarded c.args.var c.args.sort c.args.body.now constant below some c.loop-constant.invariant
+    let some : some_weighs c.args.agent.now c.args.state.now c.args.at.stepless c.args.at.higher (put_arg c.args.body.now c.args.var constant) ≡ true =
+    ap (some_weighs c.args.agent.now c.args.state.now c.args.at.stepless c.args.at.higher) (sym c.in_ok-put.ensures) ∙ sym c.in_ok-weighs_in.ensures ∙ c.if-branch.true in
+    pick_weighs c.args.agent.now c.args.state.now c.args.at.stepless c.args.at.higher c.requires.agent.programs.guarded c.args.var c.args.sort c.args.body.now constant below some c.loop-constant.invariant
 
 pub weighs_in_pick-returns : goal.weighs_in_pick-returns
 weighs_in_pick-returns t c =
-    pick_none c.args.agent.now c.args.state.now c.args.standing.stepless c.args.standing.higher c.requires.agent.programs.guarded c.args.var c.args.sort c.args.body.now c.loop-constant.constant (omega arith) c.loop-constant.invariant
+    pick_none c.args.agent.now c.args.state.now c.args.at.stepless c.args.at.higher c.requires.agent.programs.guarded c.args.var c.args.sort c.args.body.now c.loop-constant.constant (omega arith) c.loop-constant.invariant
 
 pub weighs_in_call-body_of-requires : goal.weighs_in_call-body_of-requires
 weighs_in_call-body_of-requires t c =
@@ -332,4 +332,4 @@ weighs_in_call-weighs_in-requires t c =
 
 pub weighs_in_call-returns : goal.weighs_in_call-returns
 weighs_in_call-returns t c =
-    ok_as c.weighs_in.result _ _ (ap (some_weighs c.args.agent.now c.args.state.now c.args.standing.stepless c.args.standing.higher) c.in_ok-body.ensures ∙ call_weighs c.args.agent.now c.args.state.now c.args.standing.stepless c.args.standing.higher c.requires.agent.programs.guarded c.args.item c.args.args.now) c.weighs_in.ensures
+    ok_as c.weighs_in.result _ _ (ap (some_weighs c.args.agent.now c.args.state.now c.args.at.stepless c.args.at.higher) c.in_ok-body.ensures ∙ call_weighs c.args.agent.now c.args.state.now c.args.at.stepless c.args.at.higher c.requires.agent.programs.guarded c.args.item c.args.args.now) c.weighs_in.ensures

@@ -26,4 +26,4 @@ abbrev pub decreases-weighs_in_call : goal.decreases-weighs_in_call
 decreases-weighs_in_call l = 3 * (front l.agent.now (prog.Call l.item l.args.now)).height
 
 abbrev pub invariant-weighs_in_pick-loop-constant : goal.invariant-weighs_in_pick-loop-constant
-invariant-weighs_in_pick-loop-constant l = NoneBefore l.agent l.state l.standing.stepless l.standing.higher l.var l.sort l.body l.constant
+invariant-weighs_in_pick-loop-constant l = NoneBefore l.agent l.state l.at.stepless l.at.higher l.var l.sort l.body l.constant
