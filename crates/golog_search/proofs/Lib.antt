@@ -17,3 +17,7 @@ pub mod Searching
 pub mod GoingThrough
 pub mod BlockSteps
 pub mod FirstSteps
+pub mod FrontBlocksUnfold
+pub mod InBlocks
+pub mod Weighs
+pub mod HeavyPrograms

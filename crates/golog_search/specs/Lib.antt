@@ -3,3 +3,4 @@ pub mod Laws
 pub mod Levels
 pub mod Finding
 pub mod BlockSteps
+pub mod Weighing

@@ -82,7 +82,7 @@ pub fn goes_through(
 }
 
 /// Whether some run is under way, and it goes through from the state.
-fn is_kept(
+pub fn is_kept(
     alloc: Global,
     agent: &Agent,
     body: &Prog,

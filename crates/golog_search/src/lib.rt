@@ -13,6 +13,7 @@ mod reached;
 mod same;
 mod search;
 mod steps;
+mod weighing;
 
 pub use deciding::{NEST_LIMIT, decide};
 pub use decision::{Blocked, Decision};

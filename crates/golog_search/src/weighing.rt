@@ -1,10 +1,9 @@
 ghost use Rattle.std.specs.Prelude.{◌≡◌, ◌||◌, IfOk, IsTrue, not, true};
 ghost use Rattle.std.specs.List.{list_any};
 ghost use Rattle.golog_semantics.specs.BlockFree.{has_block};
-ghost use Rattle.golog_semantics.specs.Blocks.{goes_through as through, is_kept, moves};
+ghost use Rattle.golog_semantics.specs.Blocks.{is_kept as keeps_run, moves};
 ghost use Rattle.golog_semantics.specs.Heavy.{front_blocks, heavy, is_above};
 ghost use Rattle.golog_semantics.specs.ProgFits.{fits};
-ghost use Rattle.golog_semantics.specs.Same.{same_way};
 ghost use Rattle.golog_semantics.specs.SortLaws.{AreInSorts};
 ghost use Rattle.golog_semantics.specs.Ways.{is_empty};
 ghost use Rattle.golog_semantics.specs.WellFormed.{WellFormed};
@@ -14,10 +13,9 @@ ghost use Rattle.golog_search.specs.Levels.{IsSearched};
 ghost use Rattle.golog_search.specs.Weighing.{lacks_fuel as lacks, some_weighs as weighs_some};
 ghost use Rattle.golog_search.specs.Weighing.{weighs_by, weighs_unless_kept};
 
+use crate::block_steps::is_kept;
 use crate::finding::find;
 use crate::found::Found;
-use crate::level::{state_after, ways_of};
-use crate::same::is_same_way;
 use golog_base::NoMemory;
 use golog_progress::State;
 use golog_semantics::{Block, Mode};
@@ -74,68 +72,6 @@ fn wants_more(
 {
     let found = find(alloc, agent, block, state, certain)?;
     Ok(lacks_fuel(&found))
-}
-
-/// Whether two ways are the same.
-fn is_same(one: &Way, other: &Way) -> bool
-    ensures { result ≡ same_way one.now other.now }
-{
-    is_same_way(one, other)
-}
-
-/// Whether the way is among these.
-fn is_among(way: &Way, ways: &[Way]) -> bool
-    ensures { result ≡ list_any (same_way way.now) ways.now }
-{
-    for other in ways {
-        if is_same(way, other) {
-            return true;
-        }
-    }
-    false
-}
-
-/// Whether the run goes through from the state to one in which the program may end.
-fn goes_through(
-    alloc: Global,
-    agent: &Agent,
-    body: &Prog,
-    run: &[Way],
-    state: &State,
-) -> Result<bool, NoMemory>
-    requires agent { WellFormed agent.now }
-    requires searched { IsSearched agent.now body.now state.now }
-    ensures { IfOk result (λ b. b ≡ through agent.now body.now run.now state.now) }
-{
-    let [way, later @ ..] = run else {
-        return is_final(alloc, agent, Mode::Must, body, state);
-    };
-    let ways = ways_of(alloc, agent, Mode::Must, body, state)?;
-    if is_among(way, ways.as_slice()) {
-        let next = state_after(alloc, agent, state, way.label)?;
-        goes_through(alloc, agent, &way.left, later, &next)
-    } else {
-        Ok(false)
-    }
-}
-
-/// Whether a run is under way that goes through from the state.
-fn follows(
-    alloc: Global,
-    agent: &Agent,
-    body: &Prog,
-    rest: &[Way],
-    state: &State,
-) -> Result<bool, NoMemory>
-    requires agent { WellFormed agent.now }
-    requires searched { IsSearched agent.now body.now state.now }
-    ensures { IfOk result (λ b. b ≡ is_kept agent.now state.now body.now rest.now) }
-{
-    if rest.is_empty() {
-        Ok(false)
-    } else {
-        goes_through(alloc, agent, body, rest, state)
-    }
 }
 
 /// The block of these parts.
@@ -208,7 +144,7 @@ fn follow_weighs(
     ensures { IfOk result (λ b. b ≡ weighs_unless_kept agent.now state.now at.stepless at.higher
         (record { depth = depth; fuel = fuel; body = body.now }) rest.now) }
 {
-    if follows(alloc, agent, body, rest, state)? {
+    if is_kept(alloc, agent, body, rest, state)? {
         Ok(false)
     } else {
         search_weighs(alloc, agent, depth, fuel, body, state, at)
