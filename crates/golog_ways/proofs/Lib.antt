@@ -1,5 +1,6 @@
 pub mod Acting
 pub mod AllFronts
+pub mod BlockParts
 pub mod ClosedConds
 pub mod Closing
 pub mod Ends
@@ -17,6 +18,7 @@ pub mod Opened
 pub mod Outlooks
 pub mod Preconditions
 pub mod PutTruth
+pub mod ReachSteps
 pub mod Some
 pub mod Steps
 pub mod WellFormedFits

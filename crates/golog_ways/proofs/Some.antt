@@ -21,10 +21,10 @@ use Rattle.golog_ways.proofs.Steps.{final-by, any-by}
 use Rattle.golog_semantics.proofs.FrontLaws.{holds-either, holds-no}
 
 -- one of the constants from this one on
-abbrev from : (ℕ → Bool) → ℕ → ℕ → Bool
+abbrev pub from : (ℕ → Bool) → ℕ → ℕ → Bool
 from f i n = list_any f (range_with_len i (n - i))
 
-from-next : (f : ℕ → Bool) (i n : ℕ) → i < n → from f i n ≡ (f i || from f (i + 1) n)
+pub from-next : (f : ℕ → Bool) (i n : ℕ) → i < n → from f i n ≡ (f i || from f (i + 1) n)
 from-next f i n h =
     let e : n - i ≡ suc (n - (i + 1)) = omega arith in
     rw e refl
@@ -34,7 +34,7 @@ from-end f i n h =
     let e : n - i ≡ 0 = omega arith in
     rw e refl
 
-or_assoc : (a b c : Bool) → (a || (b || c)) ≡ ((a || b) || c)
+pub or_assoc : (a b c : Bool) → (a || (b || c)) ≡ ((a || b) || c)
 or_assoc true b c = refl
 or_assoc false b c = refl
 
@@ -43,7 +43,7 @@ or_none true b e = refl
 or_none false b e = e
 
 -- what is found so far or still to be tried decides
-abbrev SoFar : (ℕ → Bool) → ℕ → ℕ → Bool → Type 0
+abbrev pub SoFar : (ℕ → Bool) → ℕ → ℕ → Bool → Type 0
 SoFar f i n found = list_any f (range_with_len 0 n) ≡ (found || from f i n)
 
 none-yet : (f : ℕ → Bool) (n : ℕ) (m : Mode) → SoFar f 0 n (holds m No)
@@ -54,7 +54,7 @@ one-more f i n m a b l e h =
     h ∙ ap (λ z. holds m a || z) (from-next f i n l) ∙ or_assoc (holds m a) (f i) (from f (i + 1) n)
     ∙ ap (λ z. z || from f (i + 1) n) (ap (λ z. holds m a || z) (sym e) ∙ sym (holds-either m a b))
 
-at-end : (f : ℕ → Bool) (i n : ℕ) (found : Bool) → n ≤ i → SoFar f i n found → found ≡ list_any f (range_with_len 0 n)
+pub at-end : (f : ℕ → Bool) (i n : ℕ) (found : Bool) → n ≤ i → SoFar f i n found → found ≡ list_any f (range_with_len 0 n)
 at-end f i n found l h = sym (h ∙ or_none found (from f i n) (from-end f i n l))
 
 module _ (agent : Agent) (values : Values) (x sort : ℕ) (p : Prog) where

@@ -8,3 +8,4 @@ pub mod FrontLists
 pub mod Lefts
 pub mod Outlook
 pub mod Puts
+pub mod Reach

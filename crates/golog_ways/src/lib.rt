@@ -1,6 +1,7 @@
 //! When a program may end, and its steps.
 #![tactic(auto)]
 
+mod answering;
 mod blocks;
 mod bodies;
 mod combining;
@@ -15,6 +16,8 @@ mod modes;
 mod opening;
 mod outlook;
 mod programs;
+mod reaches;
+mod reaching;
 mod single;
 mod step;
 

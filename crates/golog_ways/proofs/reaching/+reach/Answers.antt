@@ -1,0 +1,384 @@
+use Rattle.std.proofs.Common.{◌≡◌, ◌+◌, ◌*◌, ◌<◌, max, IfOk, true, [], map, refl, sym, ap, ◌∙◌, subst, rules, arith}
+use Rattle.golog_tree.specs.declared.cond.Truth.{Truth}
+use Rattle.golog_tree.specs.declared.prog.Prog.{Prog}
+use Rattle.golog_tree.specs.declared.prog.Prog.TheVariants as prog
+use Rattle.golog_tree.specs.Ground.{sort_size}
+use Rattle.golog_semantics.specs.declared.Mode.{Mode}
+use Rattle.golog_semantics.specs.declared.Mode.TheVariants.{May}
+use Rattle.golog_semantics.specs.Guarded.{front}
+use Rattle.golog_semantics.specs.Modes.{holds}
+use Rattle.golog_semantics.specs.Search.{final}
+use Rattle.golog_semantics.specs.Truth.{arg_value, env_of}
+use Rattle.golog_semantics.specs.Program.{put_arg, body_of}
+use Rattle.golog_semantics.proofs.Unfolded.{final-skips}
+use Rattle.golog_ways.specs.Reach.{IsReach, IsReachWhere}
+use Rattle.golog_ways.proofs.Acting.{holds-precondition}
+use Rattle.golog_ways.proofs.BlockParts.{search_begins}
+use Rattle.golog_ways.proofs.Closing.{choice_parts, conc_parts, prio_parts, seq_parts, star_part, cstar_part, test_fits, if_parts, while_parts, pick_part, call_part, call_few}
+use Rattle.golog_ways.proofs.Moved.{one_same, two_same, closed_as}
+use Rattle.golog_ways.proofs.ReachSteps.{reach_as, same_gives, nil_reach, act_reach, test_reach, seq_reach, seq_reach_first, choice_reach, conc_reach, prio_reach, star_gives, cstar_gives, search_gives, follow_gives, where_reach, where_none, if_reach, while_gives, call_gives, some_none, some_more, pick_reach}
+use Rattle.golog_ways.proofs.reaching.+reach.Goals as goal
+
+pub reach_of-precondition-requires-clause-closed : goal.reach_of-precondition-requires-clause-closed
+reach_of-precondition-requires-clause-closed g t c =
+    let e = c.in-Act.is ∙ ap (prog.Act c.in-Act.action) (sym c.as_slice.ensures) in
+    closed_as c.args.agent.now c.args.prog.now (prog.Act c.in-Act.action c.as_slice.result.now) e c.requires.closed
+
+pub reach_of-truth-requires-clause-fits : goal.reach_of-truth-requires-clause-fits
+reach_of-truth-requires-clause-fits g t c =
+    test_fits c.args.agent.now c.args.prog.now c.in-Test.cond c.requires.closed c.in-Test.is
+
+pub reach_of-reach_of_seq-requires : goal.reach_of-reach_of_seq-requires
+reach_of-reach_of_seq-requires g t c κs within =
+    let a = c.get.result.now in
+    let b = c.get-in-Seq.result.now in
+    let e = two_same (prog.Seq) c.args.prog.now c.in-Seq.one c.in-Seq.other a b c.in-Seq.is c.get.ensures c.get-in-Seq.ensures in
+    let closed = closed_as c.args.agent.now c.args.prog.now (prog.Seq a b) e c.requires.closed in
+    let same : (front c.args.agent.now c.args.prog.now).height ≡ (front c.args.agent.now (prog.Seq a b)).height = ap (λ (z : Prog). (front c.args.agent.now z).height) e in
+    let low : 3 * (front c.args.agent.now (prog.Seq a b)).height < 1 + 3 * (front c.args.agent.now c.args.prog.now).height = omega arith in
+    search rules
+
+pub reach_of-both_reaches-requires : goal.reach_of-both_reaches-requires
+reach_of-both_reaches-requires g t c κs within =
+    let a = c.get-in-Choice.result.now in
+    let b = c.get-in-Choice-2.result.now in
+    let e = two_same (prog.Choice) c.args.prog.now c.in-Choice.one c.in-Choice.other a b c.in-Choice.is c.get-in-Choice.ensures c.get-in-Choice-2.ensures in
+    let parts = choice_parts c.args.agent.now c.args.prog.now a b c.requires.closed e in
+    let one_closed = parts.one.closed_too in
+    let other_closed = parts.other.closed_too in
+    let l = parts.one.lower in
+    let k = parts.other.lower in
+    let low : 2 + 3 * max (front c.args.agent.now a).height (front c.args.agent.now b).height < 1 + 3 * (front c.args.agent.now c.args.prog.now).height = omega arith in
+    search rules
+
+pub reach_of-both_reaches-requires-in-Conc : goal.reach_of-both_reaches-requires-in-Conc
+reach_of-both_reaches-requires-in-Conc g t c κs within =
+    let a = c.get-in-Conc.result.now in
+    let b = c.get-in-Conc-2.result.now in
+    let e = two_same (prog.Conc) c.args.prog.now c.in-Conc.one c.in-Conc.other a b c.in-Conc.is c.get-in-Conc.ensures c.get-in-Conc-2.ensures in
+    let parts = conc_parts c.args.agent.now c.args.prog.now a b c.requires.closed e in
+    let one_closed = parts.one.closed_too in
+    let other_closed = parts.other.closed_too in
+    let l = parts.one.lower in
+    let k = parts.other.lower in
+    let low : 2 + 3 * max (front c.args.agent.now a).height (front c.args.agent.now b).height < 1 + 3 * (front c.args.agent.now c.args.prog.now).height = omega arith in
+    search rules
+
+pub reach_of-both_reaches-requires-in-Prio : goal.reach_of-both_reaches-requires-in-Prio
+reach_of-both_reaches-requires-in-Prio g t c κs within =
+    let a = c.get-in-Prio.result.now in
+    let b = c.get-in-Prio-2.result.now in
+    let e = two_same (prog.Prio) c.args.prog.now c.in-Prio.high c.in-Prio.low a b c.in-Prio.is c.get-in-Prio.ensures c.get-in-Prio-2.ensures in
+    let parts = prio_parts c.args.agent.now c.args.prog.now a b c.requires.closed e in
+    let one_closed = parts.one.closed_too in
+    let other_closed = parts.other.closed_too in
+    let l = parts.one.lower in
+    let k = parts.other.lower in
+    let low : 2 + 3 * max (front c.args.agent.now a).height (front c.args.agent.now b).height < 1 + 3 * (front c.args.agent.now c.args.prog.now).height = omega arith in
+    search rules
+
+pub reach_of-reach_of-requires : goal.reach_of-reach_of-requires
+reach_of-reach_of-requires g t c κs within =
+    let a = c.get-in-Star.result.now in
+    let e = one_same (prog.Star) c.args.prog.now c.in-Star.body a c.in-Star.is c.get-in-Star.ensures in
+    let part = star_part c.args.agent.now c.args.prog.now a c.requires.closed e in
+    let closed = part.closed_too in
+    let l = part.lower in
+    let low : 1 + 3 * (front c.args.agent.now a).height < 1 + 3 * (front c.args.agent.now c.args.prog.now).height = omega arith in
+    search rules
+
+pub reach_of-reach_of-requires-in-Cstar : goal.reach_of-reach_of-requires-in-Cstar
+reach_of-reach_of-requires-in-Cstar g t c κs within =
+    let a = c.get-in-Cstar.result.now in
+    let e = one_same (prog.Cstar) c.args.prog.now c.in-Cstar.body a c.in-Cstar.is c.get-in-Cstar.ensures in
+    let part = cstar_part c.args.agent.now c.args.prog.now a c.requires.closed e in
+    let closed = part.closed_too in
+    let l = part.lower in
+    let low : 1 + 3 * (front c.args.agent.now a).height < 1 + 3 * (front c.args.agent.now c.args.prog.now).height = omega arith in
+    search rules
+
+pub reach_of-reach_of_if-requires : goal.reach_of-reach_of_if-requires
+reach_of-reach_of_if-requires g t c κs within =
+    let a = c.get-in-If.result.now in
+    let b = c.get-in-If-2.result.now in
+    let e = two_same (prog.If c.in-If.cond) c.args.prog.now c.in-If.yes c.in-If.no a b c.in-If.is c.get-in-If.ensures c.get-in-If-2.ensures in
+    let closed = closed_as c.args.agent.now c.args.prog.now (prog.If c.in-If.cond a b) e c.requires.closed in
+    let same : (front c.args.agent.now c.args.prog.now).height ≡ (front c.args.agent.now (prog.If c.in-If.cond a b)).height = ap (λ (z : Prog). (front c.args.agent.now z).height) e in
+    let low : 3 * (front c.args.agent.now (prog.If c.in-If.cond a b)).height < 1 + 3 * (front c.args.agent.now c.args.prog.now).height = omega arith in
+    search rules
+
+pub reach_of-reach_of_while-requires : goal.reach_of-reach_of_while-requires
+reach_of-reach_of_while-requires g t c κs within =
+    let a = c.get-in-While.result.now in
+    let e = one_same (prog.While c.in-While.cond) c.args.prog.now c.in-While.body a c.in-While.is c.get-in-While.ensures in
+    let closed = closed_as c.args.agent.now c.args.prog.now (prog.While c.in-While.cond a) e c.requires.closed in
+    let same : (front c.args.agent.now c.args.prog.now).height ≡ (front c.args.agent.now (prog.While c.in-While.cond a)).height = ap (λ (z : Prog). (front c.args.agent.now z).height) e in
+    let low : 3 * (front c.args.agent.now (prog.While c.in-While.cond a)).height < 1 + 3 * (front c.args.agent.now c.args.prog.now).height = omega arith in
+    search rules
+
+pub reach_of-reach_of_pick-requires : goal.reach_of-reach_of_pick-requires
+reach_of-reach_of_pick-requires g t c κs within =
+    let a = c.get-in-Pick.result.now in
+    let e = one_same (prog.Pick c.in-Pick.var c.in-Pick.sort) c.args.prog.now c.in-Pick.body a c.in-Pick.is c.get-in-Pick.ensures in
+    let closed = closed_as c.args.agent.now c.args.prog.now (prog.Pick c.in-Pick.var c.in-Pick.sort a) e c.requires.closed in
+    let same : (front c.args.agent.now c.args.prog.now).height ≡ (front c.args.agent.now (prog.Pick c.in-Pick.var c.in-Pick.sort a)).height = ap (λ (z : Prog). (front c.args.agent.now z).height) e in
+    let low : 3 * (front c.args.agent.now (prog.Pick c.in-Pick.var c.in-Pick.sort a)).height < 1 + 3 * (front c.args.agent.now c.args.prog.now).height = omega arith in
+    search rules
+
+pub reach_of-reach_of_call-requires : goal.reach_of-reach_of_call-requires
+reach_of-reach_of_call-requires g t c κs within =
+    let a = c.as_slice-in-Call.result.now in
+    let e = c.in-Call.is ∙ ap (prog.Call c.in-Call.item) (sym c.as_slice-in-Call.ensures) in
+    let closed = closed_as c.args.agent.now c.args.prog.now (prog.Call c.in-Call.item a) e c.requires.closed in
+    let same : (front c.args.agent.now c.args.prog.now).height ≡ (front c.args.agent.now (prog.Call c.in-Call.item a)).height = ap (λ (z : Prog). (front c.args.agent.now z).height) e in
+    let low : 3 * (front c.args.agent.now (prog.Call c.in-Call.item a)).height < 1 + 3 * (front c.args.agent.now c.args.prog.now).height = omega arith in
+    search rules
+
+pub reach_of_if-truth-is_so-requires-clause-fits : goal.reach_of_if-truth-is_so-requires-clause-fits
+reach_of_if-truth-is_so-requires-clause-fits g t c =
+    let parts = if_parts c.args.agent.now (prog.If c.args.cond.now c.args.yes.now c.args.no.now) c.args.cond.now c.args.yes.now c.args.no.now c.requires.closed refl in
+    parts.cond
+
+pub reach_of_if-reach_where-requires : goal.reach_of_if-reach_where-requires
+reach_of_if-reach_where-requires g t c κs within =
+    let parts = if_parts c.args.agent.now (prog.If c.args.cond.now c.args.yes.now c.args.no.now) c.args.cond.now c.args.yes.now c.args.no.now c.requires.closed refl in
+    let closed = parts.yes.closed_too in
+    let l = parts.yes.lower in
+    let low : 2 + 3 * (front c.args.agent.now c.args.yes.now).height < 3 * (front c.args.agent.now (prog.If c.args.cond.now c.args.yes.now c.args.no.now)).height = omega arith in
+    search rules
+
+pub reach_of_if-reach_where-requires-2 : goal.reach_of_if-reach_where-requires-2
+reach_of_if-reach_where-requires-2 g t c κs within =
+    let parts = if_parts c.args.agent.now (prog.If c.args.cond.now c.args.yes.now c.args.no.now) c.args.cond.now c.args.yes.now c.args.no.now c.requires.closed refl in
+    let closed = parts.no.closed_too in
+    let l = parts.no.lower in
+    let low : 2 + 3 * (front c.args.agent.now c.args.no.now).height < 3 * (front c.args.agent.now (prog.If c.args.cond.now c.args.yes.now c.args.no.now)).height = omega arith in
+    search rules
+
+pub reach_of_seq-reach_of-requires : goal.reach_of_seq-reach_of-requires
+reach_of_seq-reach_of-requires g t c κs within =
+    let parts = seq_parts c.args.agent.now (prog.Seq c.args.one.now c.args.other.now) c.args.one.now c.args.other.now c.requires.closed refl in
+    let closed = parts.one.closed_too in
+    let l = parts.one.lower in
+    let low : 1 + 3 * (front c.args.agent.now c.args.one.now).height < 3 * (front c.args.agent.now (prog.Seq c.args.one.now c.args.other.now)).height = omega arith in
+    search rules
+
+pub reach_of_seq-reach_of-requires-then-holds : goal.reach_of_seq-reach_of-requires-then-holds
+reach_of_seq-reach_of-requires-then-holds g t c κs within =
+    let parts = seq_parts c.args.agent.now (prog.Seq c.args.one.now c.args.other.now) c.args.one.now c.args.other.now c.requires.closed refl in
+    let closed = parts.other_closed in
+    let e : final c.args.agent.now c.args.values.now May c.args.one.now ≡ true = sym (c.in_ok-ends.ensures.ends May) ∙ sym c.holds.ensures ∙ c.if-holds.true in
+    let l = parts.other_lower (final-skips c.args.agent.now c.args.values.now c.requires.fit.guarded May c.args.one.now e) in
+    let low : 1 + 3 * (front c.args.agent.now c.args.other.now).height < 3 * (front c.args.agent.now (prog.Seq c.args.one.now c.args.other.now)).height = omega arith in
+    search rules
+
+pub reach_of_while-truth-is_so-requires-clause-fits : goal.reach_of_while-truth-is_so-requires-clause-fits
+reach_of_while-truth-is_so-requires-clause-fits g t c =
+    let parts = while_parts c.args.agent.now (prog.While c.args.cond.now c.args.body.now) c.args.cond.now c.args.body.now c.requires.closed refl in
+    parts.cond
+
+pub reach_where-reach_of-requires : goal.reach_where-reach_of-requires
+reach_where-reach_of-requires g t c κs within =
+    let low : 1 + 3 * (front c.args.agent.now c.args.prog.now).height < 2 + 3 * (front c.args.agent.now c.args.prog.now).height = omega arith in
+    search rules
+
+pub both_reaches-reach_of-requires : goal.both_reaches-reach_of-requires
+both_reaches-reach_of-requires g t c κs within =
+    let closed = c.requires.one in
+    let low : 1 + 3 * (front c.args.agent.now c.args.one.now).height < 2 + 3 * max (front c.args.agent.now c.args.one.now).height (front c.args.agent.now c.args.other.now).height = omega arith in
+    search rules
+
+pub both_reaches-reach_of-requires-2 : goal.both_reaches-reach_of-requires-2
+both_reaches-reach_of-requires-2 g t c κs within =
+    let closed = c.requires.other in
+    let low : 1 + 3 * (front c.args.agent.now c.args.other.now).height < 2 + 3 * max (front c.args.agent.now c.args.one.now).height (front c.args.agent.now c.args.other.now).height = omega arith in
+    search rules
+
+pub reach_of_put-reach_of-requires : goal.reach_of_put-reach_of-requires
+reach_of_put-reach_of-requires g t c κs within =
+    let low : 1 + 3 * (front c.args.agent.now c.args.prog).height < 2 + 3 * (front c.args.agent.now c.args.prog).height = omega arith in
+    search rules
+
+pub reach_of_pick-reach_of_put-requires : goal.reach_of_pick-reach_of_put-requires
+reach_of_pick-reach_of_put-requires g t c κs within =
+    let below : c.loop-constant.constant < sort_size c.args.agent.now c.args.sort = omega arith in
+    let put = c.in_ok-put.put in
+    let part = pick_part c.args.agent.now (prog.Pick c.args.var c.args.sort c.args.body.now) c.args.var c.args.sort c.args.body.now c.requires.closed refl c.loop-constant.constant below in
+    let closed = closed_as c.args.agent.now (put_arg c.args.body.now c.args.var c.loop-constant.constant) put (sym c.in_ok-put.ensures) part.closed_too in
+    let same : (front c.args.agent.now put).height ≡ (front c.args.agent.now (put_arg c.args.body.now c.args.var c.loop-constant.constant)).height = ap (λ (z : Prog). (front c.args.agent.now z).height) c.in_ok-put.ensures in
+    let l = part.lower in
+    let low : 2 + 3 * (front c.args.agent.now put).height < 3 * (front c.args.agent.now (prog.Pick c.args.var c.args.sort c.args.body.now)).height = omega arith in
+    search rules
+
+pub reach_of_call-body_of-requires : goal.reach_of_call-body_of-requires
+reach_of_call-body_of-requires g t c =
+    call_few c.args.agent.now c.requires.fit (prog.Call c.args.item c.args.args.now) c.args.item c.args.args.now c.requires.closed refl
+
+pub reach_of_call-reach_of_put-requires : goal.reach_of_call-reach_of_put-requires
+reach_of_call-reach_of_put-requires g t c κs within =
+    let body = c.in_ok-body.body in
+    let part = call_part c.args.agent.now c.requires.fit (prog.Call c.args.item c.args.args.now) c.args.item c.args.args.now c.requires.closed refl in
+    let closed = closed_as c.args.agent.now (body_of c.args.agent.now c.args.item c.args.args.now) body (sym c.in_ok-body.ensures) part.closed_too in
+    let same : (front c.args.agent.now body).height ≡ (front c.args.agent.now (body_of c.args.agent.now c.args.item c.args.args.now)).height = ap (λ (z : Prog). (front c.args.agent.now z).height) c.in_ok-body.ensures in
+    let l = part.lower in
+    let low : 2 + 3 * (front c.args.agent.now body).height < 3 * (front c.args.agent.now (prog.Call c.args.item c.args.args.now)).height = omega arith in
+    search rules
+
+pub reach_of_seq-outlook-requires-clause-closed : goal.reach_of_seq-outlook-requires-clause-closed
+reach_of_seq-outlook-requires-clause-closed g t c =
+    (seq_parts c.args.agent.now (prog.Seq c.args.one.now c.args.other.now) c.args.one.now c.args.other.now c.requires.closed refl).one.closed_too
+
+pub reach_of_while-reach_where-requires : goal.reach_of_while-reach_where-requires
+reach_of_while-reach_where-requires g t c κs within =
+    let parts = while_parts c.args.agent.now (prog.While c.args.cond.now c.args.body.now) c.args.cond.now c.args.body.now c.requires.closed refl in
+    let closed = parts.body.closed_too in
+    let l = parts.body.lower in
+    let low : 2 + 3 * (front c.args.agent.now c.args.body.now).height < 3 * (front c.args.agent.now (prog.While c.args.cond.now c.args.body.now)).height = omega arith in
+    search rules
+
+pub reach_of-returns-in-Nil : goal.reach_of-returns-in-Nil
+reach_of-returns-in-Nil g t c =
+    reach_as c.args.agent.now (g.B.Blocks.moves c.args.blocks.now c.args.agent.now c.args.values.now) c.args.values.now c.args.prog.now prog.Nil _ c.in-Nil.is (nil_reach c.args.agent.now (g.B.Blocks.moves c.args.blocks.now c.args.agent.now c.args.values.now) c.args.values.now c.requires.fit.guarded)
+
+pub reach_of-returns-in-Act : goal.reach_of-returns-in-Act
+reach_of-returns-in-Act g t c =
+    let args = c.as_slice.result.now in
+    let e = c.in-Act.is ∙ ap (prog.Act c.in-Act.action) (sym c.as_slice.ensures) in
+    let h = λ (m : Mode). c.of.ensures m ∙ ap (λ (t : Truth). holds m t) c.precondition.ensures ∙ holds-precondition c.args.agent.now c.args.values.now c.in-Act.action (map (arg_value (env_of [])) args) m in
+    reach_as c.args.agent.now (g.B.Blocks.moves c.args.blocks.now c.args.agent.now c.args.values.now) c.args.values.now c.args.prog.now (prog.Act c.in-Act.action args) _ e (act_reach c.args.agent.now (g.B.Blocks.moves c.args.blocks.now c.args.agent.now c.args.values.now) c.args.values.now c.requires.fit.guarded c.in-Act.action args c.of.result h)
+
+pub reach_of-returns-in-Test : goal.reach_of-returns-in-Test
+reach_of-returns-in-Test g t c =
+    reach_as c.args.agent.now (g.B.Blocks.moves c.args.blocks.now c.args.agent.now c.args.values.now) c.args.values.now c.args.prog.now (prog.Test c.in-Test.cond) _ c.in-Test.is (test_reach c.args.agent.now (g.B.Blocks.moves c.args.blocks.now c.args.agent.now c.args.values.now) c.args.values.now c.requires.fit.guarded c.in-Test.cond c.truth.result c.of-in-Test.result c.truth.ensures c.of-in-Test.ensures)
+
+pub reach_of-returns-in-Seq : goal.reach_of-returns-in-Seq
+reach_of-returns-in-Seq g t c =
+    let a = c.get.result.now in
+    let b = c.get-in-Seq.result.now in
+    let e = two_same (prog.Seq) c.args.prog.now c.in-Seq.one c.in-Seq.other a b c.in-Seq.is c.get.ensures c.get-in-Seq.ensures in
+    same_gives c.args.agent.now (g.B.Blocks.moves c.args.blocks.now c.args.agent.now c.args.values.now) c.args.values.now c.reach_of_seq.result c.args.prog.now (prog.Seq a b) e c.reach_of_seq.ensures
+
+pub reach_of-returns-in_ok-one-in-Choice : goal.reach_of-returns-in_ok-one-in-Choice
+reach_of-returns-in_ok-one-in-Choice g t c =
+    let a = c.get-in-Choice.result.now in
+    let b = c.get-in-Choice-2.result.now in
+    let e = two_same (prog.Choice) c.args.prog.now c.in-Choice.one c.in-Choice.other a b c.in-Choice.is c.get-in-Choice.ensures c.get-in-Choice-2.ensures in
+    reach_as c.args.agent.now (g.B.Blocks.moves c.args.blocks.now c.args.agent.now c.args.values.now) c.args.values.now c.args.prog.now (prog.Choice a b) _ e (choice_reach c.args.agent.now (g.B.Blocks.moves c.args.blocks.now c.args.agent.now c.args.values.now) c.args.values.now c.requires.fit.guarded a b c.in_ok-one-in-Choice.one c.in_ok-one-in-Choice.other c.or.result c.in_ok-one-in-Choice.ensures.one c.in_ok-one-in-Choice.ensures.other c.or.ensures)
+
+pub reach_of-returns-in_ok-one-in-Conc : goal.reach_of-returns-in_ok-one-in-Conc
+reach_of-returns-in_ok-one-in-Conc g t c =
+    let a = c.get-in-Conc.result.now in
+    let b = c.get-in-Conc-2.result.now in
+    let e = two_same (prog.Conc) c.args.prog.now c.in-Conc.one c.in-Conc.other a b c.in-Conc.is c.get-in-Conc.ensures c.get-in-Conc-2.ensures in
+    reach_as c.args.agent.now (g.B.Blocks.moves c.args.blocks.now c.args.agent.now c.args.values.now) c.args.values.now c.args.prog.now (prog.Conc a b) _ e (conc_reach c.args.agent.now (g.B.Blocks.moves c.args.blocks.now c.args.agent.now c.args.values.now) c.args.values.now c.requires.fit.guarded a b c.in_ok-one-in-Conc.one c.in_ok-one-in-Conc.other c.or-in-Conc.result c.in_ok-one-in-Conc.ensures.one c.in_ok-one-in-Conc.ensures.other c.or-in-Conc.ensures)
+
+pub reach_of-returns-in_ok-high-in-Prio : goal.reach_of-returns-in_ok-high-in-Prio
+reach_of-returns-in_ok-high-in-Prio g t c =
+    let a = c.get-in-Prio.result.now in
+    let b = c.get-in-Prio-2.result.now in
+    let e = two_same (prog.Prio) c.args.prog.now c.in-Prio.high c.in-Prio.low a b c.in-Prio.is c.get-in-Prio.ensures c.get-in-Prio-2.ensures in
+    reach_as c.args.agent.now (g.B.Blocks.moves c.args.blocks.now c.args.agent.now c.args.values.now) c.args.values.now c.args.prog.now (prog.Prio a b) _ e (prio_reach c.args.agent.now (g.B.Blocks.moves c.args.blocks.now c.args.agent.now c.args.values.now) c.args.values.now c.requires.fit.guarded a b c.in_ok-high-in-Prio.high c.in_ok-high-in-Prio.low c.over.result c.in_ok-high-in-Prio.ensures.one c.in_ok-high-in-Prio.ensures.other c.over.ensures)
+
+pub reach_of-returns-in-Star : goal.reach_of-returns-in-Star
+reach_of-returns-in-Star g t c =
+    let a = c.get-in-Star.result.now in
+    let e = one_same (prog.Star) c.args.prog.now c.in-Star.body a c.in-Star.is c.get-in-Star.ensures in
+    star_gives c.args.agent.now (g.B.Blocks.moves c.args.blocks.now c.args.agent.now c.args.values.now) c.args.values.now c.requires.fit.guarded c.reach_of.result c.args.prog.now a e c.reach_of.ensures
+
+pub reach_of-returns-in-Cstar : goal.reach_of-returns-in-Cstar
+reach_of-returns-in-Cstar g t c =
+    let a = c.get-in-Cstar.result.now in
+    let e = one_same (prog.Cstar) c.args.prog.now c.in-Cstar.body a c.in-Cstar.is c.get-in-Cstar.ensures in
+    cstar_gives c.args.agent.now (g.B.Blocks.moves c.args.blocks.now c.args.agent.now c.args.values.now) c.args.values.now c.requires.fit.guarded c.reach_of-in-Cstar.result c.args.prog.now a e c.reach_of-in-Cstar.ensures
+
+pub reach_of-returns-in-If : goal.reach_of-returns-in-If
+reach_of-returns-in-If g t c =
+    let a = c.get-in-If.result.now in
+    let b = c.get-in-If-2.result.now in
+    let e = two_same (prog.If c.in-If.cond) c.args.prog.now c.in-If.yes c.in-If.no a b c.in-If.is c.get-in-If.ensures c.get-in-If-2.ensures in
+    same_gives c.args.agent.now (g.B.Blocks.moves c.args.blocks.now c.args.agent.now c.args.values.now) c.args.values.now c.reach_of_if.result c.args.prog.now (prog.If c.in-If.cond a b) e c.reach_of_if.ensures
+
+pub reach_of-returns-in-While : goal.reach_of-returns-in-While
+reach_of-returns-in-While g t c =
+    let a = c.get-in-While.result.now in
+    let e = one_same (prog.While c.in-While.cond) c.args.prog.now c.in-While.body a c.in-While.is c.get-in-While.ensures in
+    same_gives c.args.agent.now (g.B.Blocks.moves c.args.blocks.now c.args.agent.now c.args.values.now) c.args.values.now c.reach_of_while.result c.args.prog.now (prog.While c.in-While.cond a) e c.reach_of_while.ensures
+
+pub reach_of-returns-in-Pick : goal.reach_of-returns-in-Pick
+reach_of-returns-in-Pick g t c =
+    let a = c.get-in-Pick.result.now in
+    let e = one_same (prog.Pick c.in-Pick.var c.in-Pick.sort) c.args.prog.now c.in-Pick.body a c.in-Pick.is c.get-in-Pick.ensures in
+    same_gives c.args.agent.now (g.B.Blocks.moves c.args.blocks.now c.args.agent.now c.args.values.now) c.args.values.now c.reach_of_pick.result c.args.prog.now (prog.Pick c.in-Pick.var c.in-Pick.sort a) e c.reach_of_pick.ensures
+
+pub reach_of-returns-in-Call : goal.reach_of-returns-in-Call
+reach_of-returns-in-Call g t c =
+    let a = c.as_slice-in-Call.result.now in
+    let e = c.in-Call.is ∙ ap (prog.Call c.in-Call.item) (sym c.as_slice-in-Call.ensures) in
+    same_gives c.args.agent.now (g.B.Blocks.moves c.args.blocks.now c.args.agent.now c.args.values.now) c.args.values.now c.reach_of_call.result c.args.prog.now (prog.Call c.in-Call.item a) e c.reach_of_call.ensures
+
+pub reach_of-reach-requires-clause-closed : goal.reach_of-reach-requires-clause-closed
+reach_of-reach-requires-clause-closed g t c =
+    let a = c.get-in-Search.result.now in
+    let e = one_same (prog.Search c.in-Search.depth c.in-Search.fuel) c.args.prog.now c.in-Search.body a c.in-Search.is c.get-in-Search.ensures in
+    search_begins c.args.agent.now c.args.prog.now a c.in-Search.depth c.in-Search.fuel _ refl c.requires.closed e
+
+pub reach_of-returns-in-Search : goal.reach_of-returns-in-Search
+reach_of-returns-in-Search g t c =
+    let a = c.get-in-Search.result.now in
+    let e = one_same (prog.Search c.in-Search.depth c.in-Search.fuel) c.args.prog.now c.in-Search.body a c.in-Search.is c.get-in-Search.ensures in
+    search_gives c.args.agent.now (g.B.Blocks.moves c.args.blocks.now c.args.agent.now c.args.values.now) c.args.values.now c.requires.fit.guarded c.reach.result c.args.prog.now a c.in-Search.depth c.in-Search.fuel e c.reach.ensures
+
+pub reach_of-returns-in-Follow : goal.reach_of-returns-in-Follow
+reach_of-returns-in-Follow g t c =
+    let a = c.get-in-Follow.result.now in
+    let rest = c.as_slice-in-Follow.result.now in
+    let e = one_same (λ (z : Prog). prog.Follow c.in-Follow.depth c.in-Follow.fuel z c.in-Follow.rest) c.args.prog.now c.in-Follow.body a c.in-Follow.is c.get-in-Follow.ensures in
+    let k = e ∙ ap (prog.Follow c.in-Follow.depth c.in-Follow.fuel a) (sym c.as_slice-in-Follow.ensures) in
+    follow_gives c.args.agent.now (g.B.Blocks.moves c.args.blocks.now c.args.agent.now c.args.values.now) c.args.values.now c.requires.fit.guarded c.reach-in-Follow.result c.args.prog.now a c.in-Follow.depth c.in-Follow.fuel rest k c.reach-in-Follow.ensures
+
+pub reach_of_seq-returns-in_ok-other : goal.reach_of_seq-returns-in_ok-other
+reach_of_seq-returns-in_ok-other g t c =
+    seq_reach c.args.agent.now (g.B.Blocks.moves c.args.blocks.now c.args.agent.now c.args.values.now) c.args.values.now c.requires.fit.guarded c.args.one.now c.args.other.now c.in_ok-one.one c.in_ok-other.other c.or.result c.in_ok-one.ensures c.in_ok-other.ensures c.in_ok-ends.field-0.ends c.where_holds.result c.in_ok-ends.ensures.ends c.where_holds.ensures c.or.ensures
+
+pub reach_of_seq-returns-else-holds : goal.reach_of_seq-returns-else-holds
+reach_of_seq-returns-else-holds g t c =
+    seq_reach_first c.args.agent.now (g.B.Blocks.moves c.args.blocks.now c.args.agent.now c.args.values.now) c.args.values.now c.requires.fit.guarded c.args.one.now c.args.other.now c.in_ok-ends.field-0.ends c.in_ok-one.one c.in_ok-ends.ensures.ends (sym c.holds.ensures ∙ c.if-holds.false) c.in_ok-one.ensures
+
+pub reach_where-returns-in_ok-reach : goal.reach_where-returns-in_ok-reach
+reach_where-returns-in_ok-reach g t c =
+    where_reach c.args.agent.now (g.B.Blocks.moves c.args.blocks.now c.args.agent.now c.args.values.now) c.args.values.now c.requires.fit.guarded c.args.truth c.args.prog.now c.in_ok-reach.reach c.where_holds.result c.where_holds.ensures c.in_ok-reach.ensures
+
+pub reach_where-returns-else-holds : goal.reach_where-returns-else-holds
+reach_where-returns-else-holds g t c =
+    where_none c.args.agent.now (g.B.Blocks.moves c.args.blocks.now c.args.agent.now c.args.values.now) c.args.values.now c.requires.fit.guarded c.args.truth c.args.prog.now (sym c.holds.ensures ∙ c.if-holds.false)
+
+pub reach_of_if-returns : goal.reach_of_if-returns
+reach_of_if-returns g t c =
+    let other = subst (λ (s : Truth). IsReachWhere c.args.agent.now (g.B.Blocks.moves c.args.blocks.now c.args.agent.now c.args.values.now) c.args.values.now s c.args.no.now c.in_ok-no.no) c.negation.ensures c.in_ok-no.ensures in
+    if_reach c.args.agent.now (g.B.Blocks.moves c.args.blocks.now c.args.agent.now c.args.values.now) c.args.values.now c.requires.fit.guarded c.args.cond.now c.args.yes.now c.args.no.now c.truth-is_so.result c.in_ok-yes.yes c.in_ok-no.no c.or.result c.truth-is_so.ensures c.or.ensures c.in_ok-yes.ensures other
+
+pub reach_of_while-returns : goal.reach_of_while-returns
+reach_of_while-returns g t c =
+    while_gives c.args.agent.now (g.B.Blocks.moves c.args.blocks.now c.args.agent.now c.args.values.now) c.args.values.now c.requires.fit.guarded c.reach_where.result c.args.cond.now c.args.body.now c.truth-is_so.result c.truth-is_so.ensures c.reach_where.ensures
+
+pub both_reaches-returns : goal.both_reaches-returns
+both_reaches-returns g t c =
+    record { one = c.in_ok-one.ensures; other = c.in_ok-other.ensures }
+
+pub reach_of_pick-loop-constant-init : goal.reach_of_pick-loop-constant-init
+reach_of_pick-loop-constant-init g t c =
+    some_none c.args.agent.now (g.B.Blocks.moves c.args.blocks.now c.args.agent.now c.args.values.now) c.args.values.now c.args.var c.args.sort c.args.body.now
+
+pub reach_of_pick-loop-constant-preserved : goal.reach_of_pick-loop-constant-preserved
+reach_of_pick-loop-constant-preserved g t c =
+    let below : c.loop-constant.constant < sort_size c.args.agent.now c.args.sort = omega arith in
+    let seen = subst (λ (z : Prog). IsReach c.args.agent.now (g.B.Blocks.moves c.args.blocks.now c.args.agent.now c.args.values.now) c.args.values.now z c.in_ok-one.one) c.in_ok-put.ensures c.in_ok-one.ensures in
+    some_more c.args.agent.now (g.B.Blocks.moves c.args.blocks.now c.args.agent.now c.args.values.now) c.args.values.now c.args.var c.args.sort c.args.body.now c.loop-constant.constant c.loop-constant.some c.in_ok-one.one c.or-some.result below seen c.or-some.ensures c.loop-constant.invariant
+
+pub reach_of_pick-returns : goal.reach_of_pick-returns
+reach_of_pick-returns g t c =
+    pick_reach c.args.agent.now (g.B.Blocks.moves c.args.blocks.now c.args.agent.now c.args.values.now) c.args.values.now c.args.var c.args.sort c.args.body.now c.requires.fit.guarded c.loop-constant.constant c.loop-constant.some (omega arith) c.loop-constant.invariant
+
+pub reach_of_call-returns : goal.reach_of_call-returns
+reach_of_call-returns g t c =
+    call_gives c.args.agent.now (g.B.Blocks.moves c.args.blocks.now c.args.agent.now c.args.values.now) c.args.values.now c.requires.fit.guarded c.reach_of_put.result c.args.item c.args.args.now c.in_ok-body.body c.in_ok-body.ensures c.reach_of_put.ensures

@@ -1,0 +1,76 @@
+use crate::reaches::Reach;
+use golog_base::NoMemory;
+use golog_semantics::Move;
+use golog_tree::{Agent, Prog, Way};
+use std::alloc::Global;
+
+/// Why a search block's steps stay unknown.
+#[derive(Clone, Copy, Debug, PartialEq, Eq)]
+pub enum Stop {
+    /// No memory was left.
+    Memory,
+    /// A search wanted more than the block's fuel.
+    Fuel,
+}
+
+impl From<NoMemory> for Stop {
+    fn from(_refused: NoMemory) -> Stop {
+        Stop::Memory
+    }
+}
+
+/// Who tells the steps of search blocks, at the values of a state.
+pub trait Blocks {
+    ghost use Rattle.std.specs.Prelude.{◌≡◌, length, not, IfOk};
+    ghost use Rattle.golog_tree.specs.Ground.{ground_fluents};
+    ghost use Rattle.golog_tree.specs.declared.agent.Agent.{Agent};
+    ghost use Rattle.golog_semantics.specs.declared.Mode.{Mode};
+    ghost use Rattle.golog_semantics.specs.declared.Mode.TheVariants.{Must};
+    ghost use Rattle.golog_semantics.specs.Truth.{Values};
+    ghost use Rattle.golog_semantics.specs.Ways.{Blocks as Steps, is_empty};
+    ghost use Rattle.golog_ways.specs.Closed.{IsFit, IsClosed};
+    ghost use Rattle.golog_ways.specs.First.{head_of};
+    ghost use Rattle.golog_ways.specs.Reach.{reaches};
+
+    /// What has to be known of the agent and of the values.
+    ghost ready: { Self → Agent → Values → Type 0 };
+
+    /// The steps of blocks.
+    ghost moves: { Self → Agent → Values → Steps };
+
+    /// The first certain step of a block that follows the rest of a run.
+    fn first(
+        &self,
+        alloc: Global,
+        agent: &Agent,
+        values: &[u8],
+        depth: u32,
+        fuel: u32,
+        body: &Prog,
+        rest: &[Way],
+    ) -> Result<Option<Move>, Stop>
+        requires fit { IsFit agent.now }
+        requires closed { IsClosed agent.now (Prog.Follow depth fuel body.now rest.now) }
+        requires whole { length values.now ≡ length (ground_fluents agent.now) }
+        requires ready { ready self.now agent.now values.now }
+        ensures { IfOk result (λ move.
+            move ≡ head_of (moves self.now agent.now values.now Must depth fuel body.now rest.now)) };
+
+    /// In which modes a block that follows the rest of a run has a step.
+    fn reach(
+        &self,
+        alloc: Global,
+        agent: &Agent,
+        values: &[u8],
+        depth: u32,
+        fuel: u32,
+        body: &Prog,
+        rest: &[Way],
+    ) -> Result<Reach, Stop>
+        requires fit { IsFit agent.now }
+        requires closed { IsClosed agent.now (Prog.Follow depth fuel body.now rest.now) }
+        requires whole { length values.now ≡ length (ground_fluents agent.now) }
+        requires ready { ready self.now agent.now values.now }
+        ensures { IfOk result (λ r. (m : Mode) → reaches m r
+            ≡ not (is_empty (moves self.now agent.now values.now m depth fuel body.now rest.now))) };
+}
