@@ -13,6 +13,7 @@ pub mod FrontSteps
 pub mod FrontsGiven
 pub mod Holding
 pub mod LeftsClosed
+pub mod MoveSteps
 pub mod Moved
 pub mod Opened
 pub mod Outlooks

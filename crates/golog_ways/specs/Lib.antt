@@ -2,6 +2,7 @@ pub mod Closed
 pub mod Context
 pub mod Ends
 pub mod First
+pub mod FirstMove
 pub mod Fore
 pub mod FrontBlock
 pub mod FrontLists

@@ -31,7 +31,7 @@ fn joined(alloc: Global, place: Place, left: Prog, other: Prog) -> Result<Prog, 
 }
 
 /// The program at its place beside a copy of the other one.
-fn put_at(alloc: Global, place: Place, left: Prog, other: &Prog) -> Result<Prog, NoMemory>
+pub fn put_at(alloc: Global, place: Place, left: Prog, other: &Prog) -> Result<Prog, NoMemory>
     ensures { IfOk result (λ p. p ≡ placed place left other.now) }
 {
     match copy_prog(alloc, other) {

@@ -1,8 +1,8 @@
 ghost use Rattle.std.specs.Prelude.{◌≡◌, not, ◌&&◌, ◌||◌};
-ghost use Rattle.golog_semantics.specs.declared.Mode.{Mode};
 ghost use Rattle.golog_semantics.specs.Modes.{holds, flip};
 ghost use Rattle.golog_ways.specs.Reach.{reaches};
 
+use golog_semantics::Mode;
 use golog_tree::Truth;
 
 /// In which modes a program has a step: in none, in `May` alone, in `May` and `Near`, or in all three.
@@ -15,6 +15,20 @@ pub enum Reach {
 }
 
 impl Reach {
+    /// Whether there is a step in the mode.
+    pub fn holds_in(self, mode: Mode) -> bool
+        ensures { result ≡ reaches mode self }
+    {
+        match (mode, self) {
+            (_, Reach::No) => false,
+            (_, Reach::Certain) => true,
+            (Mode::May, _) => true,
+            (Mode::Near, Reach::Near) => true,
+            (Mode::Near, Reach::Possible) => false,
+            (Mode::Must, _) => false,
+        }
+    }
+
     /// A step that is possible, or certain, as a condition of this truth is.
     pub fn of(truth: Truth) -> Reach
         ensures { (m : Mode) → reaches m result ≡ holds m truth }
