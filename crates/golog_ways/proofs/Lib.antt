@@ -17,6 +17,7 @@ pub mod MoveSteps
 pub mod Moved
 pub mod Opened
 pub mod Outlooks
+pub mod PlainSteps
 pub mod Preconditions
 pub mod PutTruth
 pub mod ReachSteps

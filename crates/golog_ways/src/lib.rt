@@ -22,6 +22,7 @@ mod reaches;
 mod reaching;
 mod single;
 mod step;
+mod without;
 
 pub use blocks::{has_front_block, may_skip};
 pub use bodies::body_of;

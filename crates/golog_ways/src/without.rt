@@ -1,0 +1,94 @@
+ghost use Rattle.std.specs.Prelude.{◌≡◌, IfOk, length};
+ghost use Rattle.std.specs.Option.{option_map};
+ghost use Rattle.golog_tree.specs.Ground.{ground_fluents};
+ghost use Rattle.golog_semantics.specs.Search.{no_blocks};
+ghost use Rattle.golog_semantics.specs.Ways.{way_of};
+ghost use Rattle.golog_ways.specs.Closed.{IsFit, IsClosed};
+ghost use Rattle.golog_ways.specs.First.{first_way, has_way};
+
+use crate::answering::{Blocks, Stop};
+use crate::moving::first_move;
+use crate::reaches::Reach;
+use crate::reaching::reach_of;
+use golog_semantics::{Mode, Move};
+use golog_tree::{Agent, Prog, Way};
+use std::alloc::Global;
+
+/// No block has a step.
+#[derive(Clone, Copy, Debug)]
+pub struct NoBlocks;
+
+impl Blocks for NoBlocks {
+    ghost ready = { λ blocks agent values. Unit {0} };
+
+    ghost moves = { λ blocks agent values. no_blocks };
+
+    fn first(
+        &self,
+        _alloc: Global,
+        _agent: &Agent,
+        _values: &[u8],
+        _depth: u32,
+        _fuel: u32,
+        _body: &Prog,
+        _rest: &[Way],
+    ) -> Result<Option<Move>, Stop> {
+        Ok(None)
+    }
+
+    fn reach(
+        &self,
+        _alloc: Global,
+        _agent: &Agent,
+        _values: &[u8],
+        _depth: u32,
+        _fuel: u32,
+        _body: &Prog,
+        _rest: &[Way],
+    ) -> Result<Reach, Stop> {
+        Ok(Reach::No)
+    }
+}
+
+/// The step without the run that it begins.
+fn way(found: Option<Move>) -> Option<Way>
+    ensures { result ≡ option_map way_of found }
+{
+    match found {
+        None => None,
+        Some(Move { label, left, .. }) => Some(Way { label, left }),
+    }
+}
+
+/// The first of the certain steps of a program, where no block has a step.
+pub fn first_without(
+    alloc: Global,
+    agent: &Agent,
+    prog: &Prog,
+    values: &[u8],
+) -> Result<Option<Way>, Stop>
+    requires fit { IsFit agent.now }
+    requires closed { IsClosed agent.now prog.now }
+    requires whole { length values.now ≡ length (ground_fluents agent.now) }
+    ensures { IfOk result (λ w. w ≡ first_way agent.now values.now prog.now) }
+{
+    let found = first_move(alloc, agent, &NoBlocks, prog, values)?;
+    Ok(way(found))
+}
+
+/// Whether a program has a step in the mode, where no block has one.
+pub fn any_without(
+    alloc: Global,
+    agent: &Agent,
+    mode: Mode,
+    prog: &Prog,
+    values: &[u8],
+) -> Result<bool, Stop>
+    requires fit { IsFit agent.now }
+    requires closed { IsClosed agent.now prog.now }
+    requires whole { length values.now ≡ length (ground_fluents agent.now) }
+    ensures { IfOk result (λ b. b ≡ has_way agent.now values.now mode prog.now) }
+{
+    let reach = reach_of(alloc, agent, &NoBlocks, prog, values)?;
+    Ok(reach.holds_in(mode))
+}
