@@ -1,5 +1,5 @@
 -- A search block that has not begun is closed as one under way that has nothing left of its run.
-use Rattle.std.proofs.Common.{◌≡◌, ℕ, Bool, true, false, ◌&&◌, List, [], ◌∷◌, refl, sym, ap, ◌∙◌, subst}
+use Rattle.std.proofs.Common.{◌≡◌, ℕ, Bool, true, false, ◌&&◌, List, [], refl, sym, ap, ◌∙◌, subst}
 use Rattle.golog_tree.specs.declared.agent.Agent.{Agent}
 use Rattle.golog_tree.specs.declared.prog.Prog.{Prog}
 use Rattle.golog_tree.specs.declared.prog.Way.{Way}

@@ -1,6 +1,6 @@
 -- The first certain step of a program, by those of its parts, where a search block's own steps are told.
 use Rattle.std.proofs.Common.{◌≡◌, ℕ, suc, ◌+◌, ◌-◌, ◌<◌, ◌≤◌, Bool, true, false, if◌then◌else◌, List, [], ◌∷◌, ◌++◌, map, Option, Some, None, refl, sym, ap, ◌∙◌, subst, arith}
-use Rattle.std.specs.Prelude.{Result, Ok, Err, IfOk}
+use Rattle.std.specs.Prelude.{Result, IfOk}
 use Rattle.std.specs.List.{flat_map, range_with_len}
 use Rattle.std.specs.Option.{option_or}
 use Rattle.golog_tree.specs.declared.agent.Agent.{Agent}
@@ -29,7 +29,7 @@ use Rattle.golog_semantics.specs.Search.{final, moves_with}
 use Rattle.golog_semantics.specs.Guarded.{IsGuarded}
 use Rattle.golog_semantics.proofs.Unfolded.{moves_with-out}
 use Rattle.golog_ways.specs.First.{head_of, first_way}
-use Rattle.golog_ways.specs.FirstMove.{IsFirst, first_move, moved_in, plain}
+use Rattle.golog_ways.specs.FirstMove.{first_move, moved_in, plain}
 use Rattle.golog_ways.specs.Reach.{has_move}
 use Rattle.golog_ways.proofs.ReachSteps.{any_of}
 use Rattle.golog_ways.proofs.Steps.{first-by}

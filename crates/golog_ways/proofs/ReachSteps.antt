@@ -1,7 +1,7 @@
 -- In which modes a program has a step, by its parts, where a search block's own steps are told.
-use Rattle.std.proofs.Common.{◌≡◌, ℕ, suc, ◌+◌, ◌-◌, ◌<◌, ◌≤◌, Bool, true, false, ◌&&◌, ◌||◌, List, [], ◌∷◌, ◌++◌, map, refl, sym, ap, ◌∙◌, subst, arith}
+use Rattle.std.proofs.Common.{◌≡◌, ℕ, ◌+◌, ◌-◌, ◌<◌, ◌≤◌, Bool, true, false, ◌&&◌, ◌||◌, List, [], ◌∷◌, ◌++◌, map, refl, sym, ap, ◌∙◌, subst, arith}
 use Rattle.std.specs.Prelude.{Result, Ok, Err, IfOk, not}
-use Rattle.std.specs.List.{list_any, flat_map, range_with_len}
+use Rattle.std.specs.List.{list_any, flat_map}
 use Rattle.golog_tree.specs.declared.agent.Agent.{Agent}
 use Rattle.golog_tree.specs.declared.cond.Arg.{Arg}
 use Rattle.golog_tree.specs.declared.cond.Cond.{Cond}
@@ -124,25 +124,33 @@ module _ (agent : Agent) (blocks : Blocks) (values : Values) where
 
     module _ (p q : Prog) (o k r : Reach) (one : Of p o) (other : Of q k) where
       pub choice_reach : ((m : Mode) → reaches m r ≡ (reaches m o || reaches m k)) → Of (prog.Choice p q) r
-      choice_reach h = record { steps = λ m.
-        let e = one.steps m in let f = other.steps m in
-        h m ∙ (rw (e, f) refl) ∙ sym (any-by g m (prog.Choice p q) (Choice p q) (prog.outs-Choice p q)) }
+      choice_reach h = record {
+        steps = λ m.
+            let e = one.steps m in let f = other.steps m in
+            h m ∙ (rw (e, f) refl) ∙ sym (any-by g m (prog.Choice p q) (Choice p q) (prog.outs-Choice p q));
+      }
 
       pub conc_reach : ((m : Mode) → reaches m r ≡ (reaches m o || reaches m k)) → Of (prog.Conc p q) r
-      conc_reach h = record { steps = λ m.
-        let e = one.steps m in let f = other.steps m in
-        h m ∙ (rw (e, f) refl) ∙ sym (any-by g m (prog.Conc p q) (Conc p q) (prog.outs-Conc p q)) }
+      conc_reach h = record {
+        steps = λ m.
+            let e = one.steps m in let f = other.steps m in
+            h m ∙ (rw (e, f) refl) ∙ sym (any-by g m (prog.Conc p q) (Conc p q) (prog.outs-Conc p q));
+      }
 
       pub prio_reach : ((m : Mode) → reaches m r ≡ (reaches m o || (not (reaches (flip m) o) && reaches m k))) → Of (prog.Prio p q) r
-      prio_reach h = record { steps = λ m.
-        let e = one.steps m in let d = one.steps (flip m) in let f = other.steps m in
-        h m ∙ (rw (e, d, f) refl) ∙ sym (any-by g m (prog.Prio p q) (Prio p q) (prog.outs-Prio p q)) }
+      prio_reach h = record {
+        steps = λ m.
+            let e = one.steps m in let d = one.steps (flip m) in let f = other.steps m in
+            h m ∙ (rw (e, d, f) refl) ∙ sym (any-by g m (prog.Prio p q) (Prio p q) (prog.outs-Prio p q));
+      }
 
       pub seq_reach : (t : Truth) (w : Reach) → ((m : Mode) → holds m t ≡ final agent values m p) → ((m : Mode) → reaches m w ≡ (holds m t && reaches m k))
           → ((m : Mode) → reaches m r ≡ (reaches m o || reaches m w)) → Of (prog.Seq p q) r
-      seq_reach t w ends h j = record { steps = λ m.
-        let e = one.steps m in let f = other.steps m in let d = ends m in let i = h m in
-        j m ∙ (rw (i, e, f, d) refl) ∙ sym (any-by g m (prog.Seq p q) (Seq p q) (prog.outs-Seq p q)) }
+      seq_reach t w ends h j = record {
+        steps = λ m.
+            let e = one.steps m in let f = other.steps m in let d = ends m in let i = h m in
+            j m ∙ (rw (i, e, f, d) refl) ∙ sym (any-by g m (prog.Seq p q) (Seq p q) (prog.outs-Seq p q));
+      }
 
     or_false : (b : Bool) → (b || false) ≡ b
     or_false true = refl
@@ -150,9 +158,11 @@ module _ (agent : Agent) (blocks : Blocks) (values : Values) where
 
     -- where the first part can't end, the second doesn't count
     pub seq_reach_first : (p q : Prog) (t : Truth) (o : Reach) → ((m : Mode) → holds m t ≡ final agent values m p) → holds May t ≡ false → Of p o → Of (prog.Seq p q) o
-    seq_reach_first p q t o ends b h = record { steps = λ m.
-      h.steps m
-      ∙ sym (any-by g m (prog.Seq p q) (Seq p q) (prog.outs-Seq p q) ∙ ap (λ b. has_move agent blocks values m p || (b && has_move agent blocks values m q)) (none m) ∙ or_false (has_move agent blocks values m p)) }
+    seq_reach_first p q t o ends b h = record {
+      steps = λ m.
+          h.steps m
+          ∙ sym (any-by g m (prog.Seq p q) (Seq p q) (prog.outs-Seq p q) ∙ ap (λ b. has_move agent blocks values m p || (b && has_move agent blocks values m q)) (none m) ∙ or_false (has_move agent blocks values m p));
+    }
       where
         none : (m : Mode) → final agent values m p ≡ false
         none m = sym (ends m) ∙ ap (holds m) (is-No t b) ∙ holds-no m
@@ -180,14 +190,18 @@ module _ (agent : Agent) (blocks : Blocks) (values : Values) where
 
     pub if_reach : (c : Cond) (p q : Prog) (t : Truth) (o k r : Reach) → t ≡ truth_of agent values c (env_of []) → ((m : Mode) → reaches m r ≡ (reaches m o || reaches m k))
         → Where t p o → Where (not_of t) q k → Of (prog.If c p q) r
-    if_reach c p q t o k r e j h f = record { steps = λ m.
-      let one = h.steps m in let other = f.steps m in
-      j m ∙ (rw (one, other, e) refl) ∙ sym (any-by g m (prog.If c p q) (If c p q) (prog.outs-If c p q)) }
+    if_reach c p q t o k r e j h f = record {
+      steps = λ m.
+          let one = h.steps m in let other = f.steps m in
+          j m ∙ (rw (one, other, e) refl) ∙ sym (any-by g m (prog.If c p q) (If c p q) (prog.outs-If c p q));
+    }
 
     pub while_reach : (c : Cond) (p : Prog) (t : Truth) (o : Reach) → t ≡ truth_of agent values c (env_of []) → Where t p o → Of (prog.While c p) o
-    while_reach c p t o e h = record { steps = λ m.
-      let one = h.steps m in
-      one ∙ (rw e refl) ∙ sym (any-by g m (prog.While c p) (While c p) (prog.outs-While c p)) }
+    while_reach c p t o e h = record {
+      steps = λ m.
+          let one = h.steps m in
+          one ∙ (rw e refl) ∙ sym (any-by g m (prog.While c p) (While c p) (prog.outs-While c p));
+    }
 
   -- the same of the answer of a call
   module _ {E : Type 0} (result : Result Reach E) (r : Prog) where
@@ -233,11 +247,15 @@ module _ (agent : Agent) (blocks : Blocks) (values : Values) where
     some_none = record { steps = λ m. let e : sort_size agent sort - 0 ≡ sort_size agent sort = omega arith in rw e refl }
 
     pub some_more : (i : ℕ) (o k r : Reach) → i < sort_size agent sort → Of (put_arg p x i) k → ((m : Mode) → reaches m r ≡ (reaches m o || reaches m k)) → SomeReach i o → SomeReach (i + 1) r
-    some_more i o k r l h j s = record { steps = λ m.
-      let n = sort_size agent sort in
-      s.steps m ∙ ap (λ z. reaches m o || z) (from-next (step_for m) i n l) ∙ or_assoc (reaches m o) (step_for m i) (from (step_for m) (i + 1) n)
-      ∙ ap (λ z. z || from (step_for m) (i + 1) n) (ap (λ z. reaches m o || z) (sym (h.steps m)) ∙ sym (j m)) }
+    some_more i o k r l h j s = record {
+      steps = λ m.
+          let n = sort_size agent sort in
+          s.steps m ∙ ap (λ z. reaches m o || z) (from-next (step_for m) i n l) ∙ or_assoc (reaches m o) (step_for m i) (from (step_for m) (i + 1) n)
+          ∙ ap (λ z. z || from (step_for m) (i + 1) n) (ap (λ z. reaches m o || z) (sym (h.steps m)) ∙ sym (j m));
+    }
 
     pub pick_reach : IsGuarded agent → (i : ℕ) (o : Reach) → sort_size agent sort ≤ i → SomeReach i o → Of (prog.Pick x sort p) o
-    pick_reach g i o l s = record { steps = λ m.
-      at-end (step_for m) i (sort_size agent sort) (reaches m o) l (s.steps m) ∙ sym (any-by g m (prog.Pick x sort p) (Pick x sort p) (prog.outs-Pick x sort p)) }
+    pick_reach g i o l s = record {
+      steps = λ m.
+          at-end (step_for m) i (sort_size agent sort) (reaches m o) l (s.steps m) ∙ sym (any-by g m (prog.Pick x sort p) (Pick x sort p) (prog.outs-Pick x sort p));
+    }

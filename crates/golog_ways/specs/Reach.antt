@@ -32,10 +32,12 @@ pub record IsReach (agent : Agent) (blocks : Blocks) (values : Values) (p : Prog
   pub steps : (m : Mode) → reaches m r ≡ has_move agent blocks values m p
 
 -- the reaches of two programs
-pub record AreReaches (agent : Agent) (blocks : Blocks) (values : Values) (p q : Prog) (r s : Reach) : Type 0 where
+pub record AreReaches
+    (agent : Agent) (blocks : Blocks) (values : Values) (p q : Prog) (r s : Reach) : Type 0 where
   pub one : IsReach agent blocks values p r
   pub other : IsReach agent blocks values q s
 
 -- the same, where a condition of this truth holds too
-pub record IsReachWhere (agent : Agent) (blocks : Blocks) (values : Values) (t : Truth) (p : Prog) (r : Reach) : Type 0 where
+pub record IsReachWhere
+    (agent : Agent) (blocks : Blocks) (values : Values) (t : Truth) (p : Prog) (r : Reach) : Type 0 where
   pub steps : (m : Mode) → reaches m r ≡ (holds m t && has_move agent blocks values m p)

@@ -37,14 +37,22 @@ pub fn first_move<B: Blocks>(
         Prog::Act { action, args } => Ok(plain(act_way(agent, *action, args.as_slice(), values))),
         Prog::Test(cond) => Ok(plain(test_way(agent, cond, values))),
         Prog::Seq(one, other) => first_of_seq(alloc, agent, blocks, one.get(), other.get(), values),
-        Prog::Choice(one, other) => first_of_choice(alloc, agent, blocks, one.get(), other.get(), values),
-        Prog::Conc(one, other) => first_of_conc(alloc, agent, blocks, one.get(), other.get(), values),
+        Prog::Choice(one, other) => {
+            first_of_choice(alloc, agent, blocks, one.get(), other.get(), values)
+        }
+        Prog::Conc(one, other) => {
+            first_of_conc(alloc, agent, blocks, one.get(), other.get(), values)
+        }
         Prog::Prio(high, low) => first_of_prio(alloc, agent, blocks, high.get(), low.get(), values),
-        Prog::If { cond, yes, no } => first_of_if(alloc, agent, blocks, cond, yes.get(), no.get(), values),
+        Prog::If { cond, yes, no } => {
+            first_of_if(alloc, agent, blocks, cond, yes.get(), no.get(), values)
+        }
         Prog::Pick { var, sort, body } => {
             first_of_pick(alloc, agent, blocks, *var, *sort, body.get(), values)
         }
-        Prog::Call { item, args } => first_of_call(alloc, agent, blocks, *item, args.as_slice(), values),
+        Prog::Call { item, args } => {
+            first_of_call(alloc, agent, blocks, *item, args.as_slice(), values)
+        }
         Prog::Star(body) => {
             let found = first_move(alloc, agent, blocks, body.get(), values)?;
             before(alloc, found, prog)
@@ -95,7 +103,8 @@ fn first_of_seq<B: Blocks>(
     requires whole { length values.now ≡ length (ground_fluents agent.now) }
     requires ready { B.ready blocks.now agent.now values.now }
     ensures { IfOk result
-        (IsFirst agent.now (B.moves blocks.now agent.now values.now) values.now (Prog.Seq one.now other.now)) }
+        (IsFirst agent.now (B.moves blocks.now agent.now values.now) values.now
+        (Prog.Seq one.now other.now)) }
 {
     match first_move(alloc, agent, blocks, one, values)? {
         Some(found) => before(alloc, Some(found), other),
@@ -123,7 +132,8 @@ fn first_of_choice<B: Blocks>(
     requires whole { length values.now ≡ length (ground_fluents agent.now) }
     requires ready { B.ready blocks.now agent.now values.now }
     ensures { IfOk result
-        (IsFirst agent.now (B.moves blocks.now agent.now values.now) values.now (Prog.Choice one.now other.now)) }
+        (IsFirst agent.now (B.moves blocks.now agent.now values.now) values.now
+        (Prog.Choice one.now other.now)) }
 {
     match first_move(alloc, agent, blocks, one, values)? {
         Some(found) => Ok(Some(found)),
@@ -145,7 +155,8 @@ fn first_of_conc<B: Blocks>(
     requires whole { length values.now ≡ length (ground_fluents agent.now) }
     requires ready { B.ready blocks.now agent.now values.now }
     ensures { IfOk result
-        (IsFirst agent.now (B.moves blocks.now agent.now values.now) values.now (Prog.Conc one.now other.now)) }
+        (IsFirst agent.now (B.moves blocks.now agent.now values.now) values.now
+        (Prog.Conc one.now other.now)) }
 {
     match first_move(alloc, agent, blocks, one, values)? {
         Some(found) => beside(alloc, Some(found), other),
@@ -171,7 +182,8 @@ fn first_of_prio<B: Blocks>(
     requires whole { length values.now ≡ length (ground_fluents agent.now) }
     requires ready { B.ready blocks.now agent.now values.now }
     ensures { IfOk result
-        (IsFirst agent.now (B.moves blocks.now agent.now values.now) values.now (Prog.Prio high.now low.now)) }
+        (IsFirst agent.now (B.moves blocks.now agent.now values.now) values.now
+        (Prog.Prio high.now low.now)) }
 {
     match first_move(alloc, agent, blocks, high, values)? {
         Some(found) => over(alloc, Some(found), low),
@@ -202,7 +214,8 @@ fn first_of_if<B: Blocks>(
     requires whole { length values.now ≡ length (ground_fluents agent.now) }
     requires ready { B.ready blocks.now agent.now values.now }
     ensures { IfOk result
-        (IsFirst agent.now (B.moves blocks.now agent.now values.now) values.now (Prog.If cond.now yes.now no.now)) }
+        (IsFirst agent.now (B.moves blocks.now agent.now values.now) values.now
+        (Prog.If cond.now yes.now no.now)) }
 {
     match truth(agent, cond, values) {
         Truth::Yes => first_move(alloc, agent, blocks, yes, values),
@@ -245,7 +258,8 @@ fn first_of_pick<B: Blocks>(
     requires whole { length values.now ≡ length (ground_fluents agent.now) }
     requires ready { B.ready blocks.now agent.now values.now }
     ensures { IfOk result
-        (IsFirst agent.now (B.moves blocks.now agent.now values.now) values.now (Prog.Pick var sort body.now)) }
+        (IsFirst agent.now (B.moves blocks.now agent.now values.now) values.now
+        (Prog.Pick var sort body.now)) }
 {
     for constant in 0..sort_size(agent, sort) {
         let put = put_arg(alloc, body, var, constant as u8)?;

@@ -123,7 +123,8 @@ fn reach_of_seq<B: Blocks>(
     requires whole { length values.now ≡ length (ground_fluents agent.now) }
     requires ready { B.ready blocks.now agent.now values.now }
     ensures { IfOk result
-        (IsReach agent.now (B.moves blocks.now agent.now values.now) values.now (Prog.Seq one.now other.now)) }
+        (IsReach agent.now (B.moves blocks.now agent.now values.now) values.now
+        (Prog.Seq one.now other.now)) }
 {
     let ends = outlook(alloc, agent, one, values)?.ends;
     let one = reach_of(alloc, agent, blocks, one, values)?;
@@ -175,7 +176,8 @@ fn reach_of_if<B: Blocks>(
     requires whole { length values.now ≡ length (ground_fluents agent.now) }
     requires ready { B.ready blocks.now agent.now values.now }
     ensures { IfOk result
-        (IsReach agent.now (B.moves blocks.now agent.now values.now) values.now (Prog.If cond.now yes.now no.now)) }
+        (IsReach agent.now (B.moves blocks.now agent.now values.now) values.now
+        (Prog.If cond.now yes.now no.now)) }
 {
     let is_so = truth(agent, cond, values);
     let yes = reach_where(alloc, agent, blocks, is_so, yes, values)?;
@@ -197,7 +199,8 @@ fn reach_of_while<B: Blocks>(
     requires whole { length values.now ≡ length (ground_fluents agent.now) }
     requires ready { B.ready blocks.now agent.now values.now }
     ensures { IfOk result
-        (IsReach agent.now (B.moves blocks.now agent.now values.now) values.now (Prog.While cond.now body.now)) }
+        (IsReach agent.now (B.moves blocks.now agent.now values.now) values.now
+        (Prog.While cond.now body.now)) }
 {
     let is_so = truth(agent, cond, values);
     reach_where(alloc, agent, blocks, is_so, body, values)
@@ -237,7 +240,8 @@ fn reach_of_pick<B: Blocks>(
     requires whole { length values.now ≡ length (ground_fluents agent.now) }
     requires ready { B.ready blocks.now agent.now values.now }
     ensures { IfOk result
-        (IsReach agent.now (B.moves blocks.now agent.now values.now) values.now (Prog.Pick var sort body.now)) }
+        (IsReach agent.now (B.moves blocks.now agent.now values.now) values.now
+        (Prog.Pick var sort body.now)) }
 {
     let mut some = Reach::No;
     for constant in 0..sort_size(agent, sort) {

@@ -406,7 +406,6 @@ pub first_of_call-returns : goal.first_of_call-returns
 first_of_call-returns g t c =
     move_as c.first_of.result (first_move c.args.agent.now (g.B.Blocks.moves c.args.blocks.now c.args.agent.now c.args.values.now) c.args.values.now c.in_ok-body.body) (first_move c.args.agent.now (g.B.Blocks.moves c.args.blocks.now c.args.agent.now c.args.values.now) c.args.values.now (prog.Call c.args.item c.args.args.now)) (ap (first_move c.args.agent.now (g.B.Blocks.moves c.args.blocks.now c.args.agent.now c.args.values.now) c.args.values.now) c.in_ok-body.ensures ∙ sym (call_first c.args.agent.now (g.B.Blocks.moves c.args.blocks.now c.args.agent.now c.args.values.now) c.args.values.now c.requires.fit.guarded c.args.item c.args.args.now)) c.first_of.ensures
 
-
 pub first_move-first-requires-clause-closed : goal.first_move-first-requires-clause-closed
 first_move-first-requires-clause-closed g t c =
     let a = c.get-in-Search.result.now in

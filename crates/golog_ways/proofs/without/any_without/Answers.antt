@@ -1,4 +1,4 @@
-use Rattle.std.proofs.Common.{◌≡◌, ap, ◌∙◌}
+use Rattle.std.proofs.Common.{◌∙◌}
 use Rattle.golog_ways.proofs.PlainSteps.{any-without}
 use Rattle.golog_ways.proofs.without.any_without.Goals as goal
 

@@ -1,4 +1,4 @@
-use Rattle.std.proofs.Common.{◌≡◌, ap, ◌∙◌}
+use Rattle.std.proofs.Common.{ap, ◌∙◌}
 use Rattle.std.specs.Option.{option_map}
 use Rattle.golog_semantics.specs.Ways.{way_of}
 use Rattle.golog_ways.proofs.PlainSteps.{first-without}
