@@ -12,6 +12,7 @@ pub mod FrontLefts
 pub mod FrontSteps
 pub mod FrontsGiven
 pub mod Holding
+pub mod Lackings
 pub mod LeftsClosed
 pub mod MoveSteps
 pub mod Moved

@@ -6,6 +6,7 @@ pub mod FirstMove
 pub mod Fore
 pub mod FrontBlock
 pub mod FrontLists
+pub mod Lacking
 pub mod Lefts
 pub mod Outlook
 pub mod Puts

@@ -1,3 +1,5 @@
+ghost use Rattle.std.specs.Prelude.{◌≡◌};
+
 use crate::reaches::Reach;
 use golog_base::NoMemory;
 use golog_semantics::Move;
@@ -14,6 +16,11 @@ pub enum Stop {
 }
 
 impl From<NoMemory> for Stop {
+    ghost use Rattle.golog_ways.specs.declared.answering.Stop.{Stop};
+    ghost use Rattle.golog_ways.specs.declared.answering.Stop.TheVariants.{Memory};
+
+    ghost from_gives = { λ _ stop. stop ≡ Memory };
+
     fn from(_refused: NoMemory) -> Stop {
         Stop::Memory
     }
@@ -21,15 +28,16 @@ impl From<NoMemory> for Stop {
 
 /// Who tells the steps of search blocks, at the values of a state.
 pub trait Blocks {
-    ghost use Rattle.std.specs.Prelude.{◌≡◌, length, not, IfOk};
+    ghost use Rattle.std.specs.Prelude.{◌≡◌, length, not, ◌||◌, true, IfOk, IfErr};
     ghost use Rattle.golog_tree.specs.Ground.{ground_fluents};
     ghost use Rattle.golog_tree.specs.declared.agent.Agent.{Agent};
     ghost use Rattle.golog_semantics.specs.declared.Mode.{Mode};
-    ghost use Rattle.golog_semantics.specs.declared.Mode.TheVariants.{Must};
+    ghost use Rattle.golog_semantics.specs.declared.Mode.TheVariants.{Must, Near};
     ghost use Rattle.golog_semantics.specs.Truth.{Values};
     ghost use Rattle.golog_semantics.specs.Ways.{Blocks as Steps, is_empty};
     ghost use Rattle.golog_ways.specs.Closed.{IsFit, IsClosed};
     ghost use Rattle.golog_ways.specs.First.{head_of};
+    ghost use Rattle.golog_ways.specs.Lacking.{Wants};
     ghost use Rattle.golog_ways.specs.Reach.{reaches};
 
     /// What has to be known of the agent and of the values.
@@ -37,6 +45,9 @@ pub trait Blocks {
 
     /// The steps of blocks.
     ghost moves: { Self → Agent → Values → Steps };
+
+    /// Which blocks want more than their fuel in a mode.
+    ghost wants: { Self → Agent → Values → Mode → Wants };
 
     /// The first certain step of a block that follows the rest of a run.
     fn first(
@@ -53,8 +64,10 @@ pub trait Blocks {
         requires closed { IsClosed agent.now (Prog.Follow depth fuel body.now rest.now) }
         requires whole { length values.now ≡ length (ground_fluents agent.now) }
         requires ready { ready self.now agent.now values.now }
-        ensures { IfOk result (λ move.
-            move ≡ head_of (moves self.now agent.now values.now Must depth fuel body.now rest.now)) };
+        ensures first { IfOk result (λ move.
+            move ≡ head_of (moves self.now agent.now values.now Must depth fuel body.now rest.now)) }
+        ensures fuel { IfErr result (λ stop. stop ≡ Stop.Fuel
+            → wants self.now agent.now values.now Must depth fuel body.now rest.now ≡ true) };
 
     /// In which modes a block that follows the rest of a run has a step.
     fn reach(
@@ -71,6 +84,9 @@ pub trait Blocks {
         requires closed { IsClosed agent.now (Prog.Follow depth fuel body.now rest.now) }
         requires whole { length values.now ≡ length (ground_fluents agent.now) }
         requires ready { ready self.now agent.now values.now }
-        ensures { IfOk result (λ r. (m : Mode) → reaches m r
-            ≡ not (is_empty (moves self.now agent.now values.now m depth fuel body.now rest.now))) };
+        ensures reach { IfOk result (λ r. (m : Mode) → reaches m r
+            ≡ not (is_empty (moves self.now agent.now values.now m depth fuel body.now rest.now))) }
+        ensures fuel { IfErr result (λ stop. stop ≡ Stop.Fuel
+            → (wants self.now agent.now values.now Must depth fuel body.now rest.now
+            || wants self.now agent.now values.now Near depth fuel body.now rest.now) ≡ true) };
 }

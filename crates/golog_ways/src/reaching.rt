@@ -1,6 +1,7 @@
-ghost use Rattle.std.specs.Prelude.{◌≡◌, IfOk, length};
+ghost use Rattle.std.specs.Prelude.{◌≡◌, IfOk, IfErr, length};
 ghost use Rattle.golog_tree.specs.Ground.{ground_fluents};
 ghost use Rattle.golog_ways.specs.Closed.{IsFit, IsClosed};
+ghost use Rattle.golog_ways.specs.Lacking.{StopsAt, StopsAtEither, wants_any};
 ghost use Rattle.golog_ways.specs.Reach.{IsReach, IsReachWhere, AreReaches};
 
 use crate::answering::{Blocks, Stop};
@@ -28,8 +29,10 @@ pub fn reach_of<B: Blocks>(
     requires closed { IsClosed agent.now prog.now }
     requires whole { length values.now ≡ length (ground_fluents agent.now) }
     requires ready { B.ready blocks.now agent.now values.now }
-    ensures { IfOk result
+    ensures reach { IfOk result
         (IsReach agent.now (B.moves blocks.now agent.now values.now) values.now prog.now) }
+    ensures fuel { IfErr result
+        (StopsAt agent.now (wants_any (B.wants blocks.now agent.now values.now)) prog.now) }
 {
     match prog {
         Prog::Nil => Ok(Reach::No),
@@ -100,8 +103,10 @@ fn both_reaches<B: Blocks>(
     requires other { IsClosed agent.now other.now }
     requires whole { length values.now ≡ length (ground_fluents agent.now) }
     requires ready { B.ready blocks.now agent.now values.now }
-    ensures { IfOk result (λ pair. AreReaches agent.now (B.moves blocks.now agent.now values.now) values.now
+    ensures reach { IfOk result (λ pair. AreReaches agent.now (B.moves blocks.now agent.now values.now) values.now
         one.now other.now pair.0 pair.1) }
+    ensures fuel { IfErr result
+        (StopsAtEither agent.now (wants_any (B.wants blocks.now agent.now values.now)) one.now other.now) }
 {
     let one = reach_of(alloc, agent, blocks, one, values)?;
     let other = reach_of(alloc, agent, blocks, other, values)?;
@@ -122,9 +127,11 @@ fn reach_of_seq<B: Blocks>(
     requires closed { IsClosed agent.now (Prog.Seq one.now other.now) }
     requires whole { length values.now ≡ length (ground_fluents agent.now) }
     requires ready { B.ready blocks.now agent.now values.now }
-    ensures { IfOk result
+    ensures reach { IfOk result
         (IsReach agent.now (B.moves blocks.now agent.now values.now) values.now
         (Prog.Seq one.now other.now)) }
+    ensures fuel { IfErr result
+        (StopsAt agent.now (wants_any (B.wants blocks.now agent.now values.now)) (Prog.Seq one.now other.now)) }
 {
     let ends = outlook(alloc, agent, one, values)?.ends;
     let one = reach_of(alloc, agent, blocks, one, values)?;
@@ -150,8 +157,10 @@ fn reach_where<B: Blocks>(
     requires closed { IsClosed agent.now prog.now }
     requires whole { length values.now ≡ length (ground_fluents agent.now) }
     requires ready { B.ready blocks.now agent.now values.now }
-    ensures { IfOk result
+    ensures reach { IfOk result
         (IsReachWhere agent.now (B.moves blocks.now agent.now values.now) values.now truth prog.now) }
+    ensures fuel { IfErr result
+        (StopsAt agent.now (wants_any (B.wants blocks.now agent.now values.now)) prog.now) }
 {
     if holds(Mode::May, truth) {
         let reach = reach_of(alloc, agent, blocks, prog, values)?;
@@ -175,9 +184,11 @@ fn reach_of_if<B: Blocks>(
     requires closed { IsClosed agent.now (Prog.If cond.now yes.now no.now) }
     requires whole { length values.now ≡ length (ground_fluents agent.now) }
     requires ready { B.ready blocks.now agent.now values.now }
-    ensures { IfOk result
+    ensures reach { IfOk result
         (IsReach agent.now (B.moves blocks.now agent.now values.now) values.now
         (Prog.If cond.now yes.now no.now)) }
+    ensures fuel { IfErr result
+        (StopsAt agent.now (wants_any (B.wants blocks.now agent.now values.now)) (Prog.If cond.now yes.now no.now)) }
 {
     let is_so = truth(agent, cond, values);
     let yes = reach_where(alloc, agent, blocks, is_so, yes, values)?;
@@ -198,9 +209,11 @@ fn reach_of_while<B: Blocks>(
     requires closed { IsClosed agent.now (Prog.While cond.now body.now) }
     requires whole { length values.now ≡ length (ground_fluents agent.now) }
     requires ready { B.ready blocks.now agent.now values.now }
-    ensures { IfOk result
+    ensures reach { IfOk result
         (IsReach agent.now (B.moves blocks.now agent.now values.now) values.now
         (Prog.While cond.now body.now)) }
+    ensures fuel { IfErr result
+        (StopsAt agent.now (wants_any (B.wants blocks.now agent.now values.now)) (Prog.While cond.now body.now)) }
 {
     let is_so = truth(agent, cond, values);
     reach_where(alloc, agent, blocks, is_so, body, values)
@@ -219,8 +232,10 @@ fn reach_of_put<B: Blocks>(
     requires closed { IsClosed agent.now prog }
     requires whole { length values.now ≡ length (ground_fluents agent.now) }
     requires ready { B.ready blocks.now agent.now values.now }
-    ensures { IfOk result
+    ensures reach { IfOk result
         (IsReach agent.now (B.moves blocks.now agent.now values.now) values.now prog) }
+    ensures fuel { IfErr result
+        (StopsAt agent.now (wants_any (B.wants blocks.now agent.now values.now)) prog) }
 {
     reach_of(alloc, agent, blocks, &prog, values)
 }
@@ -239,9 +254,11 @@ fn reach_of_pick<B: Blocks>(
     requires closed { IsClosed agent.now (Prog.Pick var sort body.now) }
     requires whole { length values.now ≡ length (ground_fluents agent.now) }
     requires ready { B.ready blocks.now agent.now values.now }
-    ensures { IfOk result
+    ensures reach { IfOk result
         (IsReach agent.now (B.moves blocks.now agent.now values.now) values.now
         (Prog.Pick var sort body.now)) }
+    ensures fuel { IfErr result
+        (StopsAt agent.now (wants_any (B.wants blocks.now agent.now values.now)) (Prog.Pick var sort body.now)) }
 {
     let mut some = Reach::No;
     for constant in 0..sort_size(agent, sort) {
@@ -265,8 +282,10 @@ fn reach_of_call<B: Blocks>(
     requires closed { IsClosed agent.now (Prog.Call item args.now) }
     requires whole { length values.now ≡ length (ground_fluents agent.now) }
     requires ready { B.ready blocks.now agent.now values.now }
-    ensures { IfOk result
+    ensures reach { IfOk result
         (IsReach agent.now (B.moves blocks.now agent.now values.now) values.now (Prog.Call item args.now)) }
+    ensures fuel { IfErr result
+        (StopsAt agent.now (wants_any (B.wants blocks.now agent.now values.now)) (Prog.Call item args.now)) }
 {
     let body = body_of(alloc, agent, item, args)?;
     reach_of_put(alloc, agent, blocks, body, values)

@@ -1,4 +1,4 @@
-ghost use Rattle.std.specs.Prelude.{◌≡◌, IfOk, length};
+ghost use Rattle.std.specs.Prelude.{◌≡◌, false, IfOk, length};
 ghost use Rattle.std.specs.Option.{option_map};
 ghost use Rattle.golog_tree.specs.Ground.{ground_fluents};
 ghost use Rattle.golog_semantics.specs.Search.{no_blocks};
@@ -22,6 +22,8 @@ impl Blocks for NoBlocks {
     ghost ready = { λ blocks agent values. Unit {0} };
 
     ghost moves = { λ blocks agent values. no_blocks };
+
+    ghost wants = { λ blocks agent values m depth fuel body rest. false };
 
     fn first(
         &self,

@@ -1,7 +1,9 @@
-use Rattle.std.proofs.Common.{◌≡◌, ◌+◌, ◌*◌, ◌<◌, max, true, [], map, refl, sym, ap, ◌∙◌, subst, rules, arith}
+use Rattle.std.proofs.Common.{◌≡◌, ◌+◌, ◌*◌, ◌<◌, max, true, [], map, inl, inr, refl, sym, ap, ◌∙◌, subst, rules, arith}
 use Rattle.golog_tree.specs.declared.cond.Truth.{Truth}
 use Rattle.golog_tree.specs.declared.prog.Prog.{Prog}
+use Rattle.golog_tree.specs.declared.prog.Prog.TheOpen.{Choice, Star, If, While, Conc, Prio, Cstar, Call, Search, Follow}
 use Rattle.golog_tree.specs.declared.prog.Prog.TheVariants as prog
+use Rattle.golog_tree.specs.declared.prog.Prog.TheViews.{out-Prog}
 use Rattle.golog_tree.specs.Ground.{sort_size}
 use Rattle.golog_semantics.specs.declared.Mode.{Mode}
 use Rattle.golog_semantics.specs.declared.Mode.TheVariants.{May}
@@ -11,10 +13,12 @@ use Rattle.golog_semantics.specs.Search.{final}
 use Rattle.golog_semantics.specs.Truth.{arg_value, env_of}
 use Rattle.golog_semantics.specs.Program.{put_arg, body_of}
 use Rattle.golog_semantics.proofs.Unfolded.{final-skips}
+use Rattle.golog_ways.specs.Lacking.{Lacks, wants_any}
 use Rattle.golog_ways.specs.Reach.{IsReach, IsReachWhere}
 use Rattle.golog_ways.proofs.Acting.{holds-precondition}
 use Rattle.golog_ways.proofs.BlockParts.{search_begins}
 use Rattle.golog_ways.proofs.Closing.{choice_parts, conc_parts, prio_parts, seq_parts, star_part, cstar_part, test_fits, if_parts, while_parts, pick_part, call_part, call_few}
+use Rattle.golog_ways.proofs.Lackings.{part_lacks, parts_lack, stops_as, stops_from, stops_either, block_stops, seq_one, seq_other, pick_lacks}
 use Rattle.golog_ways.proofs.Moved.{one_same, two_same, closed_as}
 use Rattle.golog_ways.proofs.ReachSteps.{reach_as, same_gives, nil_reach, act_reach, test_reach, seq_reach, seq_reach_first, choice_reach, conc_reach, prio_reach, star_gives, cstar_gives, search_gives, follow_gives, where_reach, where_none, if_reach, while_gives, call_gives, some_none, some_more, pick_reach}
 use Rattle.golog_ways.proofs.reaching.+reach.Goals as goal
@@ -236,85 +240,85 @@ reach_of_while-reach_where-requires g t c κs within =
     let low : 2 + 3 * (front c.args.agent.now c.args.body.now).height < 3 * (front c.args.agent.now (prog.While c.args.cond.now c.args.body.now)).height = omega arith in
     search rules
 
-pub reach_of-returns-in-Nil : goal.reach_of-returns-in-Nil
-reach_of-returns-in-Nil g t c =
+pub reach_of-returns-in-Nil-clause-reach : goal.reach_of-returns-in-Nil-clause-reach
+reach_of-returns-in-Nil-clause-reach g t c =
     reach_as c.args.agent.now (g.B.Blocks.moves c.args.blocks.now c.args.agent.now c.args.values.now) c.args.values.now c.args.prog.now prog.Nil _ c.in-Nil.is (nil_reach c.args.agent.now (g.B.Blocks.moves c.args.blocks.now c.args.agent.now c.args.values.now) c.args.values.now c.requires.fit.guarded)
 
-pub reach_of-returns-in-Act : goal.reach_of-returns-in-Act
-reach_of-returns-in-Act g t c =
+pub reach_of-returns-in-Act-clause-reach : goal.reach_of-returns-in-Act-clause-reach
+reach_of-returns-in-Act-clause-reach g t c =
     let args = c.as_slice.result.now in
     let e = c.in-Act.is ∙ ap (prog.Act c.in-Act.action) (sym c.as_slice.ensures) in
     let h = λ (m : Mode). c.of.ensures m ∙ ap (λ (t : Truth). holds m t) c.precondition.ensures ∙ holds-precondition c.args.agent.now c.args.values.now c.in-Act.action (map (arg_value (env_of [])) args) m in
     reach_as c.args.agent.now (g.B.Blocks.moves c.args.blocks.now c.args.agent.now c.args.values.now) c.args.values.now c.args.prog.now (prog.Act c.in-Act.action args) _ e (act_reach c.args.agent.now (g.B.Blocks.moves c.args.blocks.now c.args.agent.now c.args.values.now) c.args.values.now c.requires.fit.guarded c.in-Act.action args c.of.result h)
 
-pub reach_of-returns-in-Test : goal.reach_of-returns-in-Test
-reach_of-returns-in-Test g t c =
+pub reach_of-returns-in-Test-clause-reach : goal.reach_of-returns-in-Test-clause-reach
+reach_of-returns-in-Test-clause-reach g t c =
     reach_as c.args.agent.now (g.B.Blocks.moves c.args.blocks.now c.args.agent.now c.args.values.now) c.args.values.now c.args.prog.now (prog.Test c.in-Test.cond) _ c.in-Test.is (test_reach c.args.agent.now (g.B.Blocks.moves c.args.blocks.now c.args.agent.now c.args.values.now) c.args.values.now c.requires.fit.guarded c.in-Test.cond c.truth.result c.of-in-Test.result c.truth.ensures c.of-in-Test.ensures)
 
-pub reach_of-returns-in-Seq : goal.reach_of-returns-in-Seq
-reach_of-returns-in-Seq g t c =
+pub reach_of-returns-in-Seq-clause-reach : goal.reach_of-returns-in-Seq-clause-reach
+reach_of-returns-in-Seq-clause-reach g t c =
     let a = c.get.result.now in
     let b = c.get-in-Seq.result.now in
     let e = two_same (prog.Seq) c.args.prog.now c.in-Seq.one c.in-Seq.other a b c.in-Seq.is c.get.ensures c.get-in-Seq.ensures in
-    same_gives c.args.agent.now (g.B.Blocks.moves c.args.blocks.now c.args.agent.now c.args.values.now) c.args.values.now c.reach_of_seq.result c.args.prog.now (prog.Seq a b) e c.reach_of_seq.ensures
+    same_gives c.args.agent.now (g.B.Blocks.moves c.args.blocks.now c.args.agent.now c.args.values.now) c.args.values.now c.reach_of_seq.result c.args.prog.now (prog.Seq a b) e c.reach_of_seq.ensures.reach
 
-pub reach_of-returns-in_ok-one-in-Choice : goal.reach_of-returns-in_ok-one-in-Choice
-reach_of-returns-in_ok-one-in-Choice g t c =
+pub reach_of-returns-in_ok-one-in-Choice-clause-reach : goal.reach_of-returns-in_ok-one-in-Choice-clause-reach
+reach_of-returns-in_ok-one-in-Choice-clause-reach g t c =
     let a = c.get-in-Choice.result.now in
     let b = c.get-in-Choice-2.result.now in
     let e = two_same (prog.Choice) c.args.prog.now c.in-Choice.one c.in-Choice.other a b c.in-Choice.is c.get-in-Choice.ensures c.get-in-Choice-2.ensures in
-    reach_as c.args.agent.now (g.B.Blocks.moves c.args.blocks.now c.args.agent.now c.args.values.now) c.args.values.now c.args.prog.now (prog.Choice a b) _ e (choice_reach c.args.agent.now (g.B.Blocks.moves c.args.blocks.now c.args.agent.now c.args.values.now) c.args.values.now c.requires.fit.guarded a b c.in_ok-one-in-Choice.one c.in_ok-one-in-Choice.other c.or.result c.in_ok-one-in-Choice.ensures.one c.in_ok-one-in-Choice.ensures.other c.or.ensures)
+    reach_as c.args.agent.now (g.B.Blocks.moves c.args.blocks.now c.args.agent.now c.args.values.now) c.args.values.now c.args.prog.now (prog.Choice a b) _ e (choice_reach c.args.agent.now (g.B.Blocks.moves c.args.blocks.now c.args.agent.now c.args.values.now) c.args.values.now c.requires.fit.guarded a b c.in_ok-one-in-Choice.one c.in_ok-one-in-Choice.other c.or.result c.in_ok-one-in-Choice.ensures.reach.one c.in_ok-one-in-Choice.ensures.reach.other c.or.ensures)
 
-pub reach_of-returns-in_ok-one-in-Conc : goal.reach_of-returns-in_ok-one-in-Conc
-reach_of-returns-in_ok-one-in-Conc g t c =
+pub reach_of-returns-in_ok-one-in-Conc-clause-reach : goal.reach_of-returns-in_ok-one-in-Conc-clause-reach
+reach_of-returns-in_ok-one-in-Conc-clause-reach g t c =
     let a = c.get-in-Conc.result.now in
     let b = c.get-in-Conc-2.result.now in
     let e = two_same (prog.Conc) c.args.prog.now c.in-Conc.one c.in-Conc.other a b c.in-Conc.is c.get-in-Conc.ensures c.get-in-Conc-2.ensures in
-    reach_as c.args.agent.now (g.B.Blocks.moves c.args.blocks.now c.args.agent.now c.args.values.now) c.args.values.now c.args.prog.now (prog.Conc a b) _ e (conc_reach c.args.agent.now (g.B.Blocks.moves c.args.blocks.now c.args.agent.now c.args.values.now) c.args.values.now c.requires.fit.guarded a b c.in_ok-one-in-Conc.one c.in_ok-one-in-Conc.other c.or-in-Conc.result c.in_ok-one-in-Conc.ensures.one c.in_ok-one-in-Conc.ensures.other c.or-in-Conc.ensures)
+    reach_as c.args.agent.now (g.B.Blocks.moves c.args.blocks.now c.args.agent.now c.args.values.now) c.args.values.now c.args.prog.now (prog.Conc a b) _ e (conc_reach c.args.agent.now (g.B.Blocks.moves c.args.blocks.now c.args.agent.now c.args.values.now) c.args.values.now c.requires.fit.guarded a b c.in_ok-one-in-Conc.one c.in_ok-one-in-Conc.other c.or-in-Conc.result c.in_ok-one-in-Conc.ensures.reach.one c.in_ok-one-in-Conc.ensures.reach.other c.or-in-Conc.ensures)
 
-pub reach_of-returns-in_ok-high-in-Prio : goal.reach_of-returns-in_ok-high-in-Prio
-reach_of-returns-in_ok-high-in-Prio g t c =
+pub reach_of-returns-in_ok-high-in-Prio-clause-reach : goal.reach_of-returns-in_ok-high-in-Prio-clause-reach
+reach_of-returns-in_ok-high-in-Prio-clause-reach g t c =
     let a = c.get-in-Prio.result.now in
     let b = c.get-in-Prio-2.result.now in
     let e = two_same (prog.Prio) c.args.prog.now c.in-Prio.high c.in-Prio.low a b c.in-Prio.is c.get-in-Prio.ensures c.get-in-Prio-2.ensures in
-    reach_as c.args.agent.now (g.B.Blocks.moves c.args.blocks.now c.args.agent.now c.args.values.now) c.args.values.now c.args.prog.now (prog.Prio a b) _ e (prio_reach c.args.agent.now (g.B.Blocks.moves c.args.blocks.now c.args.agent.now c.args.values.now) c.args.values.now c.requires.fit.guarded a b c.in_ok-high-in-Prio.high c.in_ok-high-in-Prio.low c.over.result c.in_ok-high-in-Prio.ensures.one c.in_ok-high-in-Prio.ensures.other c.over.ensures)
+    reach_as c.args.agent.now (g.B.Blocks.moves c.args.blocks.now c.args.agent.now c.args.values.now) c.args.values.now c.args.prog.now (prog.Prio a b) _ e (prio_reach c.args.agent.now (g.B.Blocks.moves c.args.blocks.now c.args.agent.now c.args.values.now) c.args.values.now c.requires.fit.guarded a b c.in_ok-high-in-Prio.high c.in_ok-high-in-Prio.low c.over.result c.in_ok-high-in-Prio.ensures.reach.one c.in_ok-high-in-Prio.ensures.reach.other c.over.ensures)
 
-pub reach_of-returns-in-Star : goal.reach_of-returns-in-Star
-reach_of-returns-in-Star g t c =
+pub reach_of-returns-in-Star-clause-reach : goal.reach_of-returns-in-Star-clause-reach
+reach_of-returns-in-Star-clause-reach g t c =
     let a = c.get-in-Star.result.now in
     let e = one_same (prog.Star) c.args.prog.now c.in-Star.body a c.in-Star.is c.get-in-Star.ensures in
-    star_gives c.args.agent.now (g.B.Blocks.moves c.args.blocks.now c.args.agent.now c.args.values.now) c.args.values.now c.requires.fit.guarded c.reach_of.result c.args.prog.now a e c.reach_of.ensures
+    star_gives c.args.agent.now (g.B.Blocks.moves c.args.blocks.now c.args.agent.now c.args.values.now) c.args.values.now c.requires.fit.guarded c.reach_of.result c.args.prog.now a e c.reach_of.ensures.reach
 
-pub reach_of-returns-in-Cstar : goal.reach_of-returns-in-Cstar
-reach_of-returns-in-Cstar g t c =
+pub reach_of-returns-in-Cstar-clause-reach : goal.reach_of-returns-in-Cstar-clause-reach
+reach_of-returns-in-Cstar-clause-reach g t c =
     let a = c.get-in-Cstar.result.now in
     let e = one_same (prog.Cstar) c.args.prog.now c.in-Cstar.body a c.in-Cstar.is c.get-in-Cstar.ensures in
-    cstar_gives c.args.agent.now (g.B.Blocks.moves c.args.blocks.now c.args.agent.now c.args.values.now) c.args.values.now c.requires.fit.guarded c.reach_of-in-Cstar.result c.args.prog.now a e c.reach_of-in-Cstar.ensures
+    cstar_gives c.args.agent.now (g.B.Blocks.moves c.args.blocks.now c.args.agent.now c.args.values.now) c.args.values.now c.requires.fit.guarded c.reach_of-in-Cstar.result c.args.prog.now a e c.reach_of-in-Cstar.ensures.reach
 
-pub reach_of-returns-in-If : goal.reach_of-returns-in-If
-reach_of-returns-in-If g t c =
+pub reach_of-returns-in-If-clause-reach : goal.reach_of-returns-in-If-clause-reach
+reach_of-returns-in-If-clause-reach g t c =
     let a = c.get-in-If.result.now in
     let b = c.get-in-If-2.result.now in
     let e = two_same (prog.If c.in-If.cond) c.args.prog.now c.in-If.yes c.in-If.no a b c.in-If.is c.get-in-If.ensures c.get-in-If-2.ensures in
-    same_gives c.args.agent.now (g.B.Blocks.moves c.args.blocks.now c.args.agent.now c.args.values.now) c.args.values.now c.reach_of_if.result c.args.prog.now (prog.If c.in-If.cond a b) e c.reach_of_if.ensures
+    same_gives c.args.agent.now (g.B.Blocks.moves c.args.blocks.now c.args.agent.now c.args.values.now) c.args.values.now c.reach_of_if.result c.args.prog.now (prog.If c.in-If.cond a b) e c.reach_of_if.ensures.reach
 
-pub reach_of-returns-in-While : goal.reach_of-returns-in-While
-reach_of-returns-in-While g t c =
+pub reach_of-returns-in-While-clause-reach : goal.reach_of-returns-in-While-clause-reach
+reach_of-returns-in-While-clause-reach g t c =
     let a = c.get-in-While.result.now in
     let e = one_same (prog.While c.in-While.cond) c.args.prog.now c.in-While.body a c.in-While.is c.get-in-While.ensures in
-    same_gives c.args.agent.now (g.B.Blocks.moves c.args.blocks.now c.args.agent.now c.args.values.now) c.args.values.now c.reach_of_while.result c.args.prog.now (prog.While c.in-While.cond a) e c.reach_of_while.ensures
+    same_gives c.args.agent.now (g.B.Blocks.moves c.args.blocks.now c.args.agent.now c.args.values.now) c.args.values.now c.reach_of_while.result c.args.prog.now (prog.While c.in-While.cond a) e c.reach_of_while.ensures.reach
 
-pub reach_of-returns-in-Pick : goal.reach_of-returns-in-Pick
-reach_of-returns-in-Pick g t c =
+pub reach_of-returns-in-Pick-clause-reach : goal.reach_of-returns-in-Pick-clause-reach
+reach_of-returns-in-Pick-clause-reach g t c =
     let a = c.get-in-Pick.result.now in
     let e = one_same (prog.Pick c.in-Pick.var c.in-Pick.sort) c.args.prog.now c.in-Pick.body a c.in-Pick.is c.get-in-Pick.ensures in
-    same_gives c.args.agent.now (g.B.Blocks.moves c.args.blocks.now c.args.agent.now c.args.values.now) c.args.values.now c.reach_of_pick.result c.args.prog.now (prog.Pick c.in-Pick.var c.in-Pick.sort a) e c.reach_of_pick.ensures
+    same_gives c.args.agent.now (g.B.Blocks.moves c.args.blocks.now c.args.agent.now c.args.values.now) c.args.values.now c.reach_of_pick.result c.args.prog.now (prog.Pick c.in-Pick.var c.in-Pick.sort a) e c.reach_of_pick.ensures.reach
 
-pub reach_of-returns-in-Call : goal.reach_of-returns-in-Call
-reach_of-returns-in-Call g t c =
+pub reach_of-returns-in-Call-clause-reach : goal.reach_of-returns-in-Call-clause-reach
+reach_of-returns-in-Call-clause-reach g t c =
     let a = c.as_slice-in-Call.result.now in
     let e = c.in-Call.is ∙ ap (prog.Call c.in-Call.item) (sym c.as_slice-in-Call.ensures) in
-    same_gives c.args.agent.now (g.B.Blocks.moves c.args.blocks.now c.args.agent.now c.args.values.now) c.args.values.now c.reach_of_call.result c.args.prog.now (prog.Call c.in-Call.item a) e c.reach_of_call.ensures
+    same_gives c.args.agent.now (g.B.Blocks.moves c.args.blocks.now c.args.agent.now c.args.values.now) c.args.values.now c.reach_of_call.result c.args.prog.now (prog.Call c.in-Call.item a) e c.reach_of_call.ensures.reach
 
 pub reach_of-reach-requires-clause-closed : goal.reach_of-reach-requires-clause-closed
 reach_of-reach-requires-clause-closed g t c =
@@ -322,48 +326,48 @@ reach_of-reach-requires-clause-closed g t c =
     let e = one_same (prog.Search c.in-Search.depth c.in-Search.fuel) c.args.prog.now c.in-Search.body a c.in-Search.is c.get-in-Search.ensures in
     search_begins c.args.agent.now c.args.prog.now a c.in-Search.depth c.in-Search.fuel _ refl c.requires.closed e
 
-pub reach_of-returns-in-Search : goal.reach_of-returns-in-Search
-reach_of-returns-in-Search g t c =
+pub reach_of-returns-in-Search-clause-reach : goal.reach_of-returns-in-Search-clause-reach
+reach_of-returns-in-Search-clause-reach g t c =
     let a = c.get-in-Search.result.now in
     let e = one_same (prog.Search c.in-Search.depth c.in-Search.fuel) c.args.prog.now c.in-Search.body a c.in-Search.is c.get-in-Search.ensures in
-    search_gives c.args.agent.now (g.B.Blocks.moves c.args.blocks.now c.args.agent.now c.args.values.now) c.args.values.now c.requires.fit.guarded c.reach.result c.args.prog.now a c.in-Search.depth c.in-Search.fuel e c.reach.ensures
+    search_gives c.args.agent.now (g.B.Blocks.moves c.args.blocks.now c.args.agent.now c.args.values.now) c.args.values.now c.requires.fit.guarded c.reach.result c.args.prog.now a c.in-Search.depth c.in-Search.fuel e c.reach.ensures.reach
 
-pub reach_of-returns-in-Follow : goal.reach_of-returns-in-Follow
-reach_of-returns-in-Follow g t c =
+pub reach_of-returns-in-Follow-clause-reach : goal.reach_of-returns-in-Follow-clause-reach
+reach_of-returns-in-Follow-clause-reach g t c =
     let a = c.get-in-Follow.result.now in
     let rest = c.as_slice-in-Follow.result.now in
     let e = one_same (λ (z : Prog). prog.Follow c.in-Follow.depth c.in-Follow.fuel z c.in-Follow.rest) c.args.prog.now c.in-Follow.body a c.in-Follow.is c.get-in-Follow.ensures in
     let k = e ∙ ap (prog.Follow c.in-Follow.depth c.in-Follow.fuel a) (sym c.as_slice-in-Follow.ensures) in
-    follow_gives c.args.agent.now (g.B.Blocks.moves c.args.blocks.now c.args.agent.now c.args.values.now) c.args.values.now c.requires.fit.guarded c.reach-in-Follow.result c.args.prog.now a c.in-Follow.depth c.in-Follow.fuel rest k c.reach-in-Follow.ensures
+    follow_gives c.args.agent.now (g.B.Blocks.moves c.args.blocks.now c.args.agent.now c.args.values.now) c.args.values.now c.requires.fit.guarded c.reach-in-Follow.result c.args.prog.now a c.in-Follow.depth c.in-Follow.fuel rest k c.reach-in-Follow.ensures.reach
 
-pub reach_of_seq-returns-in_ok-other : goal.reach_of_seq-returns-in_ok-other
-reach_of_seq-returns-in_ok-other g t c =
-    seq_reach c.args.agent.now (g.B.Blocks.moves c.args.blocks.now c.args.agent.now c.args.values.now) c.args.values.now c.requires.fit.guarded c.args.one.now c.args.other.now c.in_ok-one.one c.in_ok-other.other c.or.result c.in_ok-one.ensures c.in_ok-other.ensures c.in_ok-ends.field-0.ends c.where_holds.result c.in_ok-ends.ensures.ends c.where_holds.ensures c.or.ensures
+pub reach_of_seq-returns-in_ok-other-clause-reach : goal.reach_of_seq-returns-in_ok-other-clause-reach
+reach_of_seq-returns-in_ok-other-clause-reach g t c =
+    seq_reach c.args.agent.now (g.B.Blocks.moves c.args.blocks.now c.args.agent.now c.args.values.now) c.args.values.now c.requires.fit.guarded c.args.one.now c.args.other.now c.in_ok-one.one c.in_ok-other.other c.or.result c.in_ok-one.ensures.reach c.in_ok-other.ensures.reach c.in_ok-ends.field-0.ends c.where_holds.result c.in_ok-ends.ensures.ends c.where_holds.ensures c.or.ensures
 
-pub reach_of_seq-returns-else-holds : goal.reach_of_seq-returns-else-holds
-reach_of_seq-returns-else-holds g t c =
-    seq_reach_first c.args.agent.now (g.B.Blocks.moves c.args.blocks.now c.args.agent.now c.args.values.now) c.args.values.now c.requires.fit.guarded c.args.one.now c.args.other.now c.in_ok-ends.field-0.ends c.in_ok-one.one c.in_ok-ends.ensures.ends (sym c.holds.ensures ∙ c.if-holds.false) c.in_ok-one.ensures
+pub reach_of_seq-returns-else-holds-clause-reach : goal.reach_of_seq-returns-else-holds-clause-reach
+reach_of_seq-returns-else-holds-clause-reach g t c =
+    seq_reach_first c.args.agent.now (g.B.Blocks.moves c.args.blocks.now c.args.agent.now c.args.values.now) c.args.values.now c.requires.fit.guarded c.args.one.now c.args.other.now c.in_ok-ends.field-0.ends c.in_ok-one.one c.in_ok-ends.ensures.ends (sym c.holds.ensures ∙ c.if-holds.false) c.in_ok-one.ensures.reach
 
-pub reach_where-returns-in_ok-reach : goal.reach_where-returns-in_ok-reach
-reach_where-returns-in_ok-reach g t c =
-    where_reach c.args.agent.now (g.B.Blocks.moves c.args.blocks.now c.args.agent.now c.args.values.now) c.args.values.now c.requires.fit.guarded c.args.truth c.args.prog.now c.in_ok-reach.reach c.where_holds.result c.where_holds.ensures c.in_ok-reach.ensures
+pub reach_where-returns-in_ok-reach-clause-reach : goal.reach_where-returns-in_ok-reach-clause-reach
+reach_where-returns-in_ok-reach-clause-reach g t c =
+    where_reach c.args.agent.now (g.B.Blocks.moves c.args.blocks.now c.args.agent.now c.args.values.now) c.args.values.now c.requires.fit.guarded c.args.truth c.args.prog.now c.in_ok-reach.reach c.where_holds.result c.where_holds.ensures c.in_ok-reach.ensures.reach
 
-pub reach_where-returns-else-holds : goal.reach_where-returns-else-holds
-reach_where-returns-else-holds g t c =
+pub reach_where-returns-else-holds-clause-reach : goal.reach_where-returns-else-holds-clause-reach
+reach_where-returns-else-holds-clause-reach g t c =
     where_none c.args.agent.now (g.B.Blocks.moves c.args.blocks.now c.args.agent.now c.args.values.now) c.args.values.now c.requires.fit.guarded c.args.truth c.args.prog.now (sym c.holds.ensures ∙ c.if-holds.false)
 
-pub reach_of_if-returns : goal.reach_of_if-returns
-reach_of_if-returns g t c =
-    let other = subst (λ (s : Truth). IsReachWhere c.args.agent.now (g.B.Blocks.moves c.args.blocks.now c.args.agent.now c.args.values.now) c.args.values.now s c.args.no.now c.in_ok-no.no) c.negation.ensures c.in_ok-no.ensures in
-    if_reach c.args.agent.now (g.B.Blocks.moves c.args.blocks.now c.args.agent.now c.args.values.now) c.args.values.now c.requires.fit.guarded c.args.cond.now c.args.yes.now c.args.no.now c.truth-is_so.result c.in_ok-yes.yes c.in_ok-no.no c.or.result c.truth-is_so.ensures c.or.ensures c.in_ok-yes.ensures other
+pub reach_of_if-returns-clause-reach : goal.reach_of_if-returns-clause-reach
+reach_of_if-returns-clause-reach g t c =
+    let other = subst (λ (s : Truth). IsReachWhere c.args.agent.now (g.B.Blocks.moves c.args.blocks.now c.args.agent.now c.args.values.now) c.args.values.now s c.args.no.now c.in_ok-no.no) c.negation.ensures c.in_ok-no.ensures.reach in
+    if_reach c.args.agent.now (g.B.Blocks.moves c.args.blocks.now c.args.agent.now c.args.values.now) c.args.values.now c.requires.fit.guarded c.args.cond.now c.args.yes.now c.args.no.now c.truth-is_so.result c.in_ok-yes.yes c.in_ok-no.no c.or.result c.truth-is_so.ensures c.or.ensures c.in_ok-yes.ensures.reach other
 
-pub reach_of_while-returns : goal.reach_of_while-returns
-reach_of_while-returns g t c =
-    while_gives c.args.agent.now (g.B.Blocks.moves c.args.blocks.now c.args.agent.now c.args.values.now) c.args.values.now c.requires.fit.guarded c.reach_where.result c.args.cond.now c.args.body.now c.truth-is_so.result c.truth-is_so.ensures c.reach_where.ensures
+pub reach_of_while-returns-clause-reach : goal.reach_of_while-returns-clause-reach
+reach_of_while-returns-clause-reach g t c =
+    while_gives c.args.agent.now (g.B.Blocks.moves c.args.blocks.now c.args.agent.now c.args.values.now) c.args.values.now c.requires.fit.guarded c.reach_where.result c.args.cond.now c.args.body.now c.truth-is_so.result c.truth-is_so.ensures c.reach_where.ensures.reach
 
-pub both_reaches-returns : goal.both_reaches-returns
-both_reaches-returns g t c =
-    record { one = c.in_ok-one.ensures; other = c.in_ok-other.ensures }
+pub both_reaches-returns-clause-reach : goal.both_reaches-returns-clause-reach
+both_reaches-returns-clause-reach g t c =
+    record { one = c.in_ok-one.ensures.reach; other = c.in_ok-other.ensures.reach }
 
 pub reach_of_pick-loop-constant-init : goal.reach_of_pick-loop-constant-init
 reach_of_pick-loop-constant-init g t c =
@@ -372,13 +376,99 @@ reach_of_pick-loop-constant-init g t c =
 pub reach_of_pick-loop-constant-preserved : goal.reach_of_pick-loop-constant-preserved
 reach_of_pick-loop-constant-preserved g t c =
     let below : c.loop-constant.constant < sort_size c.args.agent.now c.args.sort = omega arith in
-    let seen = subst (λ (z : Prog). IsReach c.args.agent.now (g.B.Blocks.moves c.args.blocks.now c.args.agent.now c.args.values.now) c.args.values.now z c.in_ok-one.one) c.in_ok-put.ensures c.in_ok-one.ensures in
+    let seen = subst (λ (z : Prog). IsReach c.args.agent.now (g.B.Blocks.moves c.args.blocks.now c.args.agent.now c.args.values.now) c.args.values.now z c.in_ok-one.one) c.in_ok-put.ensures c.in_ok-one.ensures.reach in
     some_more c.args.agent.now (g.B.Blocks.moves c.args.blocks.now c.args.agent.now c.args.values.now) c.args.values.now c.args.var c.args.sort c.args.body.now c.loop-constant.constant c.loop-constant.some c.in_ok-one.one c.or-some.result below seen c.or-some.ensures c.loop-constant.invariant
 
-pub reach_of_pick-returns : goal.reach_of_pick-returns
-reach_of_pick-returns g t c =
+pub reach_of_pick-returns-clause-reach : goal.reach_of_pick-returns-clause-reach
+reach_of_pick-returns-clause-reach g t c =
     pick_reach c.args.agent.now (g.B.Blocks.moves c.args.blocks.now c.args.agent.now c.args.values.now) c.args.values.now c.args.var c.args.sort c.args.body.now c.requires.fit.guarded c.loop-constant.constant c.loop-constant.some (omega arith) c.loop-constant.invariant
 
-pub reach_of_call-returns : goal.reach_of_call-returns
-reach_of_call-returns g t c =
-    call_gives c.args.agent.now (g.B.Blocks.moves c.args.blocks.now c.args.agent.now c.args.values.now) c.args.values.now c.requires.fit.guarded c.reach_of_put.result c.args.item c.args.args.now c.in_ok-body.body c.in_ok-body.ensures c.reach_of_put.ensures
+pub reach_of_call-returns-clause-reach : goal.reach_of_call-returns-clause-reach
+reach_of_call-returns-clause-reach g t c =
+    call_gives c.args.agent.now (g.B.Blocks.moves c.args.blocks.now c.args.agent.now c.args.values.now) c.args.values.now c.requires.fit.guarded c.reach_of_put.result c.args.item c.args.args.now c.in_ok-body.body c.in_ok-body.ensures c.reach_of_put.ensures.reach
+
+pub reach_of-returns-in_err-one-in-Choice-clause-fuel : goal.reach_of-returns-in_err-one-in-Choice-clause-fuel
+reach_of-returns-in_err-one-in-Choice-clause-fuel g t c =
+    let a = c.get-in-Choice.result.now in
+    let b = c.get-in-Choice-2.result.now in
+    let e = two_same (prog.Choice) c.args.prog.now c.in-Choice.one c.in-Choice.other a b c.in-Choice.is c.get-in-Choice.ensures c.get-in-Choice-2.ensures in
+    stops_either c.args.agent.now (wants_any (g.B.Blocks.wants c.args.blocks.now c.args.agent.now c.args.values.now)) c.from_residual.result c.in_err-one-in-Choice.field-0.0 a b c.args.prog.now c.from_residual.ensures.1 (parts_lack c.args.agent.now (wants_any (g.B.Blocks.wants c.args.blocks.now c.args.agent.now c.args.values.now)) c.args.prog.now a b (Choice a b) (ap out-Prog e ∙ prog.outs-Choice a b) (λ f. refl)) c.in_err-one-in-Choice.ensures.fuel
+
+pub reach_of-returns-in_err-one-in-Conc-clause-fuel : goal.reach_of-returns-in_err-one-in-Conc-clause-fuel
+reach_of-returns-in_err-one-in-Conc-clause-fuel g t c =
+    let a = c.get-in-Conc.result.now in
+    let b = c.get-in-Conc-2.result.now in
+    let e = two_same (prog.Conc) c.args.prog.now c.in-Conc.one c.in-Conc.other a b c.in-Conc.is c.get-in-Conc.ensures c.get-in-Conc-2.ensures in
+    stops_either c.args.agent.now (wants_any (g.B.Blocks.wants c.args.blocks.now c.args.agent.now c.args.values.now)) c.from_residual-in_err-one-in-Conc.result c.in_err-one-in-Conc.field-0.0 a b c.args.prog.now c.from_residual-in_err-one-in-Conc.ensures.1 (parts_lack c.args.agent.now (wants_any (g.B.Blocks.wants c.args.blocks.now c.args.agent.now c.args.values.now)) c.args.prog.now a b (Conc a b) (ap out-Prog e ∙ prog.outs-Conc a b) (λ f. refl)) c.in_err-one-in-Conc.ensures.fuel
+
+pub reach_of-returns-in_err-high-in-Prio-clause-fuel : goal.reach_of-returns-in_err-high-in-Prio-clause-fuel
+reach_of-returns-in_err-high-in-Prio-clause-fuel g t c =
+    let a = c.get-in-Prio.result.now in
+    let b = c.get-in-Prio-2.result.now in
+    let e = two_same (prog.Prio) c.args.prog.now c.in-Prio.high c.in-Prio.low a b c.in-Prio.is c.get-in-Prio.ensures c.get-in-Prio-2.ensures in
+    stops_either c.args.agent.now (wants_any (g.B.Blocks.wants c.args.blocks.now c.args.agent.now c.args.values.now)) c.from_residual-in_err-high-in-Prio.result c.in_err-high-in-Prio.field-0.0 a b c.args.prog.now c.from_residual-in_err-high-in-Prio.ensures.1 (parts_lack c.args.agent.now (wants_any (g.B.Blocks.wants c.args.blocks.now c.args.agent.now c.args.values.now)) c.args.prog.now a b (Prio a b) (ap out-Prog e ∙ prog.outs-Prio a b) (λ f. refl)) c.in_err-high-in-Prio.ensures.fuel
+
+pub reach_of-returns-in-Star-clause-fuel : goal.reach_of-returns-in-Star-clause-fuel
+reach_of-returns-in-Star-clause-fuel g t c =
+    let a = c.get-in-Star.result.now in
+    let e = one_same (prog.Star) c.args.prog.now c.in-Star.body a c.in-Star.is c.get-in-Star.ensures in
+    stops_as c.args.agent.now (wants_any (g.B.Blocks.wants c.args.blocks.now c.args.agent.now c.args.values.now)) c.reach_of.result a c.args.prog.now (part_lacks c.args.agent.now (wants_any (g.B.Blocks.wants c.args.blocks.now c.args.agent.now c.args.values.now)) c.args.prog.now a (Star a) (ap out-Prog e ∙ prog.outs-Star a) (λ f. refl)) c.reach_of.ensures.fuel
+
+pub reach_of-returns-in-Cstar-clause-fuel : goal.reach_of-returns-in-Cstar-clause-fuel
+reach_of-returns-in-Cstar-clause-fuel g t c =
+    let a = c.get-in-Cstar.result.now in
+    let e = one_same (prog.Cstar) c.args.prog.now c.in-Cstar.body a c.in-Cstar.is c.get-in-Cstar.ensures in
+    stops_as c.args.agent.now (wants_any (g.B.Blocks.wants c.args.blocks.now c.args.agent.now c.args.values.now)) c.reach_of-in-Cstar.result a c.args.prog.now (part_lacks c.args.agent.now (wants_any (g.B.Blocks.wants c.args.blocks.now c.args.agent.now c.args.values.now)) c.args.prog.now a (Cstar a) (ap out-Prog e ∙ prog.outs-Cstar a) (λ f. refl)) c.reach_of-in-Cstar.ensures.fuel
+
+pub reach_of-returns-in-Search-clause-fuel : goal.reach_of-returns-in-Search-clause-fuel
+reach_of-returns-in-Search-clause-fuel g t c =
+    let a = c.get-in-Search.result.now in
+    let e = one_same (prog.Search c.in-Search.depth c.in-Search.fuel) c.args.prog.now c.in-Search.body a c.in-Search.is c.get-in-Search.ensures in
+    block_stops c.args.agent.now (wants_any (g.B.Blocks.wants c.args.blocks.now c.args.agent.now c.args.values.now)) c.reach.result c.args.prog.now (Search c.in-Search.depth c.in-Search.fuel a) (ap out-Prog e ∙ prog.outs-Search c.in-Search.depth c.in-Search.fuel a) _ (λ f. refl) c.reach.ensures.fuel
+
+pub reach_of-returns-in-Follow-clause-fuel : goal.reach_of-returns-in-Follow-clause-fuel
+reach_of-returns-in-Follow-clause-fuel g t c =
+    let a = c.get-in-Follow.result.now in
+    let rest = c.as_slice-in-Follow.result.now in
+    let e = one_same (λ (z : Prog). prog.Follow c.in-Follow.depth c.in-Follow.fuel z c.in-Follow.rest) c.args.prog.now c.in-Follow.body a c.in-Follow.is c.get-in-Follow.ensures in
+    let k = e ∙ ap (prog.Follow c.in-Follow.depth c.in-Follow.fuel a) (sym c.as_slice-in-Follow.ensures) in
+    block_stops c.args.agent.now (wants_any (g.B.Blocks.wants c.args.blocks.now c.args.agent.now c.args.values.now)) c.reach-in-Follow.result c.args.prog.now (Follow c.in-Follow.depth c.in-Follow.fuel a rest) (ap out-Prog k ∙ prog.outs-Follow c.in-Follow.depth c.in-Follow.fuel a rest) _ (λ f. refl) c.reach-in-Follow.ensures.fuel
+
+pub reach_of_call-returns-clause-fuel : goal.reach_of_call-returns-clause-fuel
+reach_of_call-returns-clause-fuel g t c =
+    let r = prog.Call c.args.item c.args.args.now in
+    let lack = λ (h : Lacks c.args.agent.now (wants_any (g.B.Blocks.wants c.args.blocks.now c.args.agent.now c.args.values.now)) c.in_ok-body.body). part_lacks c.args.agent.now (wants_any (g.B.Blocks.wants c.args.blocks.now c.args.agent.now c.args.values.now)) r (body_of c.args.agent.now c.args.item c.args.args.now) (Call c.args.item c.args.args.now) (prog.outs-Call c.args.item c.args.args.now) (λ f. refl) (subst (λ (z : Prog). Lacks c.args.agent.now (wants_any (g.B.Blocks.wants c.args.blocks.now c.args.agent.now c.args.values.now)) z) c.in_ok-body.ensures h) in
+    stops_as c.args.agent.now (wants_any (g.B.Blocks.wants c.args.blocks.now c.args.agent.now c.args.values.now)) c.reach_of_put.result c.in_ok-body.body r lack c.reach_of_put.ensures.fuel
+
+pub reach_of_if-returns-in_err-yes-clause-fuel : goal.reach_of_if-returns-in_err-yes-clause-fuel
+reach_of_if-returns-in_err-yes-clause-fuel g t c =
+    let r = prog.If c.args.cond.now c.args.yes.now c.args.no.now in
+    let lack = λ (h : Lacks c.args.agent.now (wants_any (g.B.Blocks.wants c.args.blocks.now c.args.agent.now c.args.values.now)) c.args.yes.now). parts_lack c.args.agent.now (wants_any (g.B.Blocks.wants c.args.blocks.now c.args.agent.now c.args.values.now)) r c.args.yes.now c.args.no.now (If c.args.cond.now c.args.yes.now c.args.no.now) (prog.outs-If c.args.cond.now c.args.yes.now c.args.no.now) (λ f. refl) (inl h) in
+    stops_from c.args.agent.now (wants_any (g.B.Blocks.wants c.args.blocks.now c.args.agent.now c.args.values.now)) c.from_residual.result c.in_err-yes.field-0.0 c.args.yes.now r c.from_residual.ensures.1 lack c.in_err-yes.ensures.fuel
+
+pub reach_of_if-returns-in_err-no-clause-fuel : goal.reach_of_if-returns-in_err-no-clause-fuel
+reach_of_if-returns-in_err-no-clause-fuel g t c =
+    let r = prog.If c.args.cond.now c.args.yes.now c.args.no.now in
+    let lack = λ (h : Lacks c.args.agent.now (wants_any (g.B.Blocks.wants c.args.blocks.now c.args.agent.now c.args.values.now)) c.args.no.now). parts_lack c.args.agent.now (wants_any (g.B.Blocks.wants c.args.blocks.now c.args.agent.now c.args.values.now)) r c.args.yes.now c.args.no.now (If c.args.cond.now c.args.yes.now c.args.no.now) (prog.outs-If c.args.cond.now c.args.yes.now c.args.no.now) (λ f. refl) (inr h) in
+    stops_from c.args.agent.now (wants_any (g.B.Blocks.wants c.args.blocks.now c.args.agent.now c.args.values.now)) c.from_residual-in_err-no.result c.in_err-no.field-0.0 c.args.no.now r c.from_residual-in_err-no.ensures.1 lack c.in_err-no.ensures.fuel
+
+pub reach_of_pick-returns-in_err-one-clause-fuel : goal.reach_of_pick-returns-in_err-one-clause-fuel
+reach_of_pick-returns-in_err-one-clause-fuel g t c =
+    let below : c.loop-constant.constant < sort_size c.args.agent.now c.args.sort = omega arith in
+    let lack = λ (h : Lacks c.args.agent.now (wants_any (g.B.Blocks.wants c.args.blocks.now c.args.agent.now c.args.values.now)) c.in_ok-put.put). pick_lacks c.args.agent.now (wants_any (g.B.Blocks.wants c.args.blocks.now c.args.agent.now c.args.values.now)) c.args.var c.args.sort c.args.body.now c.loop-constant.constant below (subst (λ (z : Prog). Lacks c.args.agent.now (wants_any (g.B.Blocks.wants c.args.blocks.now c.args.agent.now c.args.values.now)) z) c.in_ok-put.ensures h) in
+    stops_from c.args.agent.now (wants_any (g.B.Blocks.wants c.args.blocks.now c.args.agent.now c.args.values.now)) c.from_residual-in_err-one.result c.in_err-one.field-0.0 c.in_ok-put.put (prog.Pick c.args.var c.args.sort c.args.body.now) c.from_residual-in_err-one.ensures.1 lack c.in_err-one.ensures.fuel
+
+pub reach_of_seq-returns-in_err-one-clause-fuel : goal.reach_of_seq-returns-in_err-one-clause-fuel
+reach_of_seq-returns-in_err-one-clause-fuel g t c =
+    stops_from c.args.agent.now (wants_any (g.B.Blocks.wants c.args.blocks.now c.args.agent.now c.args.values.now)) c.from_residual-in_err-one.result c.in_err-one.field-0.0 c.args.one.now (prog.Seq c.args.one.now c.args.other.now) c.from_residual-in_err-one.ensures.1 (seq_one c.args.agent.now (wants_any (g.B.Blocks.wants c.args.blocks.now c.args.agent.now c.args.values.now)) c.args.one.now c.args.other.now) c.in_err-one.ensures.fuel
+
+pub reach_of_seq-returns-in_err-other-clause-fuel : goal.reach_of_seq-returns-in_err-other-clause-fuel
+reach_of_seq-returns-in_err-other-clause-fuel g t c =
+    let end : final c.args.agent.now c.args.values.now May c.args.one.now ≡ true = sym (c.in_ok-ends.ensures.ends May) ∙ sym c.holds.ensures ∙ c.if-holds.true in
+    let skip = final-skips c.args.agent.now c.args.values.now c.requires.fit.guarded May c.args.one.now end in
+    stops_from c.args.agent.now (wants_any (g.B.Blocks.wants c.args.blocks.now c.args.agent.now c.args.values.now)) c.from_residual-in_err-other.result c.in_err-other.field-0.0 c.args.other.now (prog.Seq c.args.one.now c.args.other.now) c.from_residual-in_err-other.ensures.1 (seq_other c.args.agent.now (wants_any (g.B.Blocks.wants c.args.blocks.now c.args.agent.now c.args.values.now)) c.args.one.now c.args.other.now skip) c.in_err-other.ensures.fuel
+
+pub reach_of_while-returns-clause-fuel : goal.reach_of_while-returns-clause-fuel
+reach_of_while-returns-clause-fuel g t c =
+    let r = prog.While c.args.cond.now c.args.body.now in
+    stops_as c.args.agent.now (wants_any (g.B.Blocks.wants c.args.blocks.now c.args.agent.now c.args.values.now)) c.reach_where.result c.args.body.now r (part_lacks c.args.agent.now (wants_any (g.B.Blocks.wants c.args.blocks.now c.args.agent.now c.args.values.now)) r c.args.body.now (While c.args.cond.now c.args.body.now) (prog.outs-While c.args.cond.now c.args.body.now) (λ f. refl)) c.reach_where.ensures.fuel
