@@ -1,5 +1,5 @@
 -- A program lacks fuel where a part at its front does.
-use Rattle.std.proofs.Common.{◌≡◌, ℕ, suc, ◌+◌, ◌<◌, Bool, true, false, ◌||◌, ◌&&◌, List, [], ◌∷◌, inl, inr, refl, sym, ap, ◌∙◌, subst}
+use Rattle.std.proofs.Common.{◌≡◌, ℕ, suc, ◌+◌, ◌<◌, Bool, true, false, ◌||◌, ◌&&◌, inl, inr, refl, sym, ap, ◌∙◌}
 use Rattle.std.proofs.Common.{◌≤◌, zero, arith}
 use Rattle.std.specs.Prelude.{Result, Ok, Err, IfErr, ◌⊎◌}
 use Rattle.std.specs.Result.{IsErrAnd}
@@ -7,7 +7,6 @@ use Rattle.std.specs.List.{list_any, range_with_len}
 use Rattle.std.proofs.lemmas.Bool.{cases_lt}
 use Rattle.golog_tree.specs.declared.agent.Agent.{Agent}
 use Rattle.golog_tree.specs.declared.prog.Prog.{Prog}
-use Rattle.golog_tree.specs.declared.prog.Way.{Way}
 use Rattle.golog_tree.specs.declared.prog.Prog.TheOpen.{Seq, Pick}
 use Rattle.golog_tree.specs.declared.prog.Prog.TheVariants as prog
 use Rattle.golog_tree.specs.declared.prog.Prog.TheViews.{out-Prog}
@@ -16,7 +15,7 @@ use Rattle.golog_semantics.specs.Guarded.{front}
 use Rattle.golog_semantics.specs.Program.{put_arg}
 use Rattle.golog_tree.specs.Tidy.{Layer}
 use Rattle.golog_ways.specs.declared.answering.Stop.{Stop}
-use Rattle.golog_ways.specs.declared.answering.Stop.TheVariants.{Fuel, Memory}
+use Rattle.golog_ways.specs.declared.answering.Stop.TheVariants.{Fuel}
 use Rattle.golog_ways.specs.Lacking.{Wants, Lacks, StopsAt, StopsAtEither, lacks_step, lacks_to}
 
 or_left : (a b : Bool) → a ≡ true → (a || b) ≡ true

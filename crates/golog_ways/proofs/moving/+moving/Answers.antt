@@ -276,12 +276,12 @@ first_of_prio-returns-in-Some g t c =
 
 pub first_of_prio-returns-then-holds_in : goal.first_of_prio-returns-then-holds_in
 first_of_prio-returns-then-holds_in g t c =
-    let may : has_move c.args.agent.now (g.B.Blocks.moves c.args.blocks.now c.args.agent.now c.args.values.now) c.args.values.now May c.args.high.now ≡ true = sym (c.in_ok-reach-in-None.ensures.steps May) ∙ sym c.holds_in.ensures ∙ c.if-holds_in.true in
+    let may : has_move c.args.agent.now (g.B.Blocks.moves c.args.blocks.now c.args.agent.now c.args.values.now) c.args.values.now May c.args.high.now ≡ true = sym (c.in_ok-reach-in-None.ensures.reach.steps May) ∙ sym c.holds_in.ensures ∙ c.if-holds_in.true in
     sym (prio_kept c.args.agent.now (g.B.Blocks.moves c.args.blocks.now c.args.agent.now c.args.values.now) c.args.values.now c.requires.fit.guarded c.args.high.now c.args.low.now (sym c.in-None.is ∙ c.in_ok-found.ensures) may)
 
 pub first_of_prio-returns-in_ok-found-in-None : goal.first_of_prio-returns-in_ok-found-in-None
 first_of_prio-returns-in_ok-found-in-None g t c =
-    let may : has_move c.args.agent.now (g.B.Blocks.moves c.args.blocks.now c.args.agent.now c.args.values.now) c.args.values.now May c.args.high.now ≡ false = sym (c.in_ok-reach-in-None.ensures.steps May) ∙ sym c.holds_in.ensures ∙ c.if-holds_in.false in
+    let may : has_move c.args.agent.now (g.B.Blocks.moves c.args.blocks.now c.args.agent.now c.args.values.now) c.args.values.now May c.args.high.now ≡ false = sym (c.in_ok-reach-in-None.ensures.reach.steps May) ∙ sym c.holds_in.ensures ∙ c.if-holds_in.false in
     let is = ap (λ (w : Option Move). moved_in (λ l. tidy_prio c.args.high.now l) w) c.in_ok-found-in-None.ensures ∙ sym (prio_second c.args.agent.now (g.B.Blocks.moves c.args.blocks.now c.args.agent.now c.args.values.now) c.args.values.now c.requires.fit.guarded c.args.high.now c.args.low.now (sym c.in-None.is ∙ c.in_ok-found.ensures) may) in
     move_as c.under.result (moved_in (λ l. tidy_prio c.args.high.now l) c.in_ok-found-in-None.found) (first_move c.args.agent.now (g.B.Blocks.moves c.args.blocks.now c.args.agent.now c.args.values.now) c.args.values.now (prog.Prio c.args.high.now c.args.low.now)) is c.under.ensures
 
@@ -416,7 +416,7 @@ pub first_move-returns-in-Search : goal.first_move-returns-in-Search
 first_move-returns-in-Search g t c =
     let a = c.get-in-Search.result.now in
     let e = one_same (prog.Search c.in-Search.depth c.in-Search.fuel) c.args.prog.now c.in-Search.body a c.in-Search.is c.get-in-Search.ensures in
-    move_as c.first.result _ (first_move c.args.agent.now (g.B.Blocks.moves c.args.blocks.now c.args.agent.now c.args.values.now) c.args.values.now c.args.prog.now) (sym (ap (first_move c.args.agent.now (g.B.Blocks.moves c.args.blocks.now c.args.agent.now c.args.values.now) c.args.values.now) e ∙ search_first c.args.agent.now (g.B.Blocks.moves c.args.blocks.now c.args.agent.now c.args.values.now) c.args.values.now c.requires.fit.guarded c.in-Search.depth c.in-Search.fuel a)) c.first.ensures
+    move_as c.first.result _ (first_move c.args.agent.now (g.B.Blocks.moves c.args.blocks.now c.args.agent.now c.args.values.now) c.args.values.now c.args.prog.now) (sym (ap (first_move c.args.agent.now (g.B.Blocks.moves c.args.blocks.now c.args.agent.now c.args.values.now) c.args.values.now) e ∙ search_first c.args.agent.now (g.B.Blocks.moves c.args.blocks.now c.args.agent.now c.args.values.now) c.args.values.now c.requires.fit.guarded c.in-Search.depth c.in-Search.fuel a)) c.first.ensures.first
 
 pub first_move-returns-in-Follow : goal.first_move-returns-in-Follow
 first_move-returns-in-Follow g t c =
@@ -424,7 +424,7 @@ first_move-returns-in-Follow g t c =
     let rest = c.as_slice-in-Follow.result.now in
     let e = one_same (λ (z : Prog). prog.Follow c.in-Follow.depth c.in-Follow.fuel z c.in-Follow.rest) c.args.prog.now c.in-Follow.body a c.in-Follow.is c.get-in-Follow.ensures in
     let k = e ∙ ap (prog.Follow c.in-Follow.depth c.in-Follow.fuel a) (sym c.as_slice-in-Follow.ensures) in
-    move_as c.first-in-Follow.result _ (first_move c.args.agent.now (g.B.Blocks.moves c.args.blocks.now c.args.agent.now c.args.values.now) c.args.values.now c.args.prog.now) (sym (ap (first_move c.args.agent.now (g.B.Blocks.moves c.args.blocks.now c.args.agent.now c.args.values.now) c.args.values.now) k ∙ follow_first c.args.agent.now (g.B.Blocks.moves c.args.blocks.now c.args.agent.now c.args.values.now) c.args.values.now c.requires.fit.guarded c.in-Follow.depth c.in-Follow.fuel a rest)) c.first-in-Follow.ensures
+    move_as c.first-in-Follow.result _ (first_move c.args.agent.now (g.B.Blocks.moves c.args.blocks.now c.args.agent.now c.args.values.now) c.args.values.now c.args.prog.now) (sym (ap (first_move c.args.agent.now (g.B.Blocks.moves c.args.blocks.now c.args.agent.now c.args.values.now) c.args.values.now) k ∙ follow_first c.args.agent.now (g.B.Blocks.moves c.args.blocks.now c.args.agent.now c.args.values.now) c.args.values.now c.requires.fit.guarded c.in-Follow.depth c.in-Follow.fuel a rest)) c.first-in-Follow.ensures.first
 
 pub first_move-returns-in-Act : goal.first_move-returns-in-Act
 first_move-returns-in-Act g t c =
