@@ -1,4 +1,4 @@
-ghost use Rattle.std.specs.Prelude.{◌≡◌, IfOk};
+ghost use Rattle.std.specs.Prelude.{◌≡◌, IfOk, IfErr};
 ghost use Rattle.golog_tree.specs.Tidy.{tidy_seq, tidy_conc, tidy_prio};
 ghost use Rattle.golog_ways.specs.Context.{placed};
 ghost use Rattle.golog_ways.specs.FirstMove.{moved_in, plain};
@@ -30,7 +30,8 @@ fn at_place(
     found: Option<Move>,
     other: &Prog,
 ) -> Result<Option<Move>, Stop>
-    ensures { IfOk result (λ m. m ≡ moved_in (λ l. placed place l other.now) found) }
+    ensures left { IfOk result (λ m. m ≡ moved_in (λ l. placed place l other.now) found) }
+    ensures memory { IfErr result (λ stop. stop ≡ Stop.Memory) }
 {
     match found {
         None => Ok(None),
@@ -43,35 +44,40 @@ fn at_place(
 
 /// The step, with the rest to be done after what it leaves.
 pub fn before(alloc: Global, found: Option<Move>, rest: &Prog) -> Result<Option<Move>, Stop>
-    ensures { IfOk result (λ m. m ≡ moved_in (λ l. tidy_seq l rest.now) found) }
+    ensures left { IfOk result (λ m. m ≡ moved_in (λ l. tidy_seq l rest.now) found) }
+    ensures memory { IfErr result (λ stop. stop ≡ Stop.Memory) }
 {
     at_place(alloc, Place::Before, found, rest)
 }
 
 /// The step of a first part, with what it leaves beside the second part.
 pub fn beside(alloc: Global, found: Option<Move>, other: &Prog) -> Result<Option<Move>, Stop>
-    ensures { IfOk result (λ m. m ≡ moved_in (λ l. tidy_conc l other.now) found) }
+    ensures left { IfOk result (λ m. m ≡ moved_in (λ l. tidy_conc l other.now) found) }
+    ensures memory { IfErr result (λ stop. stop ≡ Stop.Memory) }
 {
     at_place(alloc, Place::Beside, found, other)
 }
 
 /// The step of a second part, with what it leaves beside the first part.
 pub fn next_to(alloc: Global, one: &Prog, found: Option<Move>) -> Result<Option<Move>, Stop>
-    ensures { IfOk result (λ m. m ≡ moved_in (λ l. tidy_conc one.now l) found) }
+    ensures left { IfOk result (λ m. m ≡ moved_in (λ l. tidy_conc one.now l) found) }
+    ensures memory { IfErr result (λ stop. stop ≡ Stop.Memory) }
 {
     at_place(alloc, Place::NextTo, found, one)
 }
 
 /// The step of a higher part, with what it leaves over the lower part.
 pub fn over(alloc: Global, found: Option<Move>, low: &Prog) -> Result<Option<Move>, Stop>
-    ensures { IfOk result (λ m. m ≡ moved_in (λ l. tidy_prio l low.now) found) }
+    ensures left { IfOk result (λ m. m ≡ moved_in (λ l. tidy_prio l low.now) found) }
+    ensures memory { IfErr result (λ stop. stop ≡ Stop.Memory) }
 {
     at_place(alloc, Place::Over, found, low)
 }
 
 /// The step of a lower part, with what it leaves under the higher part.
 pub fn under(alloc: Global, high: &Prog, found: Option<Move>) -> Result<Option<Move>, Stop>
-    ensures { IfOk result (λ m. m ≡ moved_in (λ l. tidy_prio high.now l) found) }
+    ensures left { IfOk result (λ m. m ≡ moved_in (λ l. tidy_prio high.now l) found) }
+    ensures memory { IfErr result (λ stop. stop ≡ Stop.Memory) }
 {
     at_place(alloc, Place::Under, found, high)
 }

@@ -103,7 +103,8 @@ fn both_reaches<B: Blocks>(
     requires other { IsClosed agent.now other.now }
     requires whole { length values.now ≡ length (ground_fluents agent.now) }
     requires ready { B.ready blocks.now agent.now values.now }
-    ensures reach { IfOk result (λ pair. AreReaches agent.now (B.moves blocks.now agent.now values.now) values.now
+    ensures reach { IfOk result
+        (λ pair. AreReaches agent.now (B.moves blocks.now agent.now values.now) values.now
         one.now other.now pair.0 pair.1) }
     ensures fuel { IfErr result
         (StopsAtEither agent.now (wants_any (B.wants blocks.now agent.now values.now)) one.now other.now) }
@@ -131,7 +132,8 @@ fn reach_of_seq<B: Blocks>(
         (IsReach agent.now (B.moves blocks.now agent.now values.now) values.now
         (Prog.Seq one.now other.now)) }
     ensures fuel { IfErr result
-        (StopsAt agent.now (wants_any (B.wants blocks.now agent.now values.now)) (Prog.Seq one.now other.now)) }
+        (StopsAt agent.now (wants_any (B.wants blocks.now agent.now values.now))
+        (Prog.Seq one.now other.now)) }
 {
     let ends = outlook(alloc, agent, one, values)?.ends;
     let one = reach_of(alloc, agent, blocks, one, values)?;
@@ -188,7 +190,8 @@ fn reach_of_if<B: Blocks>(
         (IsReach agent.now (B.moves blocks.now agent.now values.now) values.now
         (Prog.If cond.now yes.now no.now)) }
     ensures fuel { IfErr result
-        (StopsAt agent.now (wants_any (B.wants blocks.now agent.now values.now)) (Prog.If cond.now yes.now no.now)) }
+        (StopsAt agent.now (wants_any (B.wants blocks.now agent.now values.now))
+        (Prog.If cond.now yes.now no.now)) }
 {
     let is_so = truth(agent, cond, values);
     let yes = reach_where(alloc, agent, blocks, is_so, yes, values)?;
@@ -213,7 +216,8 @@ fn reach_of_while<B: Blocks>(
         (IsReach agent.now (B.moves blocks.now agent.now values.now) values.now
         (Prog.While cond.now body.now)) }
     ensures fuel { IfErr result
-        (StopsAt agent.now (wants_any (B.wants blocks.now agent.now values.now)) (Prog.While cond.now body.now)) }
+        (StopsAt agent.now (wants_any (B.wants blocks.now agent.now values.now))
+        (Prog.While cond.now body.now)) }
 {
     let is_so = truth(agent, cond, values);
     reach_where(alloc, agent, blocks, is_so, body, values)
@@ -258,7 +262,8 @@ fn reach_of_pick<B: Blocks>(
         (IsReach agent.now (B.moves blocks.now agent.now values.now) values.now
         (Prog.Pick var sort body.now)) }
     ensures fuel { IfErr result
-        (StopsAt agent.now (wants_any (B.wants blocks.now agent.now values.now)) (Prog.Pick var sort body.now)) }
+        (StopsAt agent.now (wants_any (B.wants blocks.now agent.now values.now))
+        (Prog.Pick var sort body.now)) }
 {
     let mut some = Reach::No;
     for constant in 0..sort_size(agent, sort) {

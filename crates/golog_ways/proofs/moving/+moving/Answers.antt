@@ -161,7 +161,7 @@ first_move-returns-in_ok-found-in-Star g t c =
     let a = c.get-in-Star.result.now in
     let e = one_same (prog.Star) c.args.prog.now c.in-Star.body a c.in-Star.is c.get-in-Star.ensures in
     let is = ap (λ (w : Option Move). moved_in (λ l. tidy_seq l c.args.prog.now) w) c.in_ok-found-in-Star.ensures ∙ sym (star_first c.args.agent.now (g.B.Blocks.moves c.args.blocks.now c.args.agent.now c.args.values.now) c.args.values.now c.requires.fit.guarded c.args.prog.now a e) in
-    move_as c.before-in-Star.result (moved_in (λ l. tidy_seq l c.args.prog.now) c.in_ok-found-in-Star.found) (first_move c.args.agent.now (g.B.Blocks.moves c.args.blocks.now c.args.agent.now c.args.values.now) c.args.values.now c.args.prog.now) is c.before-in-Star.ensures
+    move_as c.before-in-Star.result (moved_in (λ l. tidy_seq l c.args.prog.now) c.in_ok-found-in-Star.found) (first_move c.args.agent.now (g.B.Blocks.moves c.args.blocks.now c.args.agent.now c.args.values.now) c.args.values.now c.args.prog.now) is c.before-in-Star.ensures.left
 
 pub first_move-first_move-requires-in-Cstar : goal.first_move-first_move-requires-in-Cstar
 first_move-first_move-requires-in-Cstar g t c κs within =
@@ -178,7 +178,7 @@ first_move-returns-in_ok-found-in-Cstar g t c =
     let a = c.get-in-Cstar.result.now in
     let e = one_same (prog.Cstar) c.args.prog.now c.in-Cstar.body a c.in-Cstar.is c.get-in-Cstar.ensures in
     let is = ap (λ (w : Option Move). moved_in (λ l. tidy_conc l c.args.prog.now) w) c.in_ok-found-in-Cstar.ensures ∙ sym (cstar_first c.args.agent.now (g.B.Blocks.moves c.args.blocks.now c.args.agent.now c.args.values.now) c.args.values.now c.requires.fit.guarded c.args.prog.now a e) in
-    move_as c.beside.result (moved_in (λ l. tidy_conc l c.args.prog.now) c.in_ok-found-in-Cstar.found) (first_move c.args.agent.now (g.B.Blocks.moves c.args.blocks.now c.args.agent.now c.args.values.now) c.args.values.now c.args.prog.now) is c.beside.ensures
+    move_as c.beside.result (moved_in (λ l. tidy_conc l c.args.prog.now) c.in_ok-found-in-Cstar.found) (first_move c.args.agent.now (g.B.Blocks.moves c.args.blocks.now c.args.agent.now c.args.values.now) c.args.values.now c.args.prog.now) is c.beside.ensures.left
 
 pub first_move-truth-requires-clause-fits : goal.first_move-truth-requires-clause-fits
 first_move-truth-requires-clause-fits g t c =
@@ -199,7 +199,7 @@ first_move-returns-in_ok-found-in-While g t c =
     let a = c.get-then-holds.result.now in
     let e = one_same (prog.While c.in-While.cond) c.args.prog.now c.in-While.body a c.in-While.is c.get-then-holds.ensures in
     let is = ap (λ (w : Option Move). moved_in (λ l. tidy_seq l c.args.prog.now) w) c.in_ok-found-in-While.ensures ∙ sym (while_first c.args.agent.now (g.B.Blocks.moves c.args.blocks.now c.args.agent.now c.args.values.now) c.args.values.now c.requires.fit.guarded c.args.prog.now a c.in-While.cond c.truth.result c.truth.ensures (sym c.holds.ensures ∙ c.if-holds.true) e) in
-    move_as c.before-then-holds.result (moved_in (λ l. tidy_seq l c.args.prog.now) c.in_ok-found-in-While.found) (first_move c.args.agent.now (g.B.Blocks.moves c.args.blocks.now c.args.agent.now c.args.values.now) c.args.values.now c.args.prog.now) is c.before-then-holds.ensures
+    move_as c.before-then-holds.result (moved_in (λ l. tidy_seq l c.args.prog.now) c.in_ok-found-in-While.found) (first_move c.args.agent.now (g.B.Blocks.moves c.args.blocks.now c.args.agent.now c.args.values.now) c.args.values.now c.args.prog.now) is c.before-then-holds.ensures.left
 
 pub first_move-returns-else-holds : goal.first_move-returns-else-holds
 first_move-returns-else-holds g t c =
@@ -247,12 +247,12 @@ first_of_conc-first_move-requires-in-None g t c κs within =
 
 pub first_of_conc-returns-in-Some : goal.first_of_conc-returns-in-Some
 first_of_conc-returns-in-Some g t c =
-    move_as c.beside.result _ (first_move c.args.agent.now (g.B.Blocks.moves c.args.blocks.now c.args.agent.now c.args.values.now) c.args.values.now (prog.Conc c.args.one.now c.args.other.now)) (sym (conc_first c.args.agent.now (g.B.Blocks.moves c.args.blocks.now c.args.agent.now c.args.values.now) c.args.values.now c.requires.fit.guarded c.args.one.now c.args.other.now c.in-Some.found (sym c.in-Some.is ∙ c.in_ok-found.ensures))) c.beside.ensures
+    move_as c.beside.result _ (first_move c.args.agent.now (g.B.Blocks.moves c.args.blocks.now c.args.agent.now c.args.values.now) c.args.values.now (prog.Conc c.args.one.now c.args.other.now)) (sym (conc_first c.args.agent.now (g.B.Blocks.moves c.args.blocks.now c.args.agent.now c.args.values.now) c.args.values.now c.requires.fit.guarded c.args.one.now c.args.other.now c.in-Some.found (sym c.in-Some.is ∙ c.in_ok-found.ensures))) c.beside.ensures.left
 
 pub first_of_conc-returns-in_ok-found-in-None : goal.first_of_conc-returns-in_ok-found-in-None
 first_of_conc-returns-in_ok-found-in-None g t c =
     let is = ap (λ (w : Option Move). moved_in (λ l. tidy_conc c.args.one.now l) w) c.in_ok-found-in-None.ensures ∙ sym (conc_second c.args.agent.now (g.B.Blocks.moves c.args.blocks.now c.args.agent.now c.args.values.now) c.args.values.now c.requires.fit.guarded c.args.one.now c.args.other.now (sym c.in-None.is ∙ c.in_ok-found.ensures)) in
-    move_as c.next_to.result (moved_in (λ l. tidy_conc c.args.one.now l) c.in_ok-found-in-None.found) (first_move c.args.agent.now (g.B.Blocks.moves c.args.blocks.now c.args.agent.now c.args.values.now) c.args.values.now (prog.Conc c.args.one.now c.args.other.now)) is c.next_to.ensures
+    move_as c.next_to.result (moved_in (λ l. tidy_conc c.args.one.now l) c.in_ok-found-in-None.found) (first_move c.args.agent.now (g.B.Blocks.moves c.args.blocks.now c.args.agent.now c.args.values.now) c.args.values.now (prog.Conc c.args.one.now c.args.other.now)) is c.next_to.ensures.left
 
 pub first_of_prio-first_move-requires : goal.first_of_prio-first_move-requires
 first_of_prio-first_move-requires g t c κs within =
@@ -272,7 +272,7 @@ first_of_prio-first_move-requires-else-holds_in g t c κs within =
 
 pub first_of_prio-returns-in-Some : goal.first_of_prio-returns-in-Some
 first_of_prio-returns-in-Some g t c =
-    move_as c.over.result _ (first_move c.args.agent.now (g.B.Blocks.moves c.args.blocks.now c.args.agent.now c.args.values.now) c.args.values.now (prog.Prio c.args.high.now c.args.low.now)) (sym (prio_first c.args.agent.now (g.B.Blocks.moves c.args.blocks.now c.args.agent.now c.args.values.now) c.args.values.now c.requires.fit.guarded c.args.high.now c.args.low.now c.in-Some.found (sym c.in-Some.is ∙ c.in_ok-found.ensures))) c.over.ensures
+    move_as c.over.result _ (first_move c.args.agent.now (g.B.Blocks.moves c.args.blocks.now c.args.agent.now c.args.values.now) c.args.values.now (prog.Prio c.args.high.now c.args.low.now)) (sym (prio_first c.args.agent.now (g.B.Blocks.moves c.args.blocks.now c.args.agent.now c.args.values.now) c.args.values.now c.requires.fit.guarded c.args.high.now c.args.low.now c.in-Some.found (sym c.in-Some.is ∙ c.in_ok-found.ensures))) c.over.ensures.left
 
 pub first_of_prio-returns-then-holds_in : goal.first_of_prio-returns-then-holds_in
 first_of_prio-returns-then-holds_in g t c =
@@ -283,7 +283,7 @@ pub first_of_prio-returns-in_ok-found-in-None : goal.first_of_prio-returns-in_ok
 first_of_prio-returns-in_ok-found-in-None g t c =
     let may : has_move c.args.agent.now (g.B.Blocks.moves c.args.blocks.now c.args.agent.now c.args.values.now) c.args.values.now May c.args.high.now ≡ false = sym (c.in_ok-reach-in-None.ensures.reach.steps May) ∙ sym c.holds_in.ensures ∙ c.if-holds_in.false in
     let is = ap (λ (w : Option Move). moved_in (λ l. tidy_prio c.args.high.now l) w) c.in_ok-found-in-None.ensures ∙ sym (prio_second c.args.agent.now (g.B.Blocks.moves c.args.blocks.now c.args.agent.now c.args.values.now) c.args.values.now c.requires.fit.guarded c.args.high.now c.args.low.now (sym c.in-None.is ∙ c.in_ok-found.ensures) may) in
-    move_as c.under.result (moved_in (λ l. tidy_prio c.args.high.now l) c.in_ok-found-in-None.found) (first_move c.args.agent.now (g.B.Blocks.moves c.args.blocks.now c.args.agent.now c.args.values.now) c.args.values.now (prog.Prio c.args.high.now c.args.low.now)) is c.under.ensures
+    move_as c.under.result (moved_in (λ l. tidy_prio c.args.high.now l) c.in_ok-found-in-None.found) (first_move c.args.agent.now (g.B.Blocks.moves c.args.blocks.now c.args.agent.now c.args.values.now) c.args.values.now (prog.Prio c.args.high.now c.args.low.now)) is c.under.ensures.left
 
 pub first_of_seq-first_move-requires : goal.first_of_seq-first_move-requires
 first_of_seq-first_move-requires g t c κs within =
@@ -308,7 +308,7 @@ first_of_seq-first_move-requires-then-branch g t c κs within =
 
 pub first_of_seq-returns-in-Some : goal.first_of_seq-returns-in-Some
 first_of_seq-returns-in-Some g t c =
-    move_as c.before-in-Some.result _ (first_move c.args.agent.now (g.B.Blocks.moves c.args.blocks.now c.args.agent.now c.args.values.now) c.args.values.now (prog.Seq c.args.one.now c.args.other.now)) (sym (seq_first c.args.agent.now (g.B.Blocks.moves c.args.blocks.now c.args.agent.now c.args.values.now) c.args.values.now c.requires.fit.guarded c.args.one.now c.args.other.now c.in-Some.found (sym c.in-Some.is ∙ c.in_ok-found.ensures))) c.before-in-Some.ensures
+    move_as c.before-in-Some.result _ (first_move c.args.agent.now (g.B.Blocks.moves c.args.blocks.now c.args.agent.now c.args.values.now) c.args.values.now (prog.Seq c.args.one.now c.args.other.now)) (sym (seq_first c.args.agent.now (g.B.Blocks.moves c.args.blocks.now c.args.agent.now c.args.values.now) c.args.values.now c.requires.fit.guarded c.args.one.now c.args.other.now c.in-Some.found (sym c.in-Some.is ∙ c.in_ok-found.ensures))) c.before-in-Some.ensures.left
 
 pub first_of_seq-returns-then-branch : goal.first_of_seq-returns-then-branch
 first_of_seq-returns-then-branch g t c =
