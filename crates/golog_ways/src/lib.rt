@@ -31,5 +31,8 @@ pub use front_lists::Front;
 pub use golog_semantics::Mode;
 pub use laws::well_formed_is_fit;
 pub use modes::{flip, holds};
+pub use moving::first_move;
 pub use opening::fronts;
 pub use programs::{any, first, is_final};
+pub use reaches::Reach;
+pub use reaching::reach_of;
