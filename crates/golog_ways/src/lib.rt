@@ -24,6 +24,7 @@ mod single;
 mod step;
 mod without;
 
+pub use answering::{Blocks, Stop};
 pub use blocks::{has_front_block, may_skip};
 pub use bodies::body_of;
 pub use ending::end_cond;
