@@ -2,12 +2,15 @@ ghost use Rattle.std.specs.Prelude.{◌≡◌, IfOk};
 
 use crate::NoMemory;
 use std::alloc::Global;
+use std::hash::{Hash, Hasher};
 use std::marker::Model;
+use std::sync::Arc;
 
-/// A value in memory of its own, as the parts of a recursive type stand. Contracts see it as the value.
+/// A value in memory of its own, as the parts of a recursive type stand. Its owners share the value,
+/// which none of them changes. Contracts see it as the value.
 #[derive(Debug, Drop)]
 pub struct Boxed<T> {
-    inner: Box<T>,
+    inner: Arc<T>,
 }
 
 impl<T> Model for Boxed<T> {
@@ -26,12 +29,13 @@ impl<T> Boxed<T> {
         &self.inner
     }
 
-    /// The value, whose box is given back.
-    pub fn into_inner(self) -> T
-        ensures { result ≡ self }
+    /// One more owner of the same value. Takes no memory, and fails where an owner more can't be counted.
+    pub fn share(&self) -> Result<Boxed<T>, NoMemory>
+        ensures { IfOk result (λ b. b ≡ self.now) }
     {
-        let Boxed { inner } = self;
-        Box::into_inner(inner)
+        Ok(Boxed {
+            inner: Arc::try_clone(&self.inner)?,
+        })
     }
 }
 
@@ -41,7 +45,7 @@ impl<T: Drop> Boxed<T> {
         ensures { IfOk result (λ b. b ≡ value) }
     {
         Ok(Boxed {
-            inner: Box::new(alloc, value)?,
+            inner: Arc::new(alloc, value)?,
         })
     }
 }
@@ -58,4 +62,14 @@ impl<T: PartialEq> PartialEq for Boxed<T> {
 
 impl<T: Eq> Eq for Boxed<T> {
     ghost laws = { T.Eq.laws };
+}
+
+impl<T: Hash> Hash for Boxed<T> {
+    ghost hash_input = { T.hash_input };
+
+    ghost respects_eq = { T.respects_eq };
+
+    fn hash<H: Hasher>(&self, state: &mut H) {
+        self.get().hash(state)
+    }
 }

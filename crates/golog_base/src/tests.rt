@@ -108,7 +108,7 @@ fn lists_and_texts(rt: HostRuntime) -> Result<()> {
     assert!(rt; List::from_vec(list.into_vec()) == numbers(alloc, &[1, 2, 3, 4])?);
     let text = Text::of(alloc, "tëxt")?;
     assert!(rt; text.as_str() == "tëxt");
-    assert!(rt; Boxed::new(alloc, 7)?.into_inner() == 7);
+    assert!(rt; *Boxed::new(alloc, 7)?.share()?.get() == 7);
     assert!(rt; is_shared(&text) && is_shared(&numbers(alloc, &[])?));
     assert!(rt; is_shared(&Word::of(b"a")) && is_shared(&Boxed::new(alloc, 7)?));
     Ok(())
