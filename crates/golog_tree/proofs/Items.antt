@@ -1,12 +1,12 @@
 -- Items that are given with the sorts of their arguments: how many ground things the first of them have.
 use Rattle.std.proofs.Common.{◌≡◌, ℕ, suc, ◌+◌, ◌-◌, ◌<◌, ◌≤◌, List, [], ◌∷◌, ◌++◌, length, map, take, get_or, refl, sym, ap, ◌∙◌, subst, arith}
 use Rattle.std.specs.Prelude.{All, replicate}
-use Rattle.std.proofs.lemmas.List.{get_or-map, length-map, take-map}
-use Rattle.std.proofs.lemmas.List.Sums.{sum_by_more, sum_by_more_le, sum_by-take-le}
-use Rattle.std.proofs.lemmas.List.Elements.{All-take}
+use Rattle.std.proofs.lemmas.List.{get_or-map, length-map}
+use Rattle.std.proofs.lemmas.List.Sums.{sum_by_more, sum_by_more_le}
+use Rattle.std.proofs.lemmas.List.FromFn.{get_or-map-range_with_len, length-map-range_with_len}
 use Rattle.golog_tree.specs.declared.agent.Agent.{Agent}
 use Rattle.golog_tree.specs.declared.ground.Ground.{Ground}
-use Rattle.golog_tree.specs.Ground.{product, sizes, place_of, args_of, args_at, number_of, ground_count, AreWithin}
+use Rattle.golog_tree.specs.Ground.{product, sizes, place_of, args_of, args_at, number_of, ground_count, firsts_of}
 use Rattle.golog_tree.specs.Numbered.{IsGround}
 use Rattle.golog_tree.proofs.Decoded.{args_at-get_or, is-ground}
 
@@ -46,24 +46,26 @@ module _ {T : Type 0} (agent : Agent) (f : T → List ℕ) (items : List T) wher
       let c : k ≡ count (get_or (map f items) i []) = h ∙ ap count (sym (found i r sorts at)) in
       omega (arith, e, c, m)
 
-  pub few-taken : (n : ℕ) → All (λ xs. length xs ≤ 3) (map f items) → All (λ xs. length xs ≤ 3) (map f (take n items))
-  few-taken n few =
-      let P : List (List ℕ) → Type 0 = λ xss. All (λ xs. length xs ≤ 3) xss in
-      subst P (take-map f n items) (All-take (λ xs. length xs ≤ 3) n (map f items) few)
+  pub firsts-long : (firsts : List ℕ) → firsts ≡ firsts_of agent (map f items) → length firsts ≡ length items
+  firsts-long firsts e =
+      ap (λ xs. length xs) e
+      ∙ length-map-range_with_len (λ item. ground_count agent (take item (map f items))) 0 (length (map f items))
+      ∙ length-map items f
 
-  pub taken-le : (n : ℕ) → ground_count agent (map f (take n items)) ≤ ground_count agent (map f items)
-  taken-le n =
-      let e = ap (ground_count agent) (take-map f n items) in
-      let l = sum_by-take-le count (map f items) n in omega (arith, e, l)
+  pub first-is : (firsts : List ℕ) → firsts ≡ firsts_of agent (map f items) → (i d : ℕ) → i < length items
+      → get_or firsts i d ≡ ground_count agent (take i (map f items))
+  first-is firsts e i d below =
+      ap (λ xs. get_or xs i d) e
+      ∙ get_or-map-range_with_len (λ item. ground_count agent (take item (map f items))) 0 (length (map f items)) i i d
+      (omega (arith, below, length-map items f)) (omega arith)
 
   pub number_of-is : (i : ℕ) (r : T) (sorts args : List ℕ) → IsItem i r sorts → (n k : ℕ)
-      → n ≡ ground_count agent (map f (take i items)) → k ≡ place_of (sizes agent sorts) args
+      → n ≡ ground_count agent (take i (map f items)) → k ≡ place_of (sizes agent sorts) args
       → n + k ≡ number_of agent (map f items) i args
   number_of-is i r sorts args at n k e h =
-      let t : n ≡ ground_count agent (take i (map f items)) = e ∙ ap (ground_count agent) (sym (take-map f i items)) in
       let p : k ≡ place_of (sizes agent (args_at (map f items) i)) args =
       h ∙ ap (λ xs. place_of (sizes agent xs) args) (sym (args_at-is i r sorts at)) in
-      omega (arith, t, p)
+      omega (arith, e, p)
 
   pub made : (i : ℕ) (r : T) (sorts : List ℕ) → IsItem i r sorts → (number place k : ℕ) (ground : Ground)
       → place < k → k ≡ product (sizes agent sorts)

@@ -10,6 +10,7 @@ pub struct Agent {
     pub sorts: List<SortItem>,
     pub fluents: List<FluentItem>,
     pub actions: List<ActionItem>,
+    pub firsts: Firsts,
     pub devices: List<Word>,
     pub poss: List<PossItem>,
     pub causes: List<CauseItem>,
@@ -17,6 +18,14 @@ pub struct Agent {
     pub starts: List<u8>,
     pub procs: List<ProcItem>,
     pub main: Prog,
+}
+
+/// The number of the first ground fluent of each fluent, and of the first ground action of each action: how many
+/// ground ones those before it have.
+#[derive(Drop)]
+pub struct Firsts {
+    pub fluents: List<u32>,
+    pub actions: List<u32>,
 }
 
 /// A sort: the whole numbers from `low` to `high`, or names in this order.

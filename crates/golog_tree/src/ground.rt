@@ -1,5 +1,5 @@
 ghost use Rattle.std.specs.Prelude.{◌≡◌, ◌<◌, ◌≤◌, ◌-◌, ◌^◌, ◌++◌, All, length, map, replicate, slice_get, Some};
-ghost use Rattle.golog_tree.specs.Ground.{IsCountable, AreWithin, item_size as spec_item_size, sort_size as spec_sort_size, product, sizes, place_of as spec_place_of, fluent_args, action_args, args_at, args_of, number_of as spec_number_of, fluent_no as spec_fluent_no, action_no as spec_action_no, ground_fluents, ground_actions, ground_count};
+ghost use Rattle.golog_tree.specs.Ground.{IsCountable, AreWithin, item_size as spec_item_size, sort_size as spec_sort_size, product, sizes, place_of as spec_place_of, fluent_args, action_args, args_at, args_of, number_of as spec_number_of, fluent_no as spec_fluent_no, action_no as spec_action_no, ground_fluents, ground_actions, ground_count, firsts_of};
 ghost use Rattle.golog_tree.specs.Numbered.{IsGround};
 
 use crate::agent::{ActionItem, Agent, FluentItem, SortItem};
@@ -17,11 +17,12 @@ pub struct Ground {
 }
 
 /// What is declared with the sorts of its arguments.
-trait HasArgs {
+pub trait HasArgs {
     ghost use Rattle.std.specs.Prelude.{ℕ, List};
 
     ghost arg_sorts: { Self → List ℕ };
 
+    /// The sorts of its arguments, by their numbers.
     fn arg_sorts(&self) -> &[u32]
         ensures { result.now ≡ arg_sorts self.now };
 }
@@ -94,31 +95,23 @@ fn place_of(agent: &Agent, sorts: &[u32], args: &[u8]) -> u32
     }
 }
 
-/// How many ground things these items have.
-fn count_of<T: HasArgs>(agent: &Agent, items: &[T]) -> u32
-    requires countable { IsCountable agent.now }
-    requires few { All (λ sorts. length sorts ≤ 3) (map T.arg_sorts items.now) }
-    requires numbered { ground_count agent.now (map T.arg_sorts items.now) ≤ 65536 }
-    ensures { result ≡ ground_count agent.now (map T.arg_sorts items.now) }
-{
-    let mut count = 0;
-    for item in items {
-        count += args_count(agent, item.arg_sorts());
-    }
-    count
-}
-
 /// The number of the ground thing of an item, where those of the items before it come first.
-fn number_of<T: HasArgs>(agent: &Agent, items: &[T], item: usize, args: &[u8]) -> u32
+fn number_of<T: HasArgs>(
+    agent: &Agent,
+    firsts: &[u32],
+    items: &[T],
+    item: usize,
+    args: &[u8],
+) -> u32
     requires countable { IsCountable agent.now }
     requires few { All (λ sorts. length sorts ≤ 3) (map T.arg_sorts items.now) }
     requires numbered { ground_count agent.now (map T.arg_sorts items.now) ≤ 65536 }
+    requires firsts { firsts.now ≡ firsts_of agent.now (map T.arg_sorts items.now) }
     requires item { item < length items.now }
     requires fits { AreWithin (sizes agent.now (args_at (map T.arg_sorts items.now) item)) args.now }
     ensures { result ≡ spec_number_of agent.now (map T.arg_sorts items.now) item args.now }
 {
-    let before = count_of(agent, &items[..item]);
-    before + place_of(agent, items[item].arg_sorts(), args)
+    firsts[item] + place_of(agent, items[item].arg_sorts(), args)
 }
 
 /// The arguments at a place among all of these sorts, and zeros behind them.
@@ -170,7 +163,13 @@ pub fn fluent_no(agent: &Agent, fluent: u32, args: &[u8]) -> u32
     ensures named { slice_get (ground_fluents agent.now) result ≡ Some (fluent, args.now) }
     ensures among { result < ground_count agent.now (fluent_args agent.now) }
 {
-    number_of(agent, agent.fluents.as_slice(), fluent as usize, args)
+    number_of(
+        agent,
+        agent.firsts.fluents.as_slice(),
+        agent.fluents.as_slice(),
+        fluent as usize,
+        args,
+    )
 }
 
 /// The number of a ground action, from 0: those of the actions before it come first, and the last
@@ -183,7 +182,13 @@ pub fn action_no(agent: &Agent, action: u32, args: &[u8]) -> u32
     ensures named { slice_get (ground_actions agent.now) result ≡ Some (action, args.now) }
     ensures among { result < ground_count agent.now (action_args agent.now) }
 {
-    number_of(agent, agent.actions.as_slice(), action as usize, args)
+    number_of(
+        agent,
+        agent.firsts.actions.as_slice(),
+        agent.actions.as_slice(),
+        action as usize,
+        args,
+    )
 }
 
 /// The ground fluent of a number: the one whose number `fluent_no` gives.

@@ -14,7 +14,7 @@ mod substitute;
 mod tidy;
 
 pub use agent::{
-    ActionItem, Agent, CauseItem, FluentItem, PossItem, ProcItem, SenseItem, SortItem,
+    ActionItem, Agent, CauseItem, Firsts, FluentItem, PossItem, ProcItem, SenseItem, SortItem,
 };
 pub use cond::{Arg, Cond, Term, Truth};
 pub use copy::{copy_cond, copy_prog};
@@ -24,11 +24,8 @@ pub use draft::{
 };
 pub use draft_cond::{DraftArg, DraftCond, DraftTerm, Place};
 pub use draft_prog::DraftProg;
-pub use ground::{Ground, action_no, action_of, fluent_no, fluent_of, sort_size};
+pub use ground::{Ground, HasArgs, action_no, action_of, fluent_no, fluent_of, sort_size};
 pub use nesting::nest;
 pub use prog::{Label, Prog, Way};
 pub use substitute::{put_arg, put_cond};
 pub use tidy::{tidy_conc, tidy_prio, tidy_seq};
-
-#[cfg(test)]
-mod tests;

@@ -36,6 +36,23 @@ fn args_with(alloc: Global, args: &[Arg], put: Put) -> Result<List<Arg>, NoMemor
     Ok(list)
 }
 
+/// The condition itself: where nothing is put in, it is shared.
+fn body_without(body: &Boxed<Cond>) -> Result<Boxed<Cond>, NoMemory>
+    ensures { IfOk result (λ c. c ≡ cond_put body.now None) }
+{
+    body.share()
+}
+
+#[cycle(cond_with)]
+fn body_with(alloc: Global, body: &Boxed<Cond>, put: Put) -> Result<Boxed<Cond>, NoMemory>
+    ensures { IfOk result (λ c. c ≡ cond_put body.now put) }
+{
+    match put {
+        None => body_without(body),
+        Some(_) => Boxed::new(alloc, cond_with(alloc, body.get(), put)?),
+    }
+}
+
 #[cycle(cond_with)]
 fn term_with(alloc: Global, term: &Term, put: Put) -> Result<Term, NoMemory>
     ensures { IfOk result (λ t. t ≡ term_put term.now put) }
@@ -52,7 +69,7 @@ fn term_with(alloc: Global, term: &Term, put: Put) -> Result<Term, NoMemory>
             by: *by,
         }),
         Term::Ite { cond, yes, no } => Ok(Term::Ite {
-            cond: Boxed::new(alloc, cond_with(alloc, cond.get(), put)?)?,
+            cond: body_with(alloc, cond, put)?,
             yes: Boxed::new(alloc, term_with(alloc, yes.get(), put)?)?,
             no: Boxed::new(alloc, term_with(alloc, no.get(), put)?)?,
         }),
@@ -95,18 +112,18 @@ pub(crate) fn cond_with(alloc: Global, cond: &Cond, put: Put) -> Result<Cond, No
             one: term_with(alloc, one, put)?,
             other: term_with(alloc, other, put)?,
         }),
-        Cond::Not(cond) => Ok(Cond::Not(Boxed::new(alloc, cond_with(alloc, cond.get(), put)?)?)),
+        Cond::Not(cond) => Ok(Cond::Not(body_with(alloc, cond, put)?)),
         Cond::And(conds) => Ok(Cond::And(conds_with(alloc, conds.as_slice(), put)?)),
         Cond::Or(conds) => Ok(Cond::Or(conds_with(alloc, conds.as_slice(), put)?)),
         Cond::ForSome { var, sort, body } => Ok(Cond::ForSome {
             var: *var,
             sort: *sort,
-            body: Boxed::new(alloc, cond_with(alloc, body.get(), within(*var, put))?)?,
+            body: body_with(alloc, body, within(*var, put))?,
         }),
         Cond::ForAll { var, sort, body } => Ok(Cond::ForAll {
             var: *var,
             sort: *sort,
-            body: Boxed::new(alloc, cond_with(alloc, body.get(), within(*var, put))?)?,
+            body: body_with(alloc, body, within(*var, put))?,
         }),
     }
 }
@@ -123,11 +140,21 @@ fn both(
     Ok((one, other))
 }
 
+/// The part itself: where nothing is put in, it is shared.
+fn part_without(part: &Boxed<Prog>) -> Result<Boxed<Prog>, NoMemory>
+    ensures { IfOk result (λ p. p ≡ prog_put part.now None) }
+{
+    part.share()
+}
+
 #[cycle(prog_with)]
-fn part_with(alloc: Global, part: &Prog, put: Put) -> Result<Boxed<Prog>, NoMemory>
+fn part_with(alloc: Global, part: &Boxed<Prog>, put: Put) -> Result<Boxed<Prog>, NoMemory>
     ensures { IfOk result (λ p. p ≡ prog_put part.now put) }
 {
-    Boxed::new(alloc, prog_with(alloc, part, put)?)
+    match put {
+        None => part_without(part),
+        Some(_) => Boxed::new(alloc, prog_with(alloc, part.get(), put)?),
+    }
 }
 
 #[cycle(prog_with)]
@@ -158,29 +185,23 @@ pub(crate) fn prog_with(alloc: Global, prog: &Prog, put: Put) -> Result<Prog, No
         Prog::Test(cond) => Ok(Prog::Test(cond_with(alloc, cond, put)?)),
         Prog::Seq(first, second) => {
             let (first, second) = both(
-                part_with(alloc, first.get(), put),
-                part_with(alloc, second.get(), put),
+                part_with(alloc, first, put),
+                part_with(alloc, second, put),
             )?;
             Ok(Prog::Seq(first, second))
         }
         Prog::Choice(one, other) => {
-            let (one, other) = both(
-                part_with(alloc, one.get(), put),
-                part_with(alloc, other.get(), put),
-            )?;
+            let (one, other) = both(part_with(alloc, one, put), part_with(alloc, other, put))?;
             Ok(Prog::Choice(one, other))
         }
         Prog::Pick { var, sort, body } => Ok(Prog::Pick {
             var: *var,
             sort: *sort,
-            body: part_with(alloc, body.get(), within(*var, put))?,
+            body: part_with(alloc, body, within(*var, put))?,
         }),
-        Prog::Star(body) => Ok(Prog::Star(part_with(alloc, body.get(), put)?)),
+        Prog::Star(body) => Ok(Prog::Star(part_with(alloc, body, put)?)),
         Prog::If { cond, yes, no } => {
-            let (yes, no) = both(
-                part_with(alloc, yes.get(), put),
-                part_with(alloc, no.get(), put),
-            )?;
+            let (yes, no) = both(part_with(alloc, yes, put), part_with(alloc, no, put))?;
             Ok(Prog::If {
                 cond: cond_with(alloc, cond, put)?,
                 yes,
@@ -189,23 +210,17 @@ pub(crate) fn prog_with(alloc: Global, prog: &Prog, put: Put) -> Result<Prog, No
         }
         Prog::While { cond, body } => Ok(Prog::While {
             cond: cond_with(alloc, cond, put)?,
-            body: part_with(alloc, body.get(), put)?,
+            body: part_with(alloc, body, put)?,
         }),
         Prog::Conc(one, other) => {
-            let (one, other) = both(
-                part_with(alloc, one.get(), put),
-                part_with(alloc, other.get(), put),
-            )?;
+            let (one, other) = both(part_with(alloc, one, put), part_with(alloc, other, put))?;
             Ok(Prog::Conc(one, other))
         }
         Prog::Prio(high, low) => {
-            let (high, low) = both(
-                part_with(alloc, high.get(), put),
-                part_with(alloc, low.get(), put),
-            )?;
+            let (high, low) = both(part_with(alloc, high, put), part_with(alloc, low, put))?;
             Ok(Prog::Prio(high, low))
         }
-        Prog::Cstar(body) => Ok(Prog::Cstar(part_with(alloc, body.get(), put)?)),
+        Prog::Cstar(body) => Ok(Prog::Cstar(part_with(alloc, body, put)?)),
         Prog::Call { item, args } => Ok(Prog::Call {
             item: *item,
             args: args_with(alloc, args.as_slice(), put)?,
@@ -213,7 +228,7 @@ pub(crate) fn prog_with(alloc: Global, prog: &Prog, put: Put) -> Result<Prog, No
         Prog::Search { depth, fuel, body } => Ok(Prog::Search {
             depth: *depth,
             fuel: *fuel,
-            body: part_with(alloc, body.get(), put)?,
+            body: part_with(alloc, body, put)?,
         }),
         Prog::Follow {
             depth,
@@ -223,7 +238,7 @@ pub(crate) fn prog_with(alloc: Global, prog: &Prog, put: Put) -> Result<Prog, No
         } => Ok(Prog::Follow {
             depth: *depth,
             fuel: *fuel,
-            body: part_with(alloc, body.get(), put)?,
+            body: part_with(alloc, body, put)?,
             rest: ways_with(alloc, rest.as_slice(), put)?,
         }),
     }
