@@ -42,13 +42,13 @@ pub chosen-true : {A : Type 0} (b : Bool) (o : Option A) (r : A) → (if b then 
 chosen-true true o r h = refl
 chosen-true false o r h = absurd (cc)
 
-index-left : (xs ys : List ℕ) (k : ℕ) → k < length xs → slice_index (xs ++ ys) k ≡ slice_index xs k
+pub index-left : (xs ys : List ℕ) (k : ℕ) → k < length xs → slice_index (xs ++ ys) k ≡ slice_index xs k
 index-left [] ys k h = absurd (omega arith)
 index-left (x ∷ xs) ys zero h = refl
 index-left (x ∷ xs) ys (suc k) h = index-left xs ys k (omega arith)
 
 module _ (agent : Agent) where
-  within-length : (ss xs : List ℕ) → AreWithin (sizes agent ss) xs → length ss ≡ length xs
+  pub within-length : (ss xs : List ℕ) → AreWithin (sizes agent ss) xs → length ss ≡ length xs
   within-length [] [] w = refl
   within-length [] (x ∷ xs) w = elim w [ ]
   within-length (s ∷ ss) [] w = elim w [ ]
@@ -83,13 +83,13 @@ module _ (agent : Agent) where
       go false f g new old = old (chosen-some (option_map_or (λ own. own == s) (slice_get fs y) false) (head_sorts agent ss args fs) vars f) (chosen-some (slice_index found y == x) (matched args vs found) result g)
 
   -- a bound variable, by its place among those that are bound
-  record BoundAt (n x sort : ℕ) (found : List ℕ) : Type 0 where
-    at : ℕ
-    is : x ≡ n + at
-    inside : at < length found
-    below : slice_index found at < sort_size agent sort
+  pub record BoundAt (n x sort : ℕ) (found : List ℕ) : Type 0 where
+    pub at : ℕ
+    pub is : x ≡ n + at
+    pub inside : at < length found
+    pub below : slice_index found at < sort_size agent sort
 
-  bound-at : (n : ℕ) (vars found : List ℕ) (x sort : ℕ) → AreWithin (sizes agent vars) found → bound_from n vars x ≡ Some sort → BoundAt n x sort found
+  pub bound-at : (n : ℕ) (vars found : List ℕ) (x sort : ℕ) → AreWithin (sizes agent vars) found → bound_from n vars x ≡ Some sort → BoundAt n x sort found
   bound-at n [] found x sort w h = absurd (cc)
   bound-at n (s ∷ vars) [] x sort w h = elim w [ ]
   bound-at n (s ∷ vars) (v ∷ found) x sort w h = go (x == n) refl h (bound-at (suc n) vars found x sort w.1)

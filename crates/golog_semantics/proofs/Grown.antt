@@ -3,7 +3,7 @@ use Rattle.std.proofs.Common.{◌≡◌, ℕ, ◌+◌, ◌≤◌, Bool, true, fa
 use Rattle.std.specs.Prelude.{filter_map, nat_le}
 use Rattle.std.specs.List.{list_any, enumerate_from, flat_map, cons_option}
 use Rattle.std.proofs.lemmas.Bool.{leb-true, le-leb}
-use Rattle.std.specs.Option.{option_map_or, option_to_list}
+use Rattle.std.specs.Option.{option_map_or, option_or, option_to_list}
 use Rattle.std.proofs.lemmas.List.Elements.{filter-append, filter_map-append}
 use Rattle.std.proofs.lemmas.List.Folds.{list_any-append}
 use Rattle.std.proofs.lemmas.Grind.{flat_map-append}
@@ -15,7 +15,8 @@ use Rattle.golog_semantics.specs.Journal.{Journal, Command, command_at, commands
 use Rattle.golog_semantics.specs.Text.{at_each, line_text, with_line_feed, report_text}
 use Rattle.golog_semantics.specs.Online.{fault_at, first_fault, IsOnlineSoFar}
 use Rattle.golog_semantics.specs.OneMore.{and_then, with_runs, EntriesGrow, PostsGrow, ProgressGrows, new_command, CommandsGrow, ReportGrows}
-use Rattle.golog_semantics.proofs.Pushed.{fold-push, values_after-push, left_after-push, at_each-push, first_fault-push, online-push, or-left, or-right}
+use Rattle.golog_semantics.proofs.Pushed.{fold-push, values_after-push, left_after-push, at_each-push, first_fault-push, or-left, or-right}
+use Rattle.golog_semantics.proofs.NoFaults.{no-fault-so_far, so_far-no-fault}
 
 or_false : (b : Bool) → (b || false) ≡ b
 or_false true = refl
@@ -139,11 +140,19 @@ module _ (agent : Agent) (journal : Journal) (e : Entry) where
         ∙ flat_map-append (with_line_feed agent) (at_each (line_text agent runs) [] journal) (line_text agent runs journal e ∷ [])
         ∙ ap (λ ys. report_text agent (with_runs runs journal) ++ ys) (append-nil (with_line_feed agent (line_text agent runs journal e)))
 
+    was-none : IsOnlineSoFar agent (with_runs runs (and_then journal e))
+        → option_or (first_fault agent None (with_runs runs journal)) (fault_at agent None runs journal e) ≡ None
+    was-none h = sym (first_fault-push agent None runs journal e) ∙ no-fault-so_far agent (with_runs runs (and_then journal e)) h
+
+    still-none : first_fault agent None (with_runs runs journal) ≡ None → fault_at agent None runs journal e ≡ None
+        → first_fault agent None (with_runs runs (and_then journal e)) ≡ None
+    still-none h k = first_fault-push agent None runs journal e ∙ ap (λ o. option_or o (fault_at agent None runs journal e)) h ∙ k
+
     pub report_grows : ReportGrows agent journal e runs
-    unfolding IsOnlineSoFar
     report_grows = record {
-      online = online-push agent runs journal e;
-      was_online = λ h. or-left (first_fault agent None (with_runs runs journal)) (fault_at agent None runs journal e) (sym (first_fault-push agent None runs journal e) ∙ h);
-      keeps_rules = λ h. or-right (first_fault agent None (with_runs runs journal)) (fault_at agent None runs journal e) (sym (first_fault-push agent None runs journal e) ∙ h);
+      online = λ h k. so_far-no-fault agent (with_runs runs (and_then journal e)) (still-none (no-fault-so_far agent (with_runs runs journal) h) k);
+      was_online = λ h. so_far-no-fault agent (with_runs runs journal)
+          (or-left (first_fault agent None (with_runs runs journal)) (fault_at agent None runs journal e) (was-none h));
+      keeps_rules = λ h. or-right (first_fault agent None (with_runs runs journal)) (fault_at agent None runs journal e) (was-none h);
       text = text-push;
     }

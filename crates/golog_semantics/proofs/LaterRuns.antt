@@ -1,5 +1,5 @@
 -- Runs that begin past the entries of a journal change neither its text nor its faults; and programs without devices.
-use Rattle.std.proofs.Common.{◌≡◌, ℕ, suc, ◌+◌, ◌≤◌, ◌<◌, Bool, true, false, not, if◌then◌else◌, IsTrue, ◌==◌, List, [], ◌∷◌, ◌++◌, length, refl, ap, ◌∙◌, Some, None, arith}
+use Rattle.std.proofs.Common.{◌≡◌, ℕ, suc, ◌+◌, ◌≤◌, ◌<◌, Bool, true, false, not, if◌then◌else◌, ◌==◌, List, [], ◌∷◌, ◌++◌, length, refl, ap, ◌∙◌, Some, None, arith}
 use Rattle.std.specs.Prelude.{find, option_map, decimal, codes}
 use Rattle.std.specs.List.{flat_map, range_with_len, list_any, list_all}
 use Rattle.std.specs.Option.{option_or}
@@ -13,9 +13,9 @@ use Rattle.golog_semantics.specs.declared.journal.Report.{Report}
 use Rattle.golog_semantics.specs.Journal.{Journal, devices, is_waiting_for}
 use Rattle.golog_semantics.specs.Progress.{values_after}
 use Rattle.golog_semantics.specs.Text.{at_each, run_at, body_text, line_text, with_line_feed, report_text}
-use Rattle.golog_semantics.specs.Online.{first_some, fault_at, first_fault, is_whole, too_short, fault_of, IsOnline, IsOnlineSoFar}
+use Rattle.golog_semantics.specs.Online.{first_some, fault_at, first_fault}
 use Rattle.golog_semantics.specs.OneMore.{WaitsForNothing, BeginFrom, LaterRuns, BeginBefore, RunsFound, WholeIsOnline}
-use Rattle.golog_semantics.proofs.Pushed.{or-none, or-left, or-right}
+use Rattle.golog_semantics.proofs.Pushed.{or-none}
 
 -- what is said at each place, where it is the same before this place
 module _ {A : Type 0} (say other : Journal → Entry → A) (n : ℕ) (same : (before : Journal) (e : Entry) → length before < n → say before e ≡ other before e) where
@@ -81,18 +81,10 @@ runs_found runs place all = record {
       ∙ ap (λ b. if b then Some new else None) (eq-eqb place place refl));
 }
 
-module _ (agent : Agent) (report : Report) where
-  whole-so : too_short agent None report.entries ≡ None → IsTrue (is_whole agent None report.entries)
-  whole-so h = go (is_whole agent None report.entries) refl
-    where
-      go : (b : Bool) → is_whole agent None report.entries ≡ b → is_whole agent None report.entries ≡ true
-      go true e = e
-      go false e = absurd (let k : Some _ ≡ None = rw e at h in cc)
-
-  pub whole_is_online : WholeIsOnline agent report
-  unfolding IsOnline IsOnlineSoFar fault_of
-  whole_is_online = record {
-    whole = λ h k. ap (λ o. option_or o (too_short agent None report.entries)) h ∙ rw k refl;
-    so_far = λ h. or-left (first_fault agent None report) (too_short agent None report.entries) h;
-    ended = λ h. whole-so (or-right (first_fault agent None report) (too_short agent None report.entries) h);
-  }
+-- an online execution is one so far that is whole
+pub whole_is_online : (agent : Agent) (report : Report) → WholeIsOnline agent report
+whole_is_online agent report = record {
+  whole = λ h k. record { entries = h.entries; whole = k };
+  so_far = λ h. record { entries = h.entries };
+  ended = λ h. h.whole;
+}

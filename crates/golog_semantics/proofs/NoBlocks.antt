@@ -30,6 +30,10 @@ use Rattle.golog_semantics.proofs.FrontParts.{AtFront, Claim, GoesOn}
 use Rattle.golog_semantics.proofs.PutByParts.{IgnoresPut, fold-put}
 use Rattle.golog_semantics.proofs.Tests.{neither_first, neither_second}
 
+pub not_so : (b : Bool) → not b ≡ true → b ≡ false
+not_so true e = sym e
+not_so false e = refl
+
 flat_same : (f g : ℕ → List Move) (a n : ℕ) → ((c : ℕ) → c < a + n → f c ≡ g c) → flat_map f (range_with_len a n) ≡ flat_map g (range_with_len a n)
 flat_same f g a zero h = refl
 flat_same f g a (suc n) h = let e = h a (omega arith) in let k = flat_same f g (a + 1) n (λ c l. h c (omega arith)) in cc
@@ -60,7 +64,7 @@ module _ (agent : Agent) (values : Values) (one other : Blocks) (claim : Claim) 
 
 module _ (agent : Agent) where
   -- no block stands in the program or is reached from it
-  abbrev blockless : Claim
+  abbrev pub blockless : Claim
   blockless = record { of_prog = λ p. has_block agent p ≡ false; of_block = λ depth fuel p rest. ⊥ }
 
   ignores : IgnoresPut Bool Bool (has_block_step (proc_blocks agent)) (λ w. false)
@@ -72,7 +76,7 @@ module _ (agent : Agent) where
     call_same = λ item args put. refl;
   }
 
-  put_block : (p : Prog) (x c : ℕ) → has_block agent (put_arg p x c) ≡ has_block agent p
+  pub put_block : (p : Prog) (x c : ℕ) → has_block agent (put_arg p x c) ≡ has_block agent p
   put_block p x c = fold-put Bool Bool (has_block_step (proc_blocks agent)) (λ w. false) ignores p (Some (x, c))
 
   puts_block : (args : List Arg) (p : Prog) (x : ℕ) → has_block agent (put_args p x args) ≡ has_block agent p
@@ -80,7 +84,7 @@ module _ (agent : Agent) where
   puts_block (Const c ∷ args) p x = puts_block args (put_arg p x c) (x + 1) ∙ put_block p x c
   puts_block (Var y ∷ args) p x = puts_block args p (x + 1)
 
-  body_block : (item : ℕ) (args : List Arg) (o : Option ProcItem) → slice_get agent.procs item ≡ o → block_at (proc_blocks agent) item ≡ false → has_block agent (body_with o args) ≡ false
+  pub body_block : (item : ℕ) (args : List Arg) (o : Option ProcItem) → slice_get agent.procs item ≡ o → block_at (proc_blocks agent) item ≡ false → has_block agent (body_with o args) ≡ false
   body_block item args None e h = parts.fold-nil Bool Bool (has_block_step (proc_blocks agent)) (λ w. false)
   body_block item args (Some proc) e h = puts_block args proc.body 0 ∙ sym (block_in_body agent item proc e) ∙ h
 
@@ -103,10 +107,6 @@ module _ (agent : Agent) where
 
   blockless_goes : GoesOn agent blockless
   blockless_goes = record { parts = λ p h. front_blockless (out-Prog p) (sym (fold_out-Prog Bool Bool (has_block_step (proc_blocks agent)) (λ w. false) p) ∙ h) }
-
-  not_so : (b : Bool) → not b ≡ true → b ≡ false
-  not_so true e = sym e
-  not_so false e = refl
 
   pub blockless_steps : (values : Values) (m : Mode) (p : Prog) → not (has_block agent p) ≡ true → moves agent values m p ≡ plain_moves agent values m p
   unfolding moves plain_moves

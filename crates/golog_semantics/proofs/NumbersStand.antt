@@ -16,7 +16,7 @@ use Rattle.golog_semantics.specs.NumberLaws.{HasOneNumber}
 use Rattle.golog_semantics.proofs.GroundNumbers.{action_is, stands, factors, slice_get-left, slice_get-right, slice_get-range}
 
 -- the arguments at a place don't depend on whole products before it
-args-shift : (ns : List ℕ) (q p : ℕ) → 0 < product ns → args_of ns (q * product ns + p) ≡ args_of ns p
+pub args-shift : (ns : List ℕ) (q p : ℕ) → 0 < product ns → args_of ns (q * product ns + p) ≡ args_of ns p
 args-shift [] q p h = refl
 args-shift (n ∷ ns) q p h =
     let both : (0 < n) × (0 < product ns) = factors n (product ns) h in

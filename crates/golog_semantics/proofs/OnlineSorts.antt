@@ -1,7 +1,7 @@
 -- The results in an online execution are values of their fluents, so values stay in their sorts.
 use Rattle.std.proofs.Common.{◌≡◌, ℕ, ◌<◌, Bool, true, false, ◌&&◌, ◌==◌, if◌then◌else◌, List, [], ◌∷◌, ◌++◌, length, map, refl, sym, ap, ◌∙◌, subst, Some, None, Option}
 use Rattle.std.specs.Prelude.{nat_lt, slice_get, find, option_map, option_and_then, is_some}
-use Rattle.std.specs.List.{AllByRecursion, list_all}
+use Rattle.std.specs.List.{list_all}
 use Rattle.std.specs.Option.{option_map_or}
 use Rattle.std.proofs.lemmas.Bool.{eqb-true, lt-ltb}
 use Rattle.std.proofs.lemmas.Option.{slice_get_within}
@@ -11,19 +11,18 @@ use Rattle.golog_tree.specs.Ground.{AreWithin, sizes, sort_size, Ground, ground_
 use Rattle.golog_semantics.specs.declared.journal.Entry.{Entry}
 use Rattle.golog_semantics.specs.declared.journal.Entry.TheVariants.{Do, Test, Exo, Sense, Rest, Close, End}
 use Rattle.golog_semantics.specs.declared.journal.PlacedRun.{PlacedRun}
-use Rattle.golog_semantics.specs.declared.journal.Why.{Why}
 use Rattle.golog_semantics.specs.Truth.{env_of, arg_value}
 use Rattle.golog_semantics.specs.Values.{fluent_sort}
 use Rattle.golog_semantics.specs.Ways.{is_empty}
 use Rattle.golog_semantics.specs.Journal.{Journal, sensed, sensed_by, outstanding}
-use Rattle.golog_semantics.specs.Progress.{values_after, left_after}
 use Rattle.golog_semantics.specs.Fits.{bound_from, args_fit}
 use Rattle.golog_semantics.specs.WellFormed.{WellFormed, sense_fits, sense_fits_for}
 use Rattle.golog_semantics.specs.Text.{at_each}
-use Rattle.golog_semantics.specs.Online.{is_result, keeps_place, rules_at, fault_among, first_some, fault_at, first_fault, IsOnlineSoFar}
+use Rattle.golog_semantics.specs.Online.{is_result, keeps_place, first_some, fault_at, first_fault}
 use Rattle.golog_semantics.specs.SortLaws.{ResultsFit, OnlineStaysInSorts}
 use Rattle.golog_semantics.proofs.Words.{and-left, and-right, and-both}
 use Rattle.golog_semantics.proofs.Pushed.{or-left, or-right}
+use Rattle.golog_semantics.proofs.NoFaults.{faults_tell, no-fault-so_far}
 use Rattle.golog_semantics.proofs.GroundNumbers.{some-same, action_is}
 use Rattle.golog_semantics.proofs.ActionNames.{args_at-map}
 use Rattle.golog_semantics.proofs.Fits.{senses-it}
@@ -47,12 +46,6 @@ found-among p q (y ∷ xs) x h e = go (p y) e (found-among p q xs x (and-right (
     go : (b : Bool) → (if b then Some y else find p xs) ≡ Some x → (find p xs ≡ Some x → q x ≡ true) → q x ≡ true
     go true f rest = ap q (sym (some-same y x f)) ∙ and-left (q y) (list_all q xs) h
     go false f rest = rest f
-
--- where there is no fault, each rule is kept
-rules-kept : (place : ℕ) (rules : List (Why × Bool)) → fault_among place rules ≡ None → AllByRecursion (λ r. r.1 ≡ true) rules
-rules-kept place [] h = tt
-rules-kept place ((w, true) ∷ rules) h = (refl, rules-kept place rules h)
-rules-kept place ((w, false) ∷ rules) h = absurd (cc)
 
 module _ (agent : Agent) (fits : WellFormed agent) where
   sensed-by-inside : (action : ℕ) (at : Ground) (item : SenseItem) → slice_get (ground_actions agent) action ≡ Some at → item.action ≡ at.0 → sense_fits agent item ≡ true → sensed_by agent at item < length (ground_fluents agent)
@@ -93,7 +86,7 @@ module _ (agent : Agent) (fits : WellFormed agent) where
     place-kept : (before : Journal) (e : Entry) (entries : Journal) → NoFault before (e ∷ entries) → keeps_place agent before e ≡ true
     place-kept before e entries h =
         let none = or-left (fault_at agent None runs before e) (first_some (at_each (fault_at agent None runs) (before ++ e ∷ []) entries)) h in
-        (rules-kept (length before) (rules_at agent before runs None (values_after agent before) (left_after agent before) e) none).1.1.0
+        ((faults_tell agent None runs before e).kept none).place
 
     results-from : (before entries : Journal) → NoFault before entries → ResultsFit agent entries
     results-from before [] h = tt
@@ -115,5 +108,5 @@ module _ (agent : Agent) (fits : WellFormed agent) where
     results-from before (End answer ∷ entries) h = results-from (before ++ End answer ∷ []) entries (later before (End answer) entries h)
 
 pub online_stays : OnlineStaysInSorts
-unfolding IsOnlineSoFar first_fault
-online_stays agent fits report h = values_stay_in_sorts agent fits report.entries (results-from agent fits report.runs [] report.entries h)
+unfolding first_fault
+online_stays agent fits report h = values_stay_in_sorts agent fits report.entries (results-from agent fits report.runs [] report.entries (no-fault-so_far agent report h))

@@ -11,7 +11,7 @@ use Rattle.golog_semantics.specs.Truth.{Values}
 use Rattle.golog_semantics.specs.Journal.{Journal}
 use Rattle.golog_semantics.specs.Progress.{after_entry, values_after, left_at, left_from, left_after}
 use Rattle.golog_semantics.specs.Text.{Text, at_each}
-use Rattle.golog_semantics.specs.Online.{first_some, fault_at, first_fault, IsOnlineSoFar}
+use Rattle.golog_semantics.specs.Online.{first_some, fault_at, first_fault}
 
 pub fold-push : {A B : Type 0} (f : B → A → B) (a : B) (xs : List A) (x : A) → fold f a (xs ++ x ∷ []) ≡ f (fold f a xs) x
 fold-push f a [] x = refl
@@ -63,10 +63,3 @@ unfolding first_fault
 first_fault-push agent lines runs j e =
     ap first_some (at_each-push (fault_at agent lines runs) j e)
     ∙ first_some-push (at_each (fault_at agent lines runs) [] j) (fault_at agent lines runs j e)
-
--- an online execution goes on with an entry that keeps the rules
-pub online-push : (agent : Agent) (runs : List PlacedRun) (j : Journal) (e : Entry)
-    → IsOnlineSoFar agent (record { entries = j; runs = runs }) → fault_at agent None runs j e ≡ None
-    → IsOnlineSoFar agent (record { entries = j ++ e ∷ []; runs = runs })
-unfolding IsOnlineSoFar
-online-push agent runs j e h k = first_fault-push agent None runs j e ∙ ap (λ o. option_or o (fault_at agent None runs j e)) h ∙ k

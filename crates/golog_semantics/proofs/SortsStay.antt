@@ -33,7 +33,7 @@ has_at [] k h = absurd (omega arith)
 has_at (x ∷ xs) zero h = record { item = x; is = refl }
 has_at (x ∷ xs) (suc k) h = let r = has_at xs k (omega arith) in record { item = r.item; is = r.is }
 
-mapped-at : {A : Type 0} (g : ℕ × A → ℕ) (n : ℕ) (xs : List A) (k : ℕ) (x : A) → slice_get xs k ≡ Some x → slice_index (map g (enumerate_from n xs)) k ≡ g (n + k, x)
+pub mapped-at : {A : Type 0} (g : ℕ × A → ℕ) (n : ℕ) (xs : List A) (k : ℕ) (x : A) → slice_get xs k ≡ Some x → slice_index (map g (enumerate_from n xs)) k ≡ g (n + k, x)
 mapped-at g n [] k x e = absurd (cc)
 mapped-at g n (y ∷ xs) zero x e = ap (λ m. g (m, y)) (sym (add-zero n)) ∙ ap (λ z. g (n + 0, z)) (some-same y x e)
 mapped-at g n (y ∷ xs) (suc k) x e = mapped-at g (n + 1) xs k x e ∙ ap (λ m. g (m, x)) (let h : n + 1 + k ≡ n + suc k = omega arith in h)
@@ -58,6 +58,27 @@ module _ (agent : Agent) where
       go : (c : Bool) → IsOf agent sort (if c then a else unknown)
       go true = h
       go false = unknown-of sort
+
+  -- a result of its fluent keeps the values in their sorts
+  pub set-sorts : (values : Values) → AreInSorts agent values → (fluent value : ℕ) → is_value agent fluent value ≡ true → AreInSorts agent (slice_set values fluent value)
+  set-sorts values sorts fluent value h = record {
+    whole = length-set values fluent value ∙ sorts.whole;
+    sorted = λ f below. at f (f == fluent) refl (sorts.sorted f (omega (arith, length-set values fluent value)));
+  }
+    where
+      fits : IsOf agent (fluent_sort agent fluent) value
+      fits = or-left (nat_lt value (sort_size agent (fluent_sort agent fluent))) (value == unknown) (and-right (nat_lt fluent (length (ground_fluents agent))) (nat_lt value (sort_size agent (fluent_sort agent fluent))) h)
+
+      there : fluent < length values
+      there = let k : fluent < length (ground_fluents agent) = ltb-true fluent (length (ground_fluents agent)) (and-left (nat_lt fluent (length (ground_fluents agent))) (nat_lt value (sort_size agent (fluent_sort agent fluent))) h) in subst (λ n. fluent < n) (sym sorts.whole) k
+
+      at : (f : ℕ) (b : Bool) → (f == fluent) ≡ b → IsOf agent (fluent_sort agent f) (slice_index values f) → IsOf agent (fluent_sort agent f) (slice_index (slice_set values fluent value) f)
+      at f true e old =
+          let same : f ≡ fluent = eqb-true f fluent e in
+          subst (λ g. IsOf agent (fluent_sort agent g) (slice_index (slice_set values fluent value) g)) (sym same)
+          (subst (IsOf agent (fluent_sort agent fluent)) (sym (get_or-set_same values fluent value 0 there)) fits)
+      at f false e old =
+          subst (IsOf agent (fluent_sort agent f)) (sym (get_or-set_other values fluent f value 0 (λ same. let k : (f == fluent) ≡ true = eq-eqb f fluent same in cc))) old
 
   module _ (keeps : (cause : CauseItem) → Among agent.causes cause → KeepsSorts agent cause) where
     module _ (values : Values) (sorts : AreInSorts agent values) (action : ℕ) (at : Ground) (ours : slice_get (ground_actions agent) action ≡ Some at) (f : ℕ) (fluent : Ground) (is : slice_get (ground_fluents agent) f ≡ Some fluent) where
@@ -85,26 +106,6 @@ module _ (agent : Agent) where
 
     pub after_do-sorts : (values : Values) → AreInSorts agent values → (action : ℕ) → AreInSorts agent (after_do agent values action)
     after_do-sorts values sorts action = after_if-sorts values sorts action (slice_get (ground_actions agent) action) refl
-
-    set-sorts : (values : Values) → AreInSorts agent values → (fluent value : ℕ) → is_value agent fluent value ≡ true → AreInSorts agent (slice_set values fluent value)
-    set-sorts values sorts fluent value h = record {
-      whole = length-set values fluent value ∙ sorts.whole;
-      sorted = λ f below. at f (f == fluent) refl (sorts.sorted f (omega (arith, length-set values fluent value)));
-    }
-      where
-        fits : IsOf agent (fluent_sort agent fluent) value
-        fits = or-left (nat_lt value (sort_size agent (fluent_sort agent fluent))) (value == unknown) (and-right (nat_lt fluent (length (ground_fluents agent))) (nat_lt value (sort_size agent (fluent_sort agent fluent))) h)
-
-        there : fluent < length values
-        there = let k : fluent < length (ground_fluents agent) = ltb-true fluent (length (ground_fluents agent)) (and-left (nat_lt fluent (length (ground_fluents agent))) (nat_lt value (sort_size agent (fluent_sort agent fluent))) h) in subst (λ n. fluent < n) (sym sorts.whole) k
-
-        at : (f : ℕ) (b : Bool) → (f == fluent) ≡ b → IsOf agent (fluent_sort agent f) (slice_index values f) → IsOf agent (fluent_sort agent f) (slice_index (slice_set values fluent value) f)
-        at f true e old =
-            let same : f ≡ fluent = eqb-true f fluent e in
-            subst (λ g. IsOf agent (fluent_sort agent g) (slice_index (slice_set values fluent value) g)) (sym same)
-            (subst (IsOf agent (fluent_sort agent fluent)) (sym (get_or-set_same values fluent value 0 there)) fits)
-        at f false e old =
-            subst (IsOf agent (fluent_sort agent f)) (sym (get_or-set_other values fluent f value 0 (λ same. let k : (f == fluent) ≡ true = eq-eqb f fluent same in cc))) old
 
     entry-sorts : (values : Values) → AreInSorts agent values → (e : Entry) (entries : Journal) → ResultsFit agent (e ∷ entries) → AreInSorts agent (after_entry agent values e) × ResultsFit agent entries
     entry-sorts values sorts (Do action) entries r = (after_do-sorts values sorts action, r)

@@ -33,6 +33,11 @@ pub record Stage : Type 0 where
   pub journal : Journal
   pub devices : List Scripted
 
+-- How many rounds a run has. Each round before the last device is closed and the program has ended adds an
+-- entry or takes a command, so nothing is added any more long before the last of these.
+abbrev pub round_limit : ℕ
+round_limit = 200000
+
 module _ (agent : Agent) where
   -- the number, among so many, whose text these bytes are
   abbrev pub spelled : (ℕ → Text) → ℕ → Text → Option ℕ
@@ -128,7 +133,6 @@ module _ (agent : Agent) where
   rounds zero s = s
   rounds (suc n) s = rounds n (round s)
 
-  -- The journal of these scripts. Each round before the last device is closed and the program has ended adds
-  -- an entry or takes a command, so nothing is added any more long before the last of these rounds.
+  -- the journal of these scripts
   unfoldable pub inline_journal : List Scripted → Journal
-  inline_journal devices = (rounds 200000 (record { journal = []; devices = devices })).journal
+  inline_journal devices = (rounds round_limit (record { journal = []; devices = devices })).journal

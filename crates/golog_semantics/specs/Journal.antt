@@ -1,5 +1,5 @@
 -- The facts of a journal: commands, results that are still to come, and which devices are open or at rest.
-use Rattle.std.specs.Prelude.{ℕ, Bool, true, false, not, ◌==◌, nat_le, ◌&&◌, ◌||◌, if◌then◌else◌, Option, Some, None, is_some, List, length, map, filter, find, filter_map, fold, count_by, slice_get, option_map, option_and_then}
+use Rattle.std.specs.Prelude.{ℕ, Bool, true, false, not, ◌+◌, ◌==◌, nat_le, ◌&&◌, ◌||◌, if◌then◌else◌, Option, Some, None, is_some, List, length, map, filter, find, filter_map, fold, count_by, slice_get, option_map, option_and_then}
 use Rattle.std.specs.List.{list_any, list_all, enumerate_from, range_with_len}
 use Rattle.std.specs.Option.{option_map_or}
 use Rattle.golog_tree.specs.declared.agent.Agent.{Agent}
@@ -123,6 +123,14 @@ count journal = count_by is_counted journal
 -- how many counted entries a journal takes
 abbrev pub limit : ℕ
 limit = 65536
+
+-- the greatest number of devices
+abbrev pub device_limit : ℕ
+device_limit = 16
+
+-- how long a journal may be: the counted entries, the end, and an entry that closes each device
+abbrev pub longest : ℕ
+longest = limit + 1 + device_limit
 
 -- the journal takes no further counted entry
 abbrev pub is_full : Journal → Bool

@@ -5,10 +5,6 @@ use Rattle.golog_tree.specs.declared.agent.Agent.{Agent}
 use Rattle.golog_tree.specs.declared.prog.Prog.{Prog}
 use Rattle.golog_semantics.specs.declared.journal.Entry.{Entry}
 use Rattle.golog_semantics.specs.declared.journal.PlacedRun.{PlacedRun}
-use Rattle.golog_semantics.specs.Truth.{Values}
-use Rattle.golog_semantics.specs.Search.{Run}
-use Rattle.golog_semantics.specs.World.{Refines}
-use Rattle.golog_semantics.specs.Certain.{KnownIsSo, RunStays}
 use Rattle.golog_semantics.specs.Same.{same_prog}
 use Rattle.golog_semantics.specs.Journal.{Journal}
 use Rattle.golog_semantics.specs.Text.{Text}
@@ -26,11 +22,3 @@ FaultsGrow =
     → first_fault agent lines (record { entries = journal ++ e ∷ []; runs = runs })
     ≡ option_or (first_fault agent lines (record { entries = journal; runs = runs }))
     (fault_at agent lines runs journal e)
-
--- a truth or a value that is known stays so where more is known
-abbrev pub KnownStays : Type 0
-KnownStays = (agent : Agent) (old new : Values) → Refines old new → KnownIsSo agent old new
-
--- a run that goes through still does where more is known
-abbrev pub RunsStay : Type 0
-RunsStay = (agent : Agent) (p : Prog) (run : Run) → RunStays agent p run

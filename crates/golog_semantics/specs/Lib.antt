@@ -1,8 +1,4 @@
 pub use Rattle.golog_tree.specs.Ground
-pub mod Reading
-pub mod Drafts
-pub mod DraftPlaces
-pub mod DraftOrder
 pub mod Truth
 pub mod Modes
 pub mod Program
@@ -45,15 +41,8 @@ pub mod FitLaws
 pub mod Written
 pub mod BuiltIn
 pub mod WellFormed
-pub mod FollowedRuns
-pub mod ProgLaws
-pub mod Tidied
-pub mod WorldLaws
 pub mod ReportLaws
 pub mod NumberLaws
 pub mod RunLaws
-pub mod KnowledgeLaws
-pub mod Theories
-pub mod Examples
-pub mod WrongExamples
+pub mod FaultLaws
 pub mod SortLaws

@@ -1,15 +1,12 @@
 -- Laws of the modes: what is certain is near, and what is near is possible.
-use Rattle.std.specs.Prelude.{◌≡◌, IsTrue, not, Contains}
-use Rattle.std.specs.List.{list_all}
+use Rattle.std.specs.Prelude.{◌≡◌, IsTrue, not}
 use Rattle.golog_tree.specs.declared.agent.Agent.{Agent}
 use Rattle.golog_tree.specs.declared.prog.Prog.{Prog}
 use Rattle.golog_semantics.specs.declared.Mode.{Mode}
 use Rattle.golog_semantics.specs.declared.Mode.TheVariants.{Must, May, Near}
-use Rattle.golog_semantics.specs.declared.search.Move.{Move}
 use Rattle.golog_semantics.specs.Truth.{Values}
 use Rattle.golog_semantics.specs.Ways.{is_empty}
 use Rattle.golog_semantics.specs.Search.{final}
-use Rattle.golog_semantics.specs.FollowedRuns.{runs_within}
 use Rattle.golog_semantics.specs.Moves.{plain_moves}
 use Rattle.golog_semantics.specs.Blocks.{moves}
 use Rattle.golog_semantics.specs.BlockFree.{has_block}
@@ -43,22 +40,8 @@ BlocklessSteps =
     (agent : Agent) (values : Values) (m : Mode) (p : Prog) → IsTrue (not (has_block agent p))
     → moves agent values m p ≡ plain_moves agent values m p
 
--- where no step is near, none is certain, search blocks and runs under way included
-abbrev pub NoNearNoCertain : Type 0
-NoNearNoCertain =
-    (agent : Agent) → IsTrue (list_all (λ item. runs_within item.body) agent.procs)
-    → (values : Values) (p : Prog) → IsTrue (runs_within p)
-    → IsTrue (is_empty (moves agent values Near p)) → IsTrue (is_empty (moves agent values Must p))
-
 -- where no step is possible, none is near
 abbrev pub NoPossibleNoNear : Type 0
 NoPossibleNoNear =
     (agent : Agent) (values : Values) (p : Prog)
     → IsTrue (is_empty (moves agent values May p)) → IsTrue (is_empty (moves agent values Near p))
-
--- a run under way in what a step leaves may be found by a search within its depth
-abbrev pub RunsStayWithin : Type 0
-RunsStayWithin =
-    (agent : Agent) → IsTrue (list_all (λ item. runs_within item.body) agent.procs)
-    → (values : Values) (m : Mode) (p : Prog) → IsTrue (runs_within p)
-    → (step : Move) → Contains (moves agent values m p) step → IsTrue (runs_within step.left)

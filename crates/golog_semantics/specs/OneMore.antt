@@ -133,9 +133,9 @@ NewRunsAreFound = (runs : List PlacedRun) (place : ℕ) → BeginBefore place ru
 
 -- an online execution is one so far in which the program has ended and each device is closed
 pub record WholeIsOnline (agent : Agent) (report : Report) : Type 0 where
-  pub whole : IsOnlineSoFar agent report → IsTrue (is_whole agent None report.entries) → IsOnline agent report
+  pub whole : IsOnlineSoFar agent report → IsTrue (is_whole agent report.entries) → IsOnline agent report
   pub so_far : IsOnline agent report → IsOnlineSoFar agent report
-  pub ended : IsOnline agent report → IsTrue (is_whole agent None report.entries)
+  pub ended : IsOnline agent report → IsTrue (is_whole agent report.entries)
 
 abbrev pub OnlineIsWhole : Type 0
 OnlineIsWhole = (agent : Agent) (report : Report) → WholeIsOnline agent report

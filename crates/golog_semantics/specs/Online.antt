@@ -3,7 +3,7 @@
 -- That a program commits to a step which is certain at the history so far, and that sensing and exogenous
 -- actions stand in the history as they come, is online execution (De Giacomo and Levesque 1999; the IndiGolog
 -- chapter, 2009). The rules on devices, on what is printed and on how a program ends are this project's own.
-use Rattle.std.specs.Prelude.{◌≡◌, ℕ, Bool, true, false, not, ◌+◌, ◌==◌, nat_lt, nat_le, ◌&&◌, ◌||◌, if◌then◌else◌, Option, Some, None, List, [], ◌∷◌, length, filter, take, slice_get}
+use Rattle.std.specs.Prelude.{◌≡◌, ℕ, Bool, true, false, not, ◌+◌, ◌==◌, nat_lt, nat_le, IsTrue, ◌&&◌, ◌||◌, if◌then◌else◌, Option, Some, None, List, [], ◌∷◌, ◌++◌, length, filter, take, slice_get}
 use Rattle.std.specs.List.{list_any, list_all}
 use Rattle.std.specs.Option.{option_map_or, option_or}
 use Rattle.golog_tree.specs.declared.agent.Agent.{Agent}
@@ -165,6 +165,19 @@ module _ (agent : Agent) (before : Journal) where
   keeps_text runs None e = true
   keeps_text runs (Some lines) e = same_line (slice_get lines (length before)) (line_text agent runs before e)
 
+  -- the entry keeps the rules, with these runs printed
+  pub record Keeps (runs : List PlacedRun) (e : Entry) : Type 0 where
+    pub after : IsTrue (keeps_after e)
+    pub poster : IsTrue (keeps_poster e)
+    pub place : IsTrue (keeps_place e)
+    pub taken : IsTrue (keeps_taken e)
+    pub step : IsTrue (keeps_step (values_after agent before) (left_after agent before) e)
+    pub run :
+        IsTrue
+        (keeps_run (run_at runs (length before)) (values_after agent before) (left_after agent before) e)
+    pub answer : IsTrue (keeps_answer (values_after agent before) (left_after agent before) e)
+    pub close : IsTrue (keeps_close e)
+
   -- the rules in their order, with the values before the entry and the program left there
   abbrev pub rules_at : List PlacedRun → Option (List Text) → Values → Prog → Entry → List (Why × Bool)
   rules_at runs lines values p e =
@@ -178,6 +191,25 @@ module _ (agent : Agent) (before : Journal) where
       ∷ (why.Close, keeps_close e)
       ∷ (why.Text, keeps_text runs lines e)
       ∷ [])
+
+-- the program has ended and each device is closed
+abbrev pub is_whole : Agent → Journal → Bool
+is_whole agent journal = has_end journal && not (list_any (λ d. is_open d journal) (devices agent))
+
+-- wherever an entry stands, it keeps the rules, given the entries before it
+abbrev pub EachKeeps : Agent → Report → Type 0
+EachKeeps agent report =
+    (before : Journal) (e : Entry) (later : Journal) → report.entries ≡ before ++ e ∷ later
+    → Keeps agent before report.runs e
+
+-- an online execution of the agent's program
+pub record IsOnline (agent : Agent) (report : Report) : Type 0 where
+  pub entries : EachKeeps agent report
+  pub whole : IsTrue (is_whole agent report.entries)
+
+-- the beginning of one
+pub record IsOnlineSoFar (agent : Agent) (report : Report) : Type 0 where
+  pub entries : EachKeeps agent report
 
 -- a place and the first rule that fails there
 pub record Fault : Type 0 where
@@ -206,23 +238,11 @@ module _ (agent : Agent) (lines : Option (List Text)) where
   unfoldable pub first_fault : Report → Option Fault
   first_fault report = first_some (at_each (fault_at report.runs) [] report.entries)
 
-  -- the program has ended and each device is closed
-  abbrev pub is_whole : Journal → Bool
-  is_whole journal = has_end journal && not (list_any (λ d. is_open d journal) (devices agent))
-
   -- a journal that is not whole breaks the last rule, after its last entry
   abbrev pub too_short : Journal → Option Fault
   too_short journal =
-      if is_whole journal then None else Some (record { place = length journal; why = why.Short })
+      if is_whole agent journal then None else Some (record { place = length journal; why = why.Short })
 
   -- the first fault of a report, read from these lines where they are given
   unfoldable pub fault_of : Report → Option Fault
   fault_of report = option_or (first_fault report) (too_short report.entries)
-
--- an online execution of the agent's program
-unfoldable pub IsOnline : Agent → Report → Type 0
-IsOnline agent report = fault_of agent None report ≡ None
-
--- the beginning of one
-unfoldable pub IsOnlineSoFar : Agent → Report → Type 0
-IsOnlineSoFar agent report = first_fault agent None report ≡ None

@@ -5,9 +5,7 @@ use Rattle.golog_base.specs.Names.{is_name}
 use Rattle.golog_tree.specs.declared.agent.Agent.{Agent}
 use Rattle.golog_tree.specs.declared.agent.SortItem.{SortItem}
 use Rattle.golog_tree.specs.declared.agent.SortItem.TheVariants.{Range, Listed}
-use Rattle.golog_semantics.specs.declared.journal.Report.{Report}
-use Rattle.golog_semantics.specs.Text.{Text, report_text}
-use Rattle.golog_semantics.specs.Reports.{IsReport, Spells}
+use Rattle.golog_semantics.specs.Text.{Text}
 use Rattle.golog_semantics.specs.WellFormed.{WellFormed}
 
 -- names, no two of them the same
@@ -26,18 +24,6 @@ pub record TellsApart (agent : Agent) : Type 0 where
   pub devices : AreDistinctNames agent.devices
   pub actions : AreDistinctNames (map (λ item. item.name) agent.actions)
   pub constants : (sort : ℕ) (item : SortItem) → slice_get agent.sorts sort ≡ Some item → HasConstants item
-
--- reports with the same text are the same
-abbrev pub TextTellsReports : Type 0
-TextTellsReports =
-    (agent : Agent) → TellsApart agent → (one other : Report) → IsReport agent one → IsReport agent other
-    → report_text agent one ≡ report_text agent other → one ≡ other
-
--- bytes spell one report at most
-abbrev pub OneReportIsSpelled : Type 0
-OneReportIsSpelled =
-    (agent : Agent) → TellsApart agent → (bytes : Text) (one other : Report)
-    → Spells agent bytes one → Spells agent bytes other → one ≡ other
 
 -- the ends of sorts of whole numbers are in the range of their type
 abbrev pub RangesFit : Agent → Type 0

@@ -11,7 +11,7 @@ use Rattle.golog_semantics.specs.Values.{fluent_sort, cause_for, after}
 use Rattle.golog_semantics.specs.Journal.{Journal}
 use Rattle.golog_semantics.specs.Progress.{values_after}
 use Rattle.golog_semantics.specs.Online.{IsOnlineSoFar}
-use Rattle.golog_semantics.specs.Reports.{is_value, IsReport}
+use Rattle.golog_semantics.specs.Reports.{is_value}
 use Rattle.golog_semantics.specs.WellFormed.{WellFormed}
 
 module _ (agent : Agent) where
@@ -63,11 +63,6 @@ StepsStayInSorts =
     (agent : Agent) → WellFormed agent
     → (values : Values) (label : Label) → AreInSorts agent values
     → AreInSorts agent (after agent values label)
-
--- the results of a report that has a text are values of their fluents
-abbrev pub ResultsOfReportsFit : Type 0
-ResultsOfReportsFit = (agent : Agent) (report : Report) → IsReport agent report
-    → ResultsFit agent report.entries
 
 -- the values of a well-formed agent are in their sorts after each online execution so far
 abbrev pub OnlineStaysInSorts : Type 0

@@ -17,6 +17,7 @@ use Rattle.golog_tree.specs.Ground.{item_size, sort_size, ground_fluents, IsCoun
 use Rattle.golog_semantics.specs.Truth.{unknown}
 use Rattle.golog_semantics.specs.Values.{fluent_sort}
 use Rattle.golog_semantics.specs.Ways.{is_empty}
+use Rattle.golog_semantics.specs.Journal.{device_limit}
 use Rattle.golog_semantics.specs.Guarded.{IsGuarded}
 use Rattle.golog_semantics.specs.FrontCalls.{front_nests}
 use Rattle.golog_semantics.specs.BuiltIn.{HasBuiltIn, NamesFit}
@@ -27,7 +28,7 @@ use Rattle.golog_semantics.specs.Written.{is_written_term, is_written_cond, is_w
 -- how many items of each kind an agent has at most; of causes, two are built in
 pub record IsSmall (agent : Agent) : Type 0 where
   pub sorts : length agent.sorts ≤ 64
-  pub devices : length agent.devices ≤ 16
+  pub devices : length agent.devices ≤ device_limit
   pub causes : length agent.causes ≤ 1024 + 2
   pub procs : length agent.procs ≤ 256
 

@@ -1,11 +1,10 @@
-//! Laws of journals and their texts, of runs, of knowledge, and of values in their sorts.
+//! Laws of journals, of runs, of names and numbers, and of values in their sorts.
 ghost use Rattle.golog_semantics.specs.OneMore.{OneMoreEntry, OneMorePosted, OneMoreStep, OneMoreCommand, OneMoreLine, NothingWithoutDevices, LaterRunsChangeNothing, NewRunsAreFound, OnlineIsWhole};
-ghost use Rattle.golog_semantics.specs.ReportLaws.{TextTellsReports, OneReportIsSpelled, NamesTellApart};
-ghost use Rattle.golog_semantics.specs.SortLaws.{SortsStay, StartsAreInSorts, ValuesStayInSorts, StepsStayInSorts, ResultsOfReportsFit, OnlineStaysInSorts};
+ghost use Rattle.golog_semantics.specs.FaultLaws.{NoFaultIsOnline};
+ghost use Rattle.golog_semantics.specs.ReportLaws.{NamesTellApart};
+ghost use Rattle.golog_semantics.specs.SortLaws.{SortsStay, StartsAreInSorts, ValuesStayInSorts, StepsStayInSorts, OnlineStaysInSorts};
 ghost use Rattle.golog_semantics.specs.NumberLaws.{GroundThingsHaveOneNumber};
 ghost use Rattle.golog_semantics.specs.RunLaws.{BestIsLeast, RunsAreSound, LevelsAreReached};
-ghost use Rattle.golog_semantics.specs.Laws.{RunsStay};
-ghost use Rattle.golog_semantics.specs.KnowledgeLaws.{WaysSettle, StepsKeepKnowledge};
 
 /// With one more entry, a journal has ended if it had or the entry is its end, counts the entry
 /// where that is counted, stays full, and ends with the entry.
@@ -60,16 +59,10 @@ pub fn online_is_whole()
     ensures { OnlineIsWhole }
 {}
 
-/// Two reports that have the same text are the same, where the devices, the actions and the
-/// constants of each sort have names of their own.
-pub fn text_tells_reports()
-    ensures { TextTellsReports }
-{}
-
-/// Bytes spell one report at most, where the devices, the actions and the constants of each sort
-/// have names of their own.
-pub fn one_report_is_spelled()
-    ensures { OneReportIsSpelled }
+/// An entry has no fault exactly where it keeps the rules, and a report exactly where it is an
+/// online execution; where lines are given, these are also its text.
+pub fn no_fault_is_online()
+    ensures { NoFaultIsOnline }
 {}
 
 /// A ground action or fluent has the number at which it stands among all of them, so no two numbers
@@ -93,22 +86,6 @@ pub fn runs_are_sound()
 /// A level of a search holds exactly the states that so many ways reach, each once.
 pub fn levels_are_reached()
     ensures { LevelsAreReached }
-{}
-
-/// A run that goes through still does where more is known.
-pub fn runs_stay()
-    ensures { RunsStay }
-{}
-
-/// Where more is known, a program without blocks has all its certain ways and ends still, and no
-/// new possible ones.
-pub fn ways_settle()
-    ensures { WaysSettle }
-{}
-
-/// More knowledge before a step is more knowledge after it.
-pub fn steps_keep_knowledge()
-    ensures { StepsKeepKnowledge }
 {}
 
 /// The devices, the actions and the constants of a well-formed agent have names of their own.
@@ -136,11 +113,6 @@ pub fn values_stay_in_sorts()
 /// The values of a well-formed agent that are in their sorts are so after a step.
 pub fn steps_stay_in_sorts()
     ensures { StepsStayInSorts }
-{}
-
-/// The results of a report that has a text are values of their fluents.
-pub fn results_of_reports_fit()
-    ensures { ResultsOfReportsFit }
 {}
 
 /// The values of a well-formed agent are in the sorts of their fluents, or unknown, after each

@@ -1,8 +1,5 @@
-ghost use Rattle.golog_semantics.specs.WorldLaws.{CertainBlocksAreSo, PlainStepsAreSo, RunsLead};
-ghost use Rattle.golog_semantics.specs.Tidied.{LeftsAreTidy};
-ghost use Rattle.golog_semantics.specs.ProgLaws.{ConstantsPutIn, PlainlyWritten, WellFormedHasNoRuns};
 ghost use Rattle.golog_semantics.specs.FitLaws.{LeftStays, StepsStay, WellFormedFits};
-ghost use Rattle.golog_semantics.specs.ModeLaws.{BlocklessSteps, EndsOrdered, NearStepsArePossible, NoNearNoCertain, NoPossibleNoNear, PlainStepsOrdered, RunsStayWithin};
+ghost use Rattle.golog_semantics.specs.ModeLaws.{BlocklessSteps, EndsOrdered, NearStepsArePossible, NoPossibleNoNear, PlainStepsOrdered};
 ghost use Rattle.golog_semantics.specs.StepLaws.{FinalSettles, FinalUnfolds, GuardedByReach, MovesSettle, MovesUnfold, StepsUnfold};
 
 /// For a guarded agent, looking deeper changes nothing of Final.
@@ -70,54 +67,7 @@ pub fn blockless_steps()
     ensures { BlocklessSteps }
 {}
 
-/// Where no step is near, none is certain.
-pub fn no_near_no_certain()
-    ensures { NoNearNoCertain }
-{}
-
 /// Where no step is possible, none is near.
 pub fn no_possible_no_near()
     ensures { NoPossibleNoNear }
-{}
-
-/// A run under way in what a step leaves may be found by a search within its depth.
-pub fn runs_stay_within()
-    ensures { RunsStayWithin }
-{}
-
-/// A constant that is put in goes into the parts of a tidy program, and changes neither nest nor front.
-pub fn constants_put_in()
-    ensures { ConstantsPutIn }
-{}
-
-/// Writing runs under way as blocks goes along with tidying, with constants put in, and with fronts.
-pub fn plainly_written()
-    ensures { PlainlyWritten }
-{}
-
-/// No run is under way in a well-formed agent as it is read.
-pub fn well_formed_has_no_runs()
-    ensures { WellFormedHasNoRuns }
-{}
-
-/// What a step leaves of a tidy program is tidy.
-pub fn lefts_are_tidy()
-    ensures { LeftsAreTidy }
-{}
-
-/// Without blocks, the certain steps are steps of each world in which all is so that is known, and the
-/// steps of such a world are possible ones. So it is with ends.
-pub fn plain_steps_are_so()
-    ensures { PlainStepsAreSo }
-{}
-
-/// A run that goes through leads to an end in each world in which all is so that is known.
-pub fn runs_lead()
-    ensures { RunsLead }
-{}
-
-/// The certain step of a search block is, in each world in which all is so that is known, a step of its
-/// body after which the body can still end.
-pub fn certain_blocks_are_so()
-    ensures { CertainBlocksAreSo }
 {}

@@ -1,0 +1,10 @@
+pub mod FollowedRuns
+pub mod ProgLaws
+pub mod Tidied
+pub mod WorldLaws
+pub mod KnowledgeLaws
+pub mod Theories
+pub mod Examples
+pub mod WrongExamples
+pub mod TextLaws
+pub mod Within

@@ -1,0 +1,19 @@
+//! Laws of reports and their texts.
+ghost use Rattle.golog_laws.specs.TextLaws.{OneReportIsSpelled, ResultsOfReportsFit, TextTellsReports};
+
+/// Two reports that have the same text are the same, where the devices, the actions and the
+/// constants of each sort have names of their own.
+pub fn text_tells_reports()
+    ensures { TextTellsReports }
+{}
+
+/// Bytes spell one report at most, where the devices, the actions and the constants of each sort
+/// have names of their own.
+pub fn one_report_is_spelled()
+    ensures { OneReportIsSpelled }
+{}
+
+/// The results of a report that has a text are values of their fluents.
+pub fn results_of_reports_fit()
+    ensures { ResultsOfReportsFit }
+{}

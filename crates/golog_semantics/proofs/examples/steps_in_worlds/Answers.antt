@@ -1,5 +1,0 @@
-use Rattle.golog_semantics.proofs.WrongExamples.{steps_in_worlds}
-use Rattle.golog_semantics.proofs.examples.steps_in_worlds.Goals as goal
-
-pub returns : goal.returns
-returns c = steps_in_worlds

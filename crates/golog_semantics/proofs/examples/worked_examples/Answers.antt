@@ -1,5 +1,0 @@
-use Rattle.golog_semantics.proofs.OnlineExamples.{worked_examples}
-use Rattle.golog_semantics.proofs.examples.worked_examples.Goals as goal
-
-pub returns : goal.returns
-returns c = worked_examples

@@ -1,5 +1,0 @@
-use Rattle.golog_semantics.proofs.WrongExamples.{wrong_journals}
-use Rattle.golog_semantics.proofs.examples.wrong_journals.Goals as goal
-
-pub returns : goal.returns
-returns c = wrong_journals

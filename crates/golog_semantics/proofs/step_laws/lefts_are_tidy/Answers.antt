@@ -1,5 +1,0 @@
-use Rattle.golog_semantics.proofs.TidyStays.{lefts_tidy}
-use Rattle.golog_semantics.proofs.step_laws.lefts_are_tidy.Goals as goal
-
-pub returns : goal.returns
-returns c = λ agent bodies values m p h step k. lefts_tidy agent bodies values m p h step k

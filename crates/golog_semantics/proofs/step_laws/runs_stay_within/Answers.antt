@@ -1,5 +1,0 @@
-use Rattle.golog_semantics.proofs.RunsStayWithin.{runs_stay_within}
-use Rattle.golog_semantics.proofs.step_laws.runs_stay_within.Goals as goal
-
-pub returns : goal.returns
-returns c = λ agent bodies values m p h step k. runs_stay_within agent bodies values m p h step k
