@@ -1,0 +1,4 @@
+pub mod Reading
+pub mod Order
+pub mod Answers
+pub mod Least
