@@ -6,8 +6,8 @@ use Rattle.golog_tree.specs.declared.draft_prog.DraftProg.TheVariants as draft
 use Rattle.golog_tree.specs.declared.draft_prog.DraftProg.TheOpen.{If, Search}
 use Rattle.golog_tree.specs.declared.draft_prog.DraftProg.TheFolds.{fold-roll-DraftProg}
 use Rattle.golog_semantics.specs.BlockFree.{has_block_by}
-use Rattle.golog_check.specs.declared.least.Refusal.{Refusal}
-use Rattle.golog_check.specs.Least.{CodeAt, IsLeastOf}
+use Rattle.golog_rows.specs.declared.least.Refusal.{Refusal}
+use Rattle.golog_rows.specs.Least.{CodeAt, IsLeastOf}
 use Rattle.golog_check.specs.Unguarded.{refused_where}
 use Rattle.golog_check.specs.DraftBlocks.{Blocks, blocks_step, blocks_of, block_refusals, numbers_fit}
 

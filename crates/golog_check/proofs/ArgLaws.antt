@@ -13,12 +13,12 @@ use Rattle.golog_tree.specs.declared.cond.Arg.TheVariants.{Const, Var}
 use Rattle.golog_tree.specs.declared.draft_cond.DraftArg.{DraftArg}
 use Rattle.golog_tree.specs.declared.draft_cond.DraftArg.TheVariants.{Word, Number}
 use Rattle.golog_tree.specs.Ground.{to_count, item_size, size_at, sort_size}
-use Rattle.golog_semantics.specs.DraftPlaces.{arg_place}
-use Rattle.golog_semantics.specs.Reading.{found, each}
+use Rattle.golog_draft.specs.DraftPlaces.{arg_place}
+use Rattle.golog_rows.specs.Reading.{found, each}
 use Rattle.golog_semantics.specs.Fits as fits
 use Rattle.golog_semantics.specs.Fits.{arg_fits, args_fit}
 use Rattle.golog_check.specs.declared.scope.Meant.{Meant}
-use Rattle.golog_check.specs.declared.fault.TheConstants.{SORT_CLASH, UNBOUND}
+use Rattle.golog_check.specs.Codes.{SORT_CLASH, UNBOUND}
 use Rattle.golog_check.specs.DeclaredItems.{Declared}
 use Rattle.golog_check.specs.Sorts.{same, place_of_word, place_of_number, listing, constant_of, constant, number_in}
 use Rattle.golog_check.specs.Scope.{Scope, variable_no, innermost, or_else, meaning}

@@ -8,7 +8,7 @@ use Rattle.golog_tree.specs.declared.cond.Cond.{Cond}
 use Rattle.golog_tree.specs.declared.draft_cond.DraftCond.{DraftCond}
 use Rattle.golog_semantics.specs.Fits.{is_sort, nothing_bound}
 use Rattle.golog_semantics.specs.WellFormed.{WellFormed, are_sorts, fluent_item_fits}
-use Rattle.golog_semantics.specs.Drafts.{AgentCondKeeps}
+use Rattle.golog_draft.specs.Drafts.{AgentCondKeeps}
 use Rattle.golog_semantics.proofs.Tests.{and_both, and_cases}
 use Rattle.golog_check.specs.DeclaredItems.{Declared, HasFewSorts, declared_in}
 use Rattle.golog_check.specs.declared.fault.CheckFault.{CheckFault}

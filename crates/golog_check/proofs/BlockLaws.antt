@@ -17,7 +17,7 @@ use Rattle.golog_semantics.specs.ProgFits.{is_between, depth_limit, fuel_limit}
 use Rattle.golog_semantics.proofs.Tests.{and_both, and_cases, neither_first, neither_second}
 use Rattle.golog_check.specs.declared.programs.Join.{Join}
 use Rattle.golog_check.specs.declared.programs.Join.TheVariants.{Seq as InSeq, Choice as InChoice, Conc as InConc, Prio as InPrio}
-use Rattle.golog_check.specs.Least.{CodeAt}
+use Rattle.golog_rows.specs.Least.{CodeAt}
 use Rattle.golog_check.specs.Programs.{nested}
 use Rattle.golog_check.specs.ProgramLaws as keeping
 use Rattle.golog_check.specs.ProgramLaws.{blocks_keep}

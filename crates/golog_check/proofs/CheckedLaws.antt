@@ -1,13 +1,14 @@
 -- One more item that is checked.
 use Rattle.std.proofs.Common.{◌≡◌, List, [], ◌∷◌, ◌++◌, Option, Result, Ok, Err, refl, sym, ap, subst, ◌∙◌, append_assoc}
 use Rattle.std.proofs.lemmas.List.{append-nil}
-use Rattle.golog_semantics.specs.Reading.{Reading}
+use Rattle.golog_rows.specs.Reading.{Reading}
 use Rattle.golog_check.specs.declared.checked.Checked.{Checked}
 use Rattle.golog_check.specs.declared.fault.CheckFault.{CheckFault}
 use Rattle.golog_check.specs.declared.fault.CheckFault.TheVariants.{Refused, Memory}
-use Rattle.golog_check.specs.declared.least.Refusal.{Refusal}
+use Rattle.golog_rows.specs.declared.least.Refusal.{Refusal}
 use Rattle.golog_check.specs.Faults.{Answers}
-use Rattle.golog_check.specs.Least.{CodeAt, IsLeastOf, refusal_of, refusals, value_of, given}
+use Rattle.golog_rows.specs.Least.{CodeAt, IsLeastOf}
+use Rattle.golog_check.specs.Least.{refusal_of, refusals, value_of, given}
 use Rattle.golog_check.specs.Checked.{AddsTo, Lowers}
 
 module _ {A : Type 0} where

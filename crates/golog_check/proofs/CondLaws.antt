@@ -18,14 +18,14 @@ use Rattle.golog_tree.specs.declared.draft_cond.DraftCond.TheOpen as draft
 use Rattle.golog_tree.specs.declared.draft_cond.DraftCond.TheOpen.{DraftCond-F}
 use Rattle.golog_tree.specs.declared.draft_cond.DraftCond.TheViews.{roll-DraftCond}
 use Rattle.golog_tree.specs.declared.draft_cond.DraftCond.TheFolds.{fold-roll-DraftCond, ind-DraftCond, map-DraftCond}
-use Rattle.golog_semantics.specs.Reading.{Reading, gives, row, ◌>>=◌, found, each}
+use Rattle.golog_rows.specs.Reading.{Reading, gives, row, ◌>>=◌, found, each}
 use Rattle.golog_semantics.specs.Fits as fits
 use Rattle.golog_semantics.specs.Fits.{bool_sort, is_sort, is_range, cond_fits, term_fits}
 use Rattle.golog_semantics.specs.Written.{Wording, written_sides, written_cond_step, written_term_step, is_written_cond}
-use Rattle.golog_semantics.specs.Drafts.{fluent_keeps, term_keeps, binder_keeps, cond_keeps, cond_keeps_step}
+use Rattle.golog_draft.specs.Drafts.{fluent_keeps, term_keeps, binder_keeps, cond_keeps, cond_keeps_step}
 use Rattle.golog_semantics.proofs.Tests.{and_both, and_cases}
 use Rattle.golog_check.specs.declared.terms.Sides.{Sides}
-use Rattle.golog_check.specs.declared.fault.TheConstants.{SORT_CLASH}
+use Rattle.golog_check.specs.Codes.{SORT_CLASH}
 use Rattle.golog_check.specs.DeclaredItems.{Declared}
 use Rattle.golog_check.specs.Sorts as sorts
 use Rattle.golog_check.specs.Sorts.{fluent_sort, fluent_sorts}

@@ -10,16 +10,17 @@ use Rattle.golog_tree.specs.declared.draft_cond.DraftCond.TheOpen as draft
 use Rattle.golog_tree.specs.declared.draft_cond.DraftCond.TheOpen.{DraftCond-F}
 use Rattle.golog_tree.specs.declared.draft_cond.DraftCond.TheViews.{roll-DraftCond}
 use Rattle.golog_tree.specs.declared.draft_cond.DraftCond.TheFolds.{fold-roll-DraftCond, ind-DraftCond, map-DraftCond}
-use Rattle.golog_semantics.specs.Reading.{gives, ◌>>=◌, each}
+use Rattle.golog_rows.specs.Reading.{gives, ◌>>=◌, each}
 use Rattle.golog_check.specs.declared.terms.Sides.{Sides}
 use Rattle.golog_check.specs.DeclaredItems.{Declared}
 use Rattle.golog_check.specs.Sorts.{fluent_sorts}
 use Rattle.golog_check.specs.Scope.{Scope, variable_no, within}
 use Rattle.golog_check.specs.Terms.{args_in, sides_in}
 use Rattle.golog_check.specs.Conditions.{InScope, conds_in, is_in, cond_step, cond_in}
-use Rattle.golog_semantics.specs.DraftPlaces.{arg_places, term_places, joined, cond_places_step, cond_places}
-use Rattle.golog_semantics.specs.DraftOrder.{Ascend}
-use Rattle.golog_check.proofs.Rows.{key, chain-low, Spans, then-spans, gives-spans, halves, ascend-le}
+use Rattle.golog_draft.specs.DraftPlaces.{arg_places, term_places, joined, cond_places_step, cond_places}
+use Rattle.golog_draft.specs.DraftOrder.{Ascend}
+use Rattle.golog_rows.proofs.Chain.{key, chain-low, Spans, then-spans, gives-spans}
+use Rattle.golog_check.proofs.Halves.{halves, ascend-le}
 use Rattle.golog_check.proofs.TermOrder.{args-spans, sides-spans}
 
 module _ (names : Declared) where
@@ -43,6 +44,7 @@ module _ (names : Declared) where
     unfolding is_in
     is-spans fluent at from args to c = (
       omega (arith, c.0),
+      omega arith,
       omega arith,
       chain-low (key at 30) (64 * (at + 1)) (64 * to) (args_in names scope (fluent_sorts names fluent) args).rows (omega arith)
           (args-spans names scope (fluent_sorts names fluent) (at + 1) args to c.1),

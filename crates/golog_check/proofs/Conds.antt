@@ -5,11 +5,11 @@ use Rattle.golog_tree.specs.declared.draft_cond.DraftCond.{DraftCond}
 use Rattle.golog_tree.specs.declared.draft_cond.DraftCond.TheVariants as draft
 use Rattle.golog_tree.specs.declared.draft_cond.DraftCond.TheOpen.{And, Or}
 use Rattle.golog_tree.specs.declared.draft_cond.DraftCond.TheFolds.{fold-roll-DraftCond}
-use Rattle.golog_semantics.specs.Reading.{◌>>=◌, each}
+use Rattle.golog_rows.specs.Reading.{◌>>=◌, each}
 use Rattle.golog_check.specs.DeclaredItems.{Declared}
 use Rattle.golog_check.specs.Scope.{Scope}
 use Rattle.golog_check.specs.Conditions.{InScope, cond_step, cond_in}
-use Rattle.golog_check.proofs.Each.{drop-item}
+use Rattle.golog_rows.proofs.Each.{drop-item}
 
 pub conds-drop : (names : Declared) (scope : Scope) (done : List Cond) (drafts : List DraftCond) (i : ℕ) (c : DraftCond) → i < length drafts → c ≡ get_or drafts i c
     → each (λ (_ : List Cond) (cond : InScope). cond scope) done (map (cond_in names) (drop i drafts))

@@ -15,8 +15,8 @@ use Rattle.golog_tree.specs.declared.draft.DraftSort.TheVariants.{Range, Listed}
 use Rattle.golog_tree.specs.declared.draft.DraftFluent.{DraftFluent}
 use Rattle.golog_tree.specs.declared.draft.DraftAction.{DraftAction}
 use Rattle.golog_tree.specs.declared.draft.DraftSense.{DraftSense}
-use Rattle.golog_tree.specs.Ground.{item_size, to_count, product, sizes, ground_count, IsCountable}
-use Rattle.golog_semantics.specs.Drafts.{TheoryKeeps, draft_sort_keeps, draft_args_keep, draft_fluent_keeps, draft_action_keeps, draft_sense_keeps}
+use Rattle.golog_tree.specs.Ground.{item_size, to_count, product, sizes, ground_count, numbered, IsCountable}
+use Rattle.golog_draft.specs.Drafts.{TheoryKeeps, draft_sort_keeps, draft_args_keep, draft_fluent_keeps, draft_action_keeps, draft_sense_keeps}
 use Rattle.golog_semantics.proofs.Tests.{and_both, and_cases}
 use Rattle.golog_check.specs.DeclaredItems.{HasFewSorts, sort_item, fluent_item, action_item}
 use Rattle.golog_check.specs.Sums.{Counted, size_in, count_in, sum_from, fluent_counted, action_counted, fluent_sum, action_sum, AreSmall, HaveFewArgs}
@@ -166,7 +166,7 @@ module _ (theory : DraftTheory) (keeps : TheoryKeeps theory) where
       ∙ sym (sum_by-cons (λ (i : Counted). count_in (map sort_item theory.sorts) i.0) (action_counted item) (map action_counted items))
 
   -- where the sums are in their limits, ground things can be numbered
-  pub countable : (fluent_sum theory).outcome ≡ Ok tt → (action_sum theory).outcome ≡ Ok tt → IsCountable (bare theory)
+  pub countable : (fluent_sum theory).outcome ≡ Ok tt → (action_sum theory).outcome ≡ Ok tt → IsCountable (numbered (bare theory))
   countable f a =
       let fs = sum-within (map sort_item theory.sorts) 4096 0 (map fluent_counted theory.fluents) (omega arith) f in
       let acts = sum-within (map sort_item theory.sorts) 65536 0 (map action_counted theory.actions) (omega arith) a in
@@ -186,4 +186,6 @@ module _ (theory : DraftTheory) (keeps : TheoryKeeps theory) where
         actions = omega (arith, acts, an, length-map theory.actions action_counted, length-map theory.actions action_item);
         ground_fluents = omega (arith, fs, fe);
         ground_actions = omega (arith, acts, ae);
+        first_fluents = refl;
+        first_actions = refl;
       }

@@ -3,7 +3,7 @@ use Rattle.std.proofs.Common.{◌≡◌, ℕ, ◌+◌, ◌<◌, ◌≤◌, Bool,
 use Rattle.std.proofs.lemmas.List.{append-nil, at_drop_all}
 use Rattle.golog_tree.specs.declared.draft_prog.DraftProg.{DraftProg}
 use Rattle.golog_check.specs.Fronts.{Fore, IsFront, in_row, draft_fore}
-use Rattle.golog_check.proofs.Each.{drop-item}
+use Rattle.golog_rows.proofs.Each.{drop-item}
 
 abbrev before_rest : Fore → Fore → Fore
 before_rest p rest = record { skip = p.skip && rest.skip; calls = p.calls ++ (if p.skip then rest.calls else []) }

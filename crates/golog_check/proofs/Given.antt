@@ -6,11 +6,12 @@ use Rattle.std.proofs.lemmas.Bool.{false_from_ne_true, eqb-true, eq-eqb}
 use Rattle.std.proofs.lemmas.List.Folds.{list_any-append}
 use Rattle.golog_tree.specs.declared.draft.DraftSense.{DraftSense}
 use Rattle.golog_tree.specs.declared.agent.SenseItem.{SenseItem}
-use Rattle.golog_semantics.specs.Reading.{Reading}
+use Rattle.golog_rows.specs.Reading.{Reading}
 use Rattle.golog_semantics.proofs.Tests.{and_both, and_cases, or_first, or_second}
 use Rattle.golog_check.specs.DeclaredItems.{Declared}
 use Rattle.golog_check.specs.Effects.{is_sensed, sense_by, senses_in}
-use Rattle.golog_check.specs.Least.{CodeAt, value_of, given}
+use Rattle.golog_rows.specs.Least.{CodeAt}
+use Rattle.golog_check.specs.Least.{value_of, given}
 
 module _ {B : Type 0} where
   one-all : (q : B → Bool) (o : Result B CodeAt) (rest : List B) → ((y : B) → o ≡ Ok y → q y ≡ true)

@@ -14,10 +14,10 @@ use Rattle.golog_tree.specs.declared.draft.DraftProc.{DraftProc}
 use Rattle.golog_tree.specs.declared.draft.DraftStart.{DraftStart}
 use Rattle.golog_tree.specs.declared.draft.DraftStart.TheVariants.{Each, One}
 use Rattle.golog_tree.specs.declared.draft_cond.DraftArg.{DraftArg}
-use Rattle.golog_semantics.specs.Reading.{Row, Reading, gives, ◌>>=◌}
+use Rattle.golog_rows.specs.Reading.{Row, Reading, gives, ◌>>=◌}
 use Rattle.golog_check.specs.declared.heads.Head.{Head}
 use Rattle.golog_check.specs.declared.starts.Start.TheVariants as start
-use Rattle.golog_check.specs.declared.fault.TheConstants.{BAD_START}
+use Rattle.golog_check.specs.Codes.{BAD_START}
 use Rattle.golog_check.specs.DeclaredItems.{Declared, param_sorts}
 use Rattle.golog_check.specs.Sorts.{fluent_sort, fluent_sorts, action_sorts}
 use Rattle.golog_check.specs.Scope.{scope_of_vars}
@@ -30,9 +30,10 @@ use Rattle.golog_check.specs.Starts.{constant, constant_in, value_in, own_sort, 
 use Rattle.golog_check.specs.Effects.{head_within, is_sensed, poss_in, cause_in, sense_by, senses_in}
 use Rattle.golog_check.specs.Procs.{params_of, proc_in}
 use Rattle.golog_check.specs.Check.{main_in}
-use Rattle.golog_semantics.specs.DraftPlaces.{arg_place, arg_places, term_places, cond_places, value_places, start_places, poss_places, cause_places, sense_places, proc_places, main_places}
-use Rattle.golog_semantics.specs.DraftOrder.{Ascend, AreAscending, Rise}
-use Rattle.golog_check.proofs.Rows.{key, Chain, chain-low, found-chain, if-chain, Spans, then-spans, gives-spans, wider, halves, ascend-le}
+use Rattle.golog_draft.specs.DraftPlaces.{arg_place, arg_places, term_places, cond_places, value_places, start_places, poss_places, cause_places, sense_places, proc_places, main_places}
+use Rattle.golog_draft.specs.DraftOrder.{Ascend, AreAscending, Rise}
+use Rattle.golog_rows.proofs.Chain.{key, Chain, chain-low, found-chain, if-chain, Spans, then-spans, gives-spans, wider}
+use Rattle.golog_check.proofs.Halves.{halves, ascend-le}
 use Rattle.golog_check.proofs.TermOrder.{arg_in-spans, args-spans, term-spans}
 use Rattle.golog_check.proofs.CondOrder.{cond-spans}
 use Rattle.golog_check.proofs.ProgOrder.{prog-spans}
@@ -51,7 +52,7 @@ sum-chain : {T : Type 0} (counted : T → Counted) (sorts : List SortItem) (limi
 sum-chain counted sorts limit [] sum low r = (key low 34, omega arith)
 sum-chain counted sorts limit (item ∷ items) sum low r =
     let rest = sum-chain counted sorts limit items (sum + count_in sorts (counted item).0) (counted item).1 r.1 in
-    (rest.0, (omega (arith, r.0), omega arith, rest.1))
+    (rest.0, (omega (arith, r.0), omega arith, omega arith, rest.1))
 
 pub sum-in-order : {T : Type 0} (counted : T → Counted) (sorts : List SortItem) (limit : ℕ) (items : List T) → Rise 0 (map (λ item. (counted item).1) items)
     → InOrder (sum_from sorts limit 0 (map counted items)).rows
@@ -72,7 +73,7 @@ module _ (names : Declared) where
   unfolding value_in
   value-spans sort from None to c = omega (arith, c)
   value-spans sort from (Some arg) to c =
-      found-chain (64 * from) (64 * to) BAD_START (arg_place arg) (constant_in (arg_in names [] sort arg).outcome) (omega (arith, c.0)) (omega arith) (omega (arith, c.1))
+      found-chain (64 * from) (64 * to) BAD_START (arg_place arg) (constant_in (arg_in names [] sort arg).outcome) (omega (arith, c.0)) (omega arith) (omega arith) (omega (arith, c.1))
 
   one-spans : (fluent from : ℕ) (args : List DraftArg) (value : Option DraftArg) (to : ℕ) → Ascend from (arg_places args ++ value_places value) to → Spans from to (one_in names fluent args value)
   unfolding one_in
@@ -149,6 +150,7 @@ module _ (names : Declared) where
       let args = args_in names scope (fluent_sorts names item.fluent) item.args in (
         omega arith,
         omega arith,
+        omega arith,
         chain-low (key item.at 36) (64 * (item.at + 1)) (64 * to) _ (omega arith)
             (gives-spans (item.at + 1) to args (λ args. record { action = item.action; fluent = item.fluent; args = args })
             (args-spans names scope (fluent_sorts names item.fluent) (item.at + 1) item.args to c.1)),
@@ -171,6 +173,7 @@ module _ (names : Declared) where
   pub main-spans : (main : DraftMain) (to : ℕ) → Ascend 0 (main_places main) to → Spans 0 to (main_in names main)
   unfolding main_in
   main-spans main to c = (
+    omega arith,
     omega arith,
     omega arith,
     chain-low (key main.at 38) (64 * (main.at + 1)) (64 * to) (prog_in names main.body []).rows (omega arith) (prog-spans names main.body [] (main.at + 1) to c.1),

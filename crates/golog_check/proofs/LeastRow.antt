@@ -1,14 +1,9 @@
 -- The least of the first rows that fit is the least of all rows that fit, where the rows of each item stand in order.
-use Rattle.std.proofs.Common.{◌≡◌, ◌⊎◌, ⊎_elim, ℕ, zero, suc, ◌+◌, ◌*◌, ◌<◌, ◌≤◌, Bool, true, false, ◌||◌, List, [], ◌∷◌, ◌++◌, map, Some, None, Result, Ok, Err, refl, sym, ap, subst, ◌∙◌, arith}
-use Rattle.std.specs.Prelude.{not, Contains}
-use Rattle.std.specs.List.{list_all}
-use Rattle.std.proofs.lemmas.Bool.Decides.{nat_tests}
-use Rattle.std.proofs.lemmas.List.Folds.{list_all-append}
+use Rattle.std.proofs.Common.{◌≡◌, ⊎_elim, ℕ, zero, suc, ◌*◌, true, List, [], ◌∷◌, ◌++◌, map, Result, Ok, Err, refl, ap, subst, arith}
 use Rattle.std.proofs.lemmas.List.Elements.{Contains-append_left, Contains-append_right, Contains-append_cases}
-use Rattle.golog_semantics.specs.DraftPlaces.{cond_places, start_places, poss_places, cause_places, proc_places}
-use Rattle.golog_semantics.specs.DraftOrder.{IsAscending, TheoryInOrder, ProgramInOrder}
-use Rattle.golog_semantics.specs.Reading.{Row, first, refusal_in, Reading}
-use Rattle.golog_semantics.proofs.Tests.{and_both, and_cases}
+use Rattle.golog_draft.specs.DraftPlaces.{cond_places, start_places, poss_places, cause_places, proc_places}
+use Rattle.golog_draft.specs.DraftOrder.{IsAscending, TheoryInOrder, ProgramInOrder}
+use Rattle.golog_rows.specs.Reading.{Row, first, refusal_in, Reading}
 use Rattle.golog_tree.specs.declared.agent.Agent.{Agent}
 use Rattle.golog_tree.specs.declared.cond.Cond.{Cond}
 use Rattle.golog_tree.specs.declared.draft_cond.DraftCond.{DraftCond}
@@ -16,7 +11,7 @@ use Rattle.golog_tree.specs.declared.draft.DraftTheory.{DraftTheory}
 use Rattle.golog_tree.specs.declared.draft.DraftProgram.{DraftProgram}
 use Rattle.golog_check.specs.declared.fault.CheckFault.{CheckFault}
 use Rattle.golog_check.specs.declared.fault.CheckFault.TheVariants.{Refused, Memory}
-use Rattle.golog_check.specs.declared.sums.TheConstants.{GROUND_FLUENTS, GROUND_ACTIONS}
+use Rattle.golog_check.specs.Limits.{GROUND_FLUENTS, GROUND_ACTIONS}
 use Rattle.golog_check.specs.DeclaredItems.{Declared, sort_item}
 use Rattle.golog_check.specs.Sums.{fluent_counted, action_counted, fluent_sum, action_sum}
 use Rattle.golog_check.specs.Starts.{start_in}
@@ -26,111 +21,50 @@ use Rattle.golog_check.specs.Procs.{proc_in}
 use Rattle.golog_check.specs.Unguarded.{all_front_refusals}
 use Rattle.golog_check.specs.DraftBlocks.{all_block_refusals}
 use Rattle.golog_check.specs.Check.{main_in, names_of, refusals_in, Checks}
-use Rattle.golog_check.specs.Faults.{Answers}
-use Rattle.golog_check.specs.Least.{CodeAt, goes_before, refusal_of, refusals}
-use Rattle.golog_check.specs.Order.{rows_of, refused_rows, rows_in, is_behind, fits_not, IsLeastRow, all_rows}
-use Rattle.golog_check.proofs.ArgLaws.{some-same}
-use Rattle.golog_check.proofs.LeastLaws.{goes-on}
-use Rattle.golog_check.proofs.Rows.{key, Chain}
+use Rattle.golog_check.specs.Faults.{code_at, Answers}
+use Rattle.golog_rows.specs.Order.{IsNoLater, Fits}
+use Rattle.golog_rows.specs.Least.{CodeAt, IsAmong}
+use Rattle.golog_check.specs.Least.{refusal_of, refusals}
+use Rattle.golog_check.specs.Order.{rows_of, refused_rows, rows_in, IsLeastRow, all_rows}
+use Rattle.golog_rows.proofs.Chain.{none-fits, least, chain-ordered, least_row, first_row}
+use Rattle.golog_rows.proofs.LeastLaws.{no-later-same, no-later-on, alone-is}
 use Rattle.golog_check.proofs.CondOrder.{cond-spans}
 use Rattle.golog_check.proofs.ItemOrder.{InOrder, AreInOrder, sum-in-order, all-in-order, start-spans, poss-spans, cause-spans, senses-in-order, proc-spans, main-spans}
 
-goes-by-key : (c a d b : ℕ) → key a c ≤ key b d → c < 64 → d < 64 → goes_before (c, a) (d, b) ≡ true
-goes-by-key c a d b le small small' = grind (arith, nat_tests)
+-- a refusal that is no later than the code at the place
+abbrev pub Leads : List CodeAt → ℕ → ℕ → Type 0
+Leads refusals d b = (c : ℕ) × (a : ℕ) × IsAmong refusals c a × IsNoLater c a d b
 
-or-true : (fits goes : Bool) → goes ≡ true → (not fits || goes) ≡ true
-or-true true goes e = e
-or-true false goes e = refl
-
-goes-itself : (c a : ℕ) → goes_before (c, a) (c, a) ≡ true
-goes-itself c a = grind (arith, nat_tests)
-
--- what stands behind a row is no earlier
-later : (c a low high : ℕ) (rows : List Row) → key a c ≤ low → c < 64 → Chain low high rows → list_all (is_behind (c, a)) rows ≡ true
-later c a low high [] le small chain = refl
-later c a low high ((fits, code, at) ∷ rows) le small chain =
-    and_both _ _ (or-true fits (goes_before (c, a) (code, at)) (goes-by-key c a code at (omega (arith, le, chain.0)) small chain.1))
-    (later c a (key at code) high rows (omega (arith, le, chain.0)) small chain.2)
-
-behind-on : (c a d b : ℕ) (rows : List Row) → goes_before (c, a) (d, b) ≡ true → list_all (is_behind (d, b)) rows ≡ true → list_all (is_behind (c, a)) rows ≡ true
-behind-on c a d b [] h k = refl
-behind-on c a d b ((true, code, at) ∷ rows) h k =
-    let t = and_cases (goes_before (d, b) (code, at)) (list_all (is_behind (d, b)) rows) k in
-    and_both (goes_before (c, a) (code, at)) (list_all (is_behind (c, a)) rows) (goes-on c a d b code at h t.0) (behind-on c a d b rows h t.1)
-behind-on c a d b ((false, code, at) ∷ rows) h k = behind-on c a d b rows h k
-
-first-behind : (c a d b low high : ℕ) (rows : List Row) → Chain low high rows → first rows ≡ Some (d, b) → goes_before (c, a) (d, b) ≡ true → list_all (is_behind (c, a)) rows ≡ true
-first-behind c a d b low high [] chain e h = absurd cc
-first-behind c a d b low high ((true, code, at) ∷ rows) chain e h =
-    let here : goes_before (c, a) (code, at) ≡ true = subst (λ (r : CodeAt). goes_before (c, a) r ≡ true) (sym (some-same (code, at) (d, b) e)) h in
-    and_both (goes_before (c, a) (code, at)) (list_all (is_behind (c, a)) rows) here
-    (behind-on c a code at rows here (later code at (key at code) high rows (omega arith) chain.1 chain.2))
-first-behind c a d b low high ((false, code, at) ∷ rows) chain e h = first-behind c a d b (key at code) high rows chain.2 e h
-
-one-more : (row other : Row) (rows : List Row) → Contains rows other → Contains (row ∷ rows) other
-one-more row other rows c = (suc c.0, omega (arith, c.1), c.2)
-
-first-fits : (rows : List Row) (code at : ℕ) → first rows ≡ Some (code, at) → Contains rows (true, code, at)
-first-fits [] code at e = absurd cc
-first-fits ((true, code', at') ∷ rows) code at e = (0, omega arith, ap (λ (r : CodeAt). (true, r.0, r.1)) (some-same (code', at') (code, at) e))
-first-fits ((false, code', at') ∷ rows) code at e = one-more (false, code', at') (true, code, at) rows (first-fits rows code at e)
-
-none-fits : (rows : List Row) → first rows ≡ None → list_all fits_not rows ≡ true
-none-fits [] e = refl
-none-fits ((true, code, at) ∷ rows) e = absurd cc
-none-fits ((false, code, at) ∷ rows) e = none-fits rows e
-
-none-behind : (refusal : CodeAt) (rows : List Row) → list_all fits_not rows ≡ true → list_all (is_behind refusal) rows ≡ true
-none-behind refusal [] h = refl
-none-behind refusal ((true, code, at) ∷ rows) h = absurd cc
-none-behind refusal ((false, code, at) ∷ rows) h = none-behind refusal rows h
-
--- the refusals of some rows: each is a row that fits, and what goes before them goes before all rows that fit
+-- the refusals of some rows: each is a row that fits, and of those that fit each has a refusal that is no later
 pub record Covers (refusals : List CodeAt) (rows : List Row) : Type 0 where
-  pub behind : (c a : ℕ) → list_all (goes_before (c, a)) refusals ≡ true → list_all (is_behind (c, a)) rows ≡ true
-  pub fits : (c a : ℕ) → Contains refusals (c, a) → Contains rows (true, c, a)
-  pub none : refusals ≡ [] → list_all fits_not rows ≡ true
-
-cons-not : {A : Type 0} (x : A) (xs : List A) → x ∷ xs ≡ [] → ⊥
-cons-not x xs e = cc
-
-no-first : {A : Type 0} (xs ys : List A) → xs ++ ys ≡ [] → xs ≡ []
-no-first [] ys e = refl
-no-first (x ∷ xs) ys e = absurd (cons-not x (xs ++ ys) e)
-
-no-second : {A : Type 0} (xs ys : List A) → xs ++ ys ≡ [] → ys ≡ []
-no-second [] ys e = e
-no-second (x ∷ xs) ys e = absurd (cons-not x (xs ++ ys) e)
+  pub fits : (c a : ℕ) → IsAmong refusals c a → Fits rows c a
+  pub led : (d b : ℕ) → Fits rows d b → Leads refusals d b
 
 pub covers-both : (before after : List CodeAt) (rows others : List Row) → Covers before rows → Covers after others → Covers (before ++ after) (rows ++ others)
 covers-both before after rows others p q = record {
-  behind = λ c a h.
-      let t = and_cases (list_all (goes_before (c, a)) before) (list_all (goes_before (c, a)) after) (sym (list_all-append (goes_before (c, a)) before after) ∙ h) in
-      list_all-append (is_behind (c, a)) rows others ∙ and_both _ _ (p.behind c a t.0) (q.behind c a t.1);
   fits = λ c a h.
       ⊎_elim (λ k. Contains-append_left rows others (true, c, a) (p.fits c a k)) (λ k. Contains-append_right rows others (true, c, a) (q.fits c a k))
       (Contains-append_cases before after (c, a) h);
-  none = λ e. list_all-append fits_not rows others ∙ and_both _ _ (p.none (no-first before after e)) (q.none (no-second before after e));
+  led = λ d b h.
+      ⊎_elim (λ k. let l = p.led d b k in (l.0, l.1, Contains-append_left before after (l.0, l.1) l.2, l.3))
+      (λ k. let l = q.led d b k in (l.0, l.1, Contains-append_right before after (l.0, l.1) l.2, l.3))
+      (Contains-append_cases rows others (true, d, b) h);
 }
 
 covers-none : Covers [] []
-covers-none = record { behind = λ c a h. refl; fits = λ c a h. absurd (omega (arith, h.1)); none = λ e. refl }
-
-alone-is : (c a d b : ℕ) → Contains {X = CodeAt} ((d, b) ∷ []) (c, a) → ◌≡◌ {A = CodeAt} (d, b) (c, a)
-alone-is c a d b (zero, lt, is) = is
-alone-is c a d b (suc k, lt, is) = absurd (omega (arith, lt))
+covers-none = record { fits = λ c a h. absurd (omega (arith, h.1)); led = λ d b h. absurd (omega (arith, h.1)) }
 
 covers-first : {A : Type 0} (rows : List Row) (outcome : Result A CodeAt) → first rows ≡ refusal_in outcome → InOrder rows → Covers (refusal_of outcome) rows
 covers-first rows (Ok x) e o = record {
-  behind = λ c a h. none-behind (c, a) rows (none-fits rows e);
   fits = λ c a h. absurd (omega (arith, h.1));
-  none = λ n. none-fits rows e;
+  led = λ d b h. absurd (none-fits rows e d b h.0 h.1 h.2);
 }
-covers-first rows (Err (d, b)) e o = record {
-  behind = λ c a h. first-behind c a d b 0 o.0 rows o.1 e (and_cases (goes_before (c, a) (d, b)) true h).0;
-  fits = λ c a h. subst (λ (r : CodeAt). Contains rows (true, r.0, r.1)) (alone-is c a d b h) (first-fits rows d b e);
-  none = λ n. absurd (cons-not (d, b) [] n);
-}
+covers-first rows (Err (c, a)) e o =
+    let l = least rows c a (chain-ordered 0 o.0 rows o.1) e in
+    record {
+      fits = λ d b h. subst (λ (r : CodeAt). Fits rows r.0 r.1) (alone-is d b c a h) l.fits;
+      led = λ d b h. (c, a, (0, omega arith, refl), l.least d b h);
+    }
 
 pub covers-one : {A : Type 0} (reading : Reading A) → InOrder reading.rows → Covers (refusals (reading ∷ [])) (rows_of (reading ∷ []))
 covers-one reading o =
@@ -142,11 +76,14 @@ covers-all (reading ∷ readings) o =
     covers-both (refusal_of reading.outcome) (refusals readings) reading.rows (rows_of readings)
     (covers-first reading.rows reading.outcome reading.agrees o.0) (covers-all readings o.1)
 
+row-same : (c a d b : ℕ) → Fits ((true, c, a) ∷ []) d b → ◌≡◌ {A = CodeAt} (c, a) (d, b)
+row-same c a d b (zero, lt, is) = ap (λ (r : Row). (r.1, r.2)) is
+row-same c a d b (suc k, lt, is) = absurd (omega (arith, lt))
+
 covers-alone : (c a : ℕ) → Covers ((c, a) ∷ []) ((true, c, a) ∷ [])
-covers-alone d b = record {
-  behind = λ c a h. h;
-  fits = λ c a h. (0, omega arith, ap (λ (r : CodeAt). (true, r.0, r.1)) (alone-is c a d b h));
-  none = λ e. absurd (cons-not (d, b) [] e);
+covers-alone c a = record {
+  fits = λ d b h. (0, omega arith, ap (λ (r : CodeAt). (true, r.0, r.1)) (alone-is d b c a h));
+  led = λ d b h. (c, a, (0, omega arith, refl), subst (λ (r : CodeAt). IsNoLater c a r.0 r.1) (row-same c a d b h) (no-later-same c a));
 }
 
 covers-refused : (refusals : List CodeAt) → Covers refusals (refused_rows refusals)
@@ -181,19 +118,21 @@ whole names theory program order ordered =
 -- what a check answers is the least of all rows that fit
 pub least-row : (result : Result Agent CheckFault) (theory : DraftTheory) (program : DraftProgram) → Checks result theory program
     → TheoryInOrder theory → ProgramInOrder program → IsLeastRow result (all_rows theory program)
-least-row (Ok agent) theory program c order ordered = (whole (names_of theory program) theory program order ordered).none c.0
+least-row (Ok agent) theory program c order ordered =
+    let w = whole (names_of theory program) theory program order ordered in
+    λ d b h.
+    let l = subst (λ (rs : List CodeAt). Leads rs d b) c.0 (w.led d b h) in absurd (omega (arith, l.2.1))
 least-row (Err (Refused code at)) theory program c order ordered =
     let w = whole (names_of theory program) theory program order ordered in
-    (w.fits code at c.among, w.behind code at c.least)
+    record {
+      fits = w.fits code at c.fits;
+      least = λ d b h. let l = w.led d b h in no-later-on code at l.0 l.1 d b (c.least l.0 l.1 l.2) l.3;
+    }
 least-row (Err Memory) theory program c order ordered = tt
 
 -- the first row of a reading that fits is the least of those that do
 pub first-is-least : {A : Type 0} (result : Result A CheckFault) (reading : Reading A) → Answers result reading → InOrder reading.rows → IsLeastRow result reading.rows
-first-is-least (Ok value) reading is o = none-fits reading.rows (reading.agrees ∙ ap refusal_in is)
-first-is-least (Err (Refused code at)) reading is o =
-    let found : first reading.rows ≡ Some (code, at) = reading.agrees ∙ ap refusal_in is in
-    (first-fits reading.rows code at found, first-behind code at code at 0 o.0 reading.rows o.1 found (goes-itself code at))
-first-is-least (Err Memory) reading is o = tt
+first-is-least result reading is o = least_row code_at result reading.rows (chain-ordered 0 o.0 reading.rows o.1) (first_row code_at result reading is)
 
 -- a condition, whose names are those of an agent
 pub least-of-cond : (names own : Declared) → own ≡ names → (draft : DraftCond) (result : Result Cond CheckFault) → Answers result (cond_in own draft [])

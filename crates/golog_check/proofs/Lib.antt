@@ -4,7 +4,6 @@ pub mod CheckedLaws
 pub mod CondLaws
 pub mod Conds
 pub mod Each
-pub mod LeastLaws
 pub mod NestLaws
 pub mod Nested
 pub mod ProgLaws
@@ -39,7 +38,7 @@ pub mod Adding
 pub mod NestTo
 pub mod Reached
 pub mod Repeats
-pub mod Rows
+pub mod Halves
 pub mod TermOrder
 pub mod CondOrder
 pub mod ProgOrder

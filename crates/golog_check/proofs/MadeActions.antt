@@ -20,12 +20,12 @@ use Rattle.golog_tree.specs.declared.draft.DraftFluent.{DraftFluent}
 use Rattle.golog_tree.specs.declared.draft.DraftAction.{DraftAction}
 use Rattle.golog_tree.specs.declared.draft.DraftPoss.{DraftPoss}
 use Rattle.golog_tree.specs.declared.draft.DraftSense.{DraftSense}
-use Rattle.golog_semantics.specs.Reading.{Reading, gives, ◌>>=◌}
+use Rattle.golog_rows.specs.Reading.{Reading, gives, ◌>>=◌}
 use Rattle.golog_semantics.specs.Text.{Text}
 use Rattle.golog_semantics.specs.Ways.{is_empty}
 use Rattle.golog_semantics.specs.Fits as fits
 use Rattle.golog_semantics.specs.Fits.{bound_from, is_sort, args_fit}
-use Rattle.golog_semantics.specs.Drafts.{TheoryKeeps, ProgramKeeps, signature, cond_keeps, fluent_keeps, draft_args_keep, draft_action_at, draft_fluent_keeps, draft_action_keeps, draft_poss_keeps, draft_sense_keeps}
+use Rattle.golog_draft.specs.Drafts.{TheoryKeeps, ProgramKeeps, signature, cond_keeps, fluent_keeps, draft_args_keep, draft_action_at, draft_fluent_keeps, draft_action_keeps, draft_poss_keeps, draft_sense_keeps}
 use Rattle.golog_semantics.specs.Written.{is_written_cond}
 use Rattle.golog_semantics.specs.WellFormed.{poss_fits, poss_fits_for, sense_fits, sense_fits_for}
 use Rattle.golog_semantics.proofs.Tests.{and_both, and_cases, neither_first, neither_second}

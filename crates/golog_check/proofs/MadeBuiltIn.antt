@@ -24,14 +24,15 @@ use Rattle.golog_tree.specs.declared.draft_cond.DraftTerm.TheFolds.{fold-roll-Dr
 use Rattle.golog_tree.specs.declared.draft_cond.DraftCond.TheVariants as draft_cond
 use Rattle.golog_tree.specs.declared.draft_cond.DraftCond.TheOpen.{Truth}
 use Rattle.golog_tree.specs.declared.draft_cond.DraftCond.TheFolds.{fold-roll-DraftCond}
-use Rattle.golog_semantics.specs.Reading.{Reading, gives, ◌>>=◌, found, unless, outcome_behind}
+use Rattle.golog_rows.specs.Reading.{Reading, gives, ◌>>=◌, found, unless, outcome_behind}
 use Rattle.golog_semantics.specs.Text.{Text}
 use Rattle.golog_semantics.specs.BuiltIn.{HasBuiltIn, bool_item, interrupts_running, sets_running}
-use Rattle.golog_semantics.specs.Drafts.{TheoryKeeps, draft_sets_running}
+use Rattle.golog_draft.specs.Drafts.{TheoryKeeps, draft_sets_running}
 use Rattle.golog_check.specs.declared.scope.Meant.{Meant}
-use Rattle.golog_check.specs.declared.fault.TheConstants.{SORT_CLASH, UNBOUND}
+use Rattle.golog_check.specs.Codes.{SORT_CLASH, UNBOUND}
 use Rattle.golog_check.specs.DeclaredItems.{Declared, sort_item, sort_place, fluent_item, action_item}
-use Rattle.golog_check.specs.Least.{CodeAt, value_of, given}
+use Rattle.golog_rows.specs.Least.{CodeAt}
+use Rattle.golog_check.specs.Least.{value_of, given}
 use Rattle.golog_check.specs.Sorts.{lists, lists_before, is_declared, place_of_word, constant_of, listing, constant, fluent_sort}
 use Rattle.golog_check.specs.Terms.{is_other, sort_step, term_sort, as_step, term_as, term_place, term_in}
 use Rattle.golog_check.specs.Conditions.{InScope, cond_step, cond_in}

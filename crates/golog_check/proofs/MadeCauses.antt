@@ -12,7 +12,7 @@ use Rattle.golog_tree.specs.declared.cond.Arg.TheVariants.{Const, Var}
 use Rattle.golog_tree.specs.declared.draft_cond.DraftArg.{DraftArg}
 use Rattle.golog_tree.specs.declared.draft_cond.DraftArg.TheVariants.{Word, Number}
 use Rattle.golog_tree.specs.Ground.{sort_size}
-use Rattle.golog_semantics.specs.Reading.{Reading, gives, ◌>>=◌}
+use Rattle.golog_rows.specs.Reading.{Reading, gives, ◌>>=◌}
 use Rattle.golog_semantics.specs.Text.{Text}
 use Rattle.golog_semantics.specs.Fits as fits
 use Rattle.golog_semantics.specs.Fits.{bound_from, is_sort, arg_fits}

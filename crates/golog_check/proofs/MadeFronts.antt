@@ -12,7 +12,7 @@ use Rattle.golog_tree.specs.declared.draft.DraftProc.{DraftProc}
 use Rattle.golog_semantics.specs.Guarded.{IsGuarded}
 use Rattle.golog_semantics.specs.FrontCalls.{NoneReachesItself, Reaches, front_calls, front_nests, nests_to}
 use Rattle.golog_semantics.proofs.FrontCallsLaws.{guarded_is_unreached}
-use Rattle.golog_check.specs.Least.{CodeAt}
+use Rattle.golog_rows.specs.Least.{CodeAt}
 use Rattle.golog_check.specs.Shapes.{shape_of, shapes}
 use Rattle.golog_check.specs.Unguarded.{said, leads_to, reaching, is_unguarded, has_no_nest, is_deep, refused_where, front_refusals, all_front_refusals}
 use Rattle.golog_check.proofs.BlockLaws.{none-where}

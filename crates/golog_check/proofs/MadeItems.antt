@@ -17,16 +17,17 @@ use Rattle.golog_tree.specs.declared.draft.DraftFluent.{DraftFluent}
 use Rattle.golog_tree.specs.declared.draft.DraftAction.{DraftAction}
 use Rattle.golog_tree.specs.declared.draft.DraftDevice.{DraftDevice}
 use Rattle.golog_tree.specs.Ground.{item_size, IsCountable}
-use Rattle.golog_semantics.specs.Reading.{Reading}
+use Rattle.golog_rows.specs.Reading.{Reading}
 use Rattle.golog_semantics.specs.Text.{Text}
 use Rattle.golog_semantics.specs.Ways.{is_empty}
 use Rattle.golog_semantics.specs.BuiltIn.{NamesFit, declared_names, sort_names, same_text, is_keyword}
 use Rattle.golog_semantics.specs.Fits.{is_sort}
-use Rattle.golog_semantics.specs.Drafts.{TheoryKeeps, ProgramKeeps, proc_names, draft_sort_names, theory_names, draft_sort_keeps, draft_fluent_keeps, draft_action_keeps, draft_args_keep}
+use Rattle.golog_draft.specs.Drafts.{TheoryKeeps, ProgramKeeps, proc_names, draft_sort_names, theory_names, draft_sort_keeps, draft_fluent_keeps, draft_action_keeps, draft_args_keep}
 use Rattle.golog_semantics.specs.WellFormed.{IsSmall, sort_fits, are_sorts, is_device_no, fluent_item_fits, action_item_fits}
 use Rattle.golog_semantics.proofs.Tests.{and_both, and_cases}
 use Rattle.golog_check.specs.DeclaredItems.{sort_item, fluent_item, action_item}
-use Rattle.golog_check.specs.Least.{CodeAt, refusals, value_of, given}
+use Rattle.golog_rows.specs.Least.{CodeAt}
+use Rattle.golog_check.specs.Least.{refusals, value_of, given}
 use Rattle.golog_check.specs.Effects.{cause_in}
 use Rattle.golog_check.specs.Procs.{proc_in}
 use Rattle.golog_check.specs.Sums.{fluent_sum, action_sum}
@@ -120,6 +121,8 @@ module _ (theory : DraftTheory) (program : DraftProgram) (keeps : TheoryKeeps th
         actions = c.actions;
         ground_fluents = c.ground_fluents;
         ground_actions = c.ground_actions;
+        first_fluents = c.first_fluents;
+        first_actions = c.first_actions;
       }
 
   -- a sort of the theory is one of the agent

@@ -22,20 +22,21 @@ use Rattle.golog_tree.specs.declared.draft.DraftStart.TheVariants.{Each, One}
 use Rattle.golog_tree.specs.declared.draft_cond.DraftArg.{DraftArg}
 use Rattle.golog_tree.specs.Nest.{nest}
 use Rattle.golog_tree.specs.Ground.{Ground, sort_size, ground_fluents}
-use Rattle.golog_semantics.specs.DraftPlaces.{arg_place}
-use Rattle.golog_semantics.specs.Reading.{Reading, gives, ◌>>=◌}
+use Rattle.golog_draft.specs.DraftPlaces.{arg_place}
+use Rattle.golog_rows.specs.Reading.{Reading, gives, ◌>>=◌}
 use Rattle.golog_semantics.specs.Truth.{unknown}
 use Rattle.golog_semantics.specs.Fits.{bound_from, nothing_bound}
 use Rattle.golog_semantics.specs.ProgFits.{outermost, prog_fits}
 use Rattle.golog_semantics.specs.Written.{is_written_prog}
 use Rattle.golog_semantics.specs.BlockFree.{block_at, proc_blocks}
-use Rattle.golog_semantics.specs.Drafts.{TheoryKeeps, ProgramKeeps, draft_args_keep, draft_proc_keeps, is_draft_sort, param_words, prog_keeps}
+use Rattle.golog_draft.specs.Drafts.{TheoryKeeps, ProgramKeeps, draft_args_keep, draft_proc_keeps, is_draft_sort, param_words, prog_keeps}
 use Rattle.golog_semantics.specs.WellFormed.{StartsFit, ProgramsFit, proc_fits, start_fits}
 use Rattle.golog_semantics.proofs.Tests.{and_both, and_cases, or_first, or_second}
 use Rattle.golog_check.specs.declared.starts.Start.{Start}
 use Rattle.golog_check.specs.declared.starts.Start.TheVariants as start
 use Rattle.golog_check.specs.DeclaredItems.{Declared, declared_by, param_sorts}
-use Rattle.golog_check.specs.Least.{CodeAt, refusal_of}
+use Rattle.golog_rows.specs.Least.{CodeAt}
+use Rattle.golog_check.specs.Least.{refusal_of}
 use Rattle.golog_check.specs.Terms.{arg_in, args_in}
 use Rattle.golog_check.specs.Starts.{constant, constant_in, own_sort, value_in, one_in, start_in, own_after, own_value, one_after, one_value, start_value}
 use Rattle.golog_check.specs.Sorts.{fluent_sorts}

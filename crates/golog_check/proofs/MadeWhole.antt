@@ -16,10 +16,10 @@ use Rattle.golog_tree.specs.declared.draft.DraftProgram.{DraftProgram}
 use Rattle.golog_tree.specs.declared.draft.DraftFluent.{DraftFluent}
 use Rattle.golog_tree.specs.declared.draft.DraftAction.{DraftAction}
 use Rattle.golog_tree.specs.declared.draft.DraftCause.{DraftCause}
-use Rattle.golog_semantics.specs.Reading.{Reading, gives, ◌>>=◌}
+use Rattle.golog_rows.specs.Reading.{Reading, gives, ◌>>=◌}
 use Rattle.golog_semantics.specs.Fits.{bound_from}
 use Rattle.golog_semantics.specs.Written.{is_written_cond}
-use Rattle.golog_semantics.specs.Drafts.{TheoryKeeps, ProgramKeeps, signature, cond_keeps, term_keeps, fluent_keeps, draft_args_keep, draft_action_at, draft_fluent_keeps, draft_cause_keeps, cause_vars, vars_after}
+use Rattle.golog_draft.specs.Drafts.{TheoryKeeps, ProgramKeeps, signature, cond_keeps, term_keeps, fluent_keeps, draft_args_keep, draft_action_at, draft_fluent_keeps, draft_cause_keeps, cause_vars, vars_after}
 use Rattle.golog_semantics.specs.WellFormed.{WellFormed, head_sorts, effect_fits, cause_fits_for, cause_fits}
 use Rattle.golog_semantics.proofs.Tests.{and_both, and_cases}
 use Rattle.golog_check.specs.declared.heads.Head.{Head}

@@ -3,7 +3,7 @@ use Rattle.std.proofs.Common.{◌≡◌, ℕ, ◌+◌, ◌<◌, ◌≤◌, List,
 use Rattle.std.specs.Prelude.{min, max}
 use Rattle.golog_tree.specs.declared.draft_prog.DraftProg.{DraftProg}
 use Rattle.golog_check.specs.DraftNest.{parts_nest, draft_nest}
-use Rattle.golog_check.proofs.Each.{drop-item}
+use Rattle.golog_rows.proofs.Each.{drop-item}
 
 -- the nest of parts that stand so deep, up to the limit, or 0 where there are none
 abbrev pub below : ℕ → ℕ → List ℕ → ℕ

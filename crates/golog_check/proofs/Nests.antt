@@ -11,7 +11,7 @@ use Rattle.golog_tree.specs.declared.prog.Prog.{Prog}
 use Rattle.golog_tree.specs.declared.prog.Prog.TheVariants as prog
 use Rattle.golog_tree.specs.Ground.{to_count}
 use Rattle.golog_tree.specs.Nest.{nest}
-use Rattle.golog_semantics.specs.Reading.{Reading, gives, ◌>>=◌, each}
+use Rattle.golog_rows.specs.Reading.{Reading, gives, ◌>>=◌, each}
 use Rattle.golog_semantics.proofs.Computed.{nest-Nil, nest-Act, nest-Test, nest-Seq, nest-Choice, nest-Pick, nest-Star, nest-If, nest-While, nest-Conc, nest-Prio, nest-Cstar, nest-Call, nest-Search}
 use Rattle.golog_check.specs.declared.programs.Join.{Join}
 use Rattle.golog_check.specs.declared.programs.Join.TheVariants.{Seq as InSeq, Choice as InChoice, Conc as InConc, Prio as InPrio}

@@ -1,7 +1,8 @@
 -- The parts of a draft together.
-use Rattle.std.proofs.Common.{◌≡◌, ℕ, List, [], ◌∷◌, ◌++◌, map, Option, Some, None, Result, Ok, Err, refl, sym, ap, subst, ◌∙◌}
+use Rattle.std.proofs.Common.{◌≡◌, ℕ, ◌+◌, List, [], ◌∷◌, ◌++◌, map, Option, Some, None, Result, Ok, Err, refl, sym, ap, subst, ◌∙◌}
 use Rattle.std.specs.Prelude.{MatchOption}
-use Rattle.golog_semantics.specs.Reading.{Reading}
+use Rattle.std.specs.List.{range_with_len}
+use Rattle.golog_rows.specs.Reading.{Reading}
 use Rattle.golog_tree.specs.declared.agent.Agent.{Agent}
 use Rattle.golog_tree.specs.declared.agent.SortItem.{SortItem}
 use Rattle.golog_tree.specs.declared.agent.FluentItem.{FluentItem}
@@ -11,8 +12,8 @@ use Rattle.golog_tree.specs.declared.agent.CauseItem.{CauseItem}
 use Rattle.golog_tree.specs.declared.agent.SenseItem.{SenseItem}
 use Rattle.golog_tree.specs.declared.draft.DraftTheory.{DraftTheory}
 use Rattle.golog_tree.specs.declared.draft.DraftProgram.{DraftProgram}
-use Rattle.golog_tree.specs.Ground.{ground_fluents}
-use Rattle.golog_check.specs.declared.least.Refusal.{Refusal}
+use Rattle.golog_tree.specs.Ground.{Ground, all_from, args_of, fluent_args, ground_fluents, numbered, product, sizes}
+use Rattle.golog_rows.specs.declared.least.Refusal.{Refusal}
 use Rattle.golog_check.specs.declared.starts.Start.{Start}
 use Rattle.golog_check.specs.declared.checking.Parts.{Parts}
 use Rattle.golog_check.specs.DeclaredItems.{Declared, sort_item, sort_place, fluent_item, action_item, param_sorts}
@@ -25,15 +26,17 @@ use Rattle.golog_check.specs.Unguarded.{all_front_refusals}
 use Rattle.golog_check.specs.DraftBlocks.{all_block_refusals}
 use Rattle.golog_check.specs.Check.{bare, main_in, main_of, names_of, refusals_in, agent_of}
 use Rattle.golog_check.specs.Parts.{AreParts}
-use Rattle.golog_check.specs.Least.{CodeAt, IsLeast, IsLeastOf, refusal_of, refusals, given}
-use Rattle.golog_check.proofs.LeastLaws.{alone}
+use Rattle.golog_rows.specs.Order.{IsLeast}
+use Rattle.golog_rows.specs.Least.{CodeAt, IsAmong, IsLeastOf}
+use Rattle.golog_check.specs.Least.{refusal_of, refusals, given}
+use Rattle.golog_rows.proofs.LeastLaws.{alone}
 
 pub sum-least : (found : Option Refusal) (reading : Reading (Unit {0}))
     → MatchOption found (reading.outcome ≡ Ok tt) (λ (r : Refusal). reading.outcome ≡ Err (r.code, r.at))
     → IsLeastOf found (refusals (reading ∷ []))
 sum-least None reading h = ap (λ o. refusal_of o ++ []) h
 sum-least (Some r) reading h =
-    subst (λ (rs : List CodeAt). IsLeast r.code r.at rs) (sym (ap (λ o. refusal_of o ++ []) h)) (alone r.code r.at)
+    subst (λ (rs : List CodeAt). IsLeast (IsAmong rs) r.code r.at) (sym (ap (λ o. refusal_of o ++ []) h)) (alone r.code r.at)
 
 -- what a theory and its procedures declare
 pub names-are : (theory : DraftTheory) (program : DraftProgram) (sorts : List SortItem) (places : List ℕ)
@@ -91,14 +94,20 @@ none-refused theory program h =
       main = none-behind _ main h;
     }
 
+-- numbering the ground things changes none of them
+all-numbered : (agent : Agent) (items : List (List ℕ)) (item : ℕ) → all_from (numbered agent) item items ≡ all_from agent item items
+all-numbered agent [] item = refl
+all-numbered agent (sorts ∷ items) item =
+    ap (λ rest. map (λ place. (item, args_of (sizes agent sorts) place)) (range_with_len 0 (product (sizes agent sorts))) ++ rest) (all-numbered agent items (item + 1))
+
 -- the agent of the parts
 pub agent-is : (theory : DraftTheory) (program : DraftProgram) (agent : Agent) (parts : Parts) → agent ≡ bare theory
     → AreParts parts (names_of theory program) theory program
-    → ◌≡◌ {A = Agent} (record agent {
+    → ◌≡◌ {A = Agent} (record (numbered agent) {
       poss = parts.poss.items;
       causes = parts.causes.items;
       senses = parts.senses.items;
-      starts = map (start_value parts.starts.items) (ground_fluents agent);
+      starts = map (start_value parts.starts.items) (ground_fluents (numbered agent));
       procs = parts.procs.items;
       main = main_of (main_in (names_of theory program) program.main).outcome;
     }) (agent_of theory program)
@@ -106,7 +115,7 @@ agent-is theory program agent parts is are =
     let names = names_of theory program in
     let main = main_of (main_in names program.main).outcome in
     let made : Agent → List PossItem → List CauseItem → List SenseItem → List Start → List ProcItem → Agent =
-    λ a p c s st ps. record a { poss = p; causes = c; senses = s; starts = map (start_value st) (ground_fluents a); procs = ps; main = main } in
+    λ a p c s st ps. record (numbered a) { poss = p; causes = c; senses = s; starts = map (start_value st) (ground_fluents (numbered a)); procs = ps; main = main } in
     let poss = given (map (poss_in names) theory.poss) in
     let causes = given (map (cause_in names) theory.causes) in
     let senses = given (senses_in names [] theory.senses) in
@@ -117,3 +126,11 @@ agent-is theory program agent parts is are =
     ∙ ap (λ s. made (bare theory) poss causes s parts.starts.items parts.procs.items) are.senses.items
     ∙ ap (λ st. made (bare theory) poss causes senses st parts.procs.items) are.starts.items
     ∙ ap (λ ps. made (bare theory) poss causes senses starts ps) are.procs.items
+    ∙ ap (λ (all : List Ground). record (numbered (bare theory)) {
+      poss = poss;
+      causes = causes;
+      senses = senses;
+      starts = map (start_value starts) all;
+      procs = given (map (proc_in names) program.procs);
+      main = main;
+    }) (all-numbered (bare theory) (fluent_args (bare theory)) 0)

@@ -30,7 +30,7 @@ use Rattle.golog_tree.specs.declared.prog.Prog.TheOpen.{Prog-F, Nil, Act, Test, 
 use Rattle.golog_tree.specs.declared.prog.Prog.TheViews.{roll-Prog}
 use Rattle.golog_tree.specs.declared.prog.Prog.TheFolds.{fold-roll-Prog, fold-Way, map-Prog}
 use Rattle.golog_tree.specs.Ground.{to_count}
-use Rattle.golog_semantics.specs.Reading.{Reading, gives, ◌>>=◌, each}
+use Rattle.golog_rows.specs.Reading.{Reading, gives, ◌>>=◌, each}
 use Rattle.golog_semantics.specs.Ways.{is_empty}
 use Rattle.golog_semantics.specs.BlockFree.{block_at, proc_blocks}
 use Rattle.golog_semantics.specs.Fits as fits
@@ -38,7 +38,7 @@ use Rattle.golog_semantics.specs.Fits.{is_sort, args_fit, cond_fits}
 use Rattle.golog_semantics.specs.ProgFits as fitting
 use Rattle.golog_semantics.specs.ProgFits.{Position, is_between, depth_limit, fuel_limit, act_fits, call_fits, block_fits, prog_fits}
 use Rattle.golog_semantics.specs.Written.{written_prog_step, is_written_cond, is_written_prog}
-use Rattle.golog_semantics.specs.Drafts.{Signature, signature, binder_keeps, cond_keeps, act_keeps, call_keeps, prog_keeps, prog_keeps_step}
+use Rattle.golog_draft.specs.Drafts.{Signature, signature, binder_keeps, cond_keeps, act_keeps, call_keeps, prog_keeps, prog_keeps_step}
 use Rattle.golog_semantics.proofs.Tests.{and_both, and_cases}
 use Rattle.golog_check.specs.declared.programs.Join.{Join}
 use Rattle.golog_check.specs.declared.programs.Join.TheVariants.{Seq as InSeq, Choice as InChoice, Conc as InConc, Prio as InPrio}

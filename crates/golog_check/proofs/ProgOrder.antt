@@ -12,7 +12,7 @@ use Rattle.golog_tree.specs.declared.draft_prog.DraftProg.TheFolds.{fold-roll-Dr
 use Rattle.golog_tree.specs.declared.prog.Prog.{Prog}
 use Rattle.golog_tree.specs.declared.prog.Prog.TheVariants as prog
 use Rattle.golog_tree.specs.Ground.{to_count}
-use Rattle.golog_semantics.specs.Reading.{Reading, gives, ◌>>=◌, each}
+use Rattle.golog_rows.specs.Reading.{Reading, gives, ◌>>=◌, each}
 use Rattle.golog_check.specs.declared.programs.Join.{Join}
 use Rattle.golog_check.specs.declared.programs.Join.TheVariants.{Seq as InSeq, Choice as InChoice, Conc as InConc, Prio as InPrio}
 use Rattle.golog_check.specs.DeclaredItems.{Declared}
@@ -21,9 +21,10 @@ use Rattle.golog_check.specs.Scope.{Scope, variable_no, within}
 use Rattle.golog_check.specs.Terms.{args_in}
 use Rattle.golog_check.specs.Conditions.{cond_in}
 use Rattle.golog_check.specs.Programs.{InScope, nested, progs_in, parts_in, with_no, with_body, prog_step, prog_in}
-use Rattle.golog_semantics.specs.DraftPlaces.{arg_places, joined, cond_places, prog_places_step, prog_places}
-use Rattle.golog_semantics.specs.DraftOrder.{Ascend}
-use Rattle.golog_check.proofs.Rows.{Spans, then-spans, gives-spans, halves, ascend-le}
+use Rattle.golog_draft.specs.DraftPlaces.{arg_places, joined, cond_places, prog_places_step, prog_places}
+use Rattle.golog_draft.specs.DraftOrder.{Ascend}
+use Rattle.golog_rows.proofs.Chain.{Spans, then-spans, gives-spans}
+use Rattle.golog_check.proofs.Halves.{halves, ascend-le}
 use Rattle.golog_check.proofs.TermOrder.{args-spans}
 use Rattle.golog_check.proofs.CondOrder.{cond-spans}
 

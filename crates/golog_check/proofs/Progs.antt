@@ -5,11 +5,11 @@ use Rattle.golog_tree.specs.declared.draft_prog.DraftProg.{DraftProg}
 use Rattle.golog_tree.specs.declared.draft_prog.DraftProg.TheVariants as draft
 use Rattle.golog_tree.specs.declared.draft_prog.DraftProg.TheOpen.{Seq, Choice, Conc, Prio}
 use Rattle.golog_tree.specs.declared.draft_prog.DraftProg.TheFolds.{fold-roll-DraftProg}
-use Rattle.golog_semantics.specs.Reading.{◌>>=◌, each}
+use Rattle.golog_rows.specs.Reading.{◌>>=◌, each}
 use Rattle.golog_check.specs.DeclaredItems.{Declared}
 use Rattle.golog_check.specs.Scope.{Scope}
 use Rattle.golog_check.specs.Programs.{InScope, prog_step, prog_in}
-use Rattle.golog_check.proofs.Each.{drop-item}
+use Rattle.golog_rows.proofs.Each.{drop-item}
 
 pub progs-drop : (names : Declared) (scope : Scope) (done : List Prog) (drafts : List DraftProg) (i : ℕ) (p : DraftProg) → i < length drafts → p ≡ get_or drafts i p
     → each (λ (_ : List Prog) (part : InScope). part scope) done (map (prog_in names) (drop i drafts))

@@ -10,10 +10,10 @@ use Rattle.golog_tree.specs.declared.agent.ProcItem.{ProcItem}
 use Rattle.golog_tree.specs.declared.draft.DraftProc.{DraftProc}
 use Rattle.golog_tree.specs.Nest.{nest}
 use Rattle.golog_semantics.specs.FrontCalls.{front_calls, greatest, nests_to, front_nests}
-use Rattle.golog_check.specs.declared.least.Refusal.{Refusal}
+use Rattle.golog_rows.specs.declared.least.Refusal.{Refusal}
 use Rattle.golog_check.specs.declared.fronts.Nesting.{Nesting}
 use Rattle.golog_check.specs.DraftNest.{draft_nest}
-use Rattle.golog_check.specs.Least.{CodeAt, IsLeastOf}
+use Rattle.golog_rows.specs.Least.{CodeAt, IsLeastOf}
 use Rattle.golog_check.specs.Settled.{rounds_of, same_of}
 use Rattle.golog_check.specs.Shapes.{shape, shape_of, shapes, calls_in}
 use Rattle.golog_check.specs.Unguarded.{said, reaching, is_unguarded, has_no_nest, is_deep, refused_where, front_refusals}

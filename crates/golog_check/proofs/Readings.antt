@@ -1,6 +1,6 @@
 -- What stands where a reading gives a value.
 use Rattle.std.proofs.Common.{◌≡◌, ℕ, Bool, true, false, refl, ap, Option, Some, None, Result, Ok, Err}
-use Rattle.golog_semantics.specs.Reading.{Reading, row, outcome_behind, ◌>>=◌, found}
+use Rattle.golog_rows.specs.Reading.{Reading, row, outcome_behind, ◌>>=◌, found}
 
 abbrev IsGiven : {A B : Type 0} → Result A B → Type 0
 IsGiven (Ok x) = Unit {0}

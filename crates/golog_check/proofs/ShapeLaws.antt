@@ -4,13 +4,14 @@ use Rattle.golog_tree.specs.declared.agent.ProcItem.{ProcItem}
 use Rattle.golog_tree.specs.declared.draft.DraftProc.{DraftProc}
 use Rattle.golog_tree.specs.declared.prog.Prog.{Prog}
 use Rattle.golog_tree.specs.Nest.{nest_step}
-use Rattle.golog_semantics.specs.Reading.{Reading, gives}
+use Rattle.golog_rows.specs.Reading.{Reading, gives}
 use Rattle.golog_semantics.specs.BlockFree.{has_block_step}
 use Rattle.golog_semantics.specs.Guarded.{Front, front_step, no_front}
 use Rattle.golog_semantics.specs.FrontCalls.{Calling, calling_step}
-use Rattle.golog_semantics.specs.Drafts.{proc_names}
+use Rattle.golog_draft.specs.Drafts.{proc_names}
 use Rattle.golog_check.specs.DeclaredItems.{Declared, param_sorts}
-use Rattle.golog_check.specs.Least.{CodeAt, refusal_of, refusals, value_of, given}
+use Rattle.golog_rows.specs.Least.{CodeAt}
+use Rattle.golog_check.specs.Least.{refusal_of, refusals, value_of, given}
 use Rattle.golog_check.specs.Programs.{prog_in}
 use Rattle.golog_check.specs.Procs.{params_of, proc_in}
 use Rattle.golog_check.specs.Shapes.{shape_of}

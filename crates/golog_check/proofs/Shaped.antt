@@ -15,7 +15,7 @@ use Rattle.golog_tree.specs.declared.prog.Prog.TheOpen.{Prog-F, Way-F, Nil, Act,
 use Rattle.golog_tree.specs.declared.prog.Prog.TheViews.{roll-Prog}
 use Rattle.golog_tree.specs.declared.prog.Prog.TheFolds.{fold-Prog, fold-Way, fold-roll-Prog, map-Prog}
 use Rattle.golog_tree.specs.Ground.{to_count}
-use Rattle.golog_semantics.specs.Reading.{Reading, gives, ◌>>=◌, each}
+use Rattle.golog_rows.specs.Reading.{Reading, gives, ◌>>=◌, each}
 use Rattle.golog_check.specs.declared.programs.Join.{Join}
 use Rattle.golog_check.specs.declared.programs.Join.TheVariants.{Seq as InSeq, Choice as InChoice, Conc as InConc, Prio as InPrio}
 use Rattle.golog_check.specs.DeclaredItems.{Declared}

@@ -23,13 +23,13 @@ use Rattle.golog_tree.specs.declared.draft_cond.DraftTerm.{DraftTerm}
 use Rattle.golog_tree.specs.declared.draft_cond.DraftTerm.TheOpen.{DraftTerm-F, Arg as ArgTerm, Fluent, Shift}
 use Rattle.golog_tree.specs.declared.draft_cond.DraftTerm.TheViews.{roll-DraftTerm}
 use Rattle.golog_tree.specs.declared.draft_cond.DraftTerm.TheFolds.{fold-roll-DraftTerm, ind-DraftTerm, map-DraftTerm}
-use Rattle.golog_semantics.specs.Reading.{Reading, gives, row, ◌>>=◌}
+use Rattle.golog_rows.specs.Reading.{Reading, gives, row, ◌>>=◌}
 use Rattle.golog_semantics.specs.Fits as fits
 use Rattle.golog_semantics.specs.Fits.{is_sort, is_range, is_range_item, arg_fits, args_fit, term_fits}
 use Rattle.golog_semantics.specs.Written.{Wording, is_amount, written_arg, written_cond_step, written_term_step}
-use Rattle.golog_semantics.specs.Drafts.{fluent_keeps, term_keeps, term_keeps_step}
+use Rattle.golog_draft.specs.Drafts.{fluent_keeps, term_keeps, term_keeps_step}
 use Rattle.golog_check.specs.declared.scope.Meant.{Meant}
-use Rattle.golog_check.specs.declared.fault.TheConstants.{SORT_CLASH, UNBOUND}
+use Rattle.golog_check.specs.Codes.{SORT_CLASH, UNBOUND}
 use Rattle.golog_check.specs.DeclaredItems.{Declared}
 use Rattle.golog_check.specs.Sorts as sorts
 use Rattle.golog_check.specs.Sorts.{same, place_of_word, listing, constant_of, constant, number_in, fluent_sort, fluent_sorts}

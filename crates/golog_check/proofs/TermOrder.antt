@@ -11,27 +11,28 @@ use Rattle.golog_tree.specs.declared.draft_cond.DraftTerm.{DraftTerm}
 use Rattle.golog_tree.specs.declared.draft_cond.DraftTerm.TheOpen.{DraftTerm-F, Arg as ArgTerm, Fluent, Shift}
 use Rattle.golog_tree.specs.declared.draft_cond.DraftTerm.TheViews.{roll-DraftTerm}
 use Rattle.golog_tree.specs.declared.draft_cond.DraftTerm.TheFolds.{fold-roll-DraftTerm, ind-DraftTerm, map-DraftTerm}
-use Rattle.golog_semantics.specs.Reading.{Reading, gives, row, ◌>>=◌, found, each}
+use Rattle.golog_rows.specs.Reading.{Reading, gives, row, ◌>>=◌, found, each}
 use Rattle.golog_check.specs.declared.scope.Meant.{Meant}
-use Rattle.golog_check.specs.declared.fault.TheConstants.{SORT_CLASH, UNBOUND}
+use Rattle.golog_check.specs.Codes.{SORT_CLASH, UNBOUND}
 use Rattle.golog_check.specs.DeclaredItems.{Declared}
 use Rattle.golog_check.specs.Sorts.{number_in, is_range, fluent_sorts}
 use Rattle.golog_check.specs.Scope.{Scope, meaning}
 use Rattle.golog_check.specs.Terms.{place_step, term_place, common, arg_as, arg_in, next_arg, args_in, term_sort, as_step, term_as, term_in, sides_in}
-use Rattle.golog_semantics.specs.DraftPlaces.{arg_place, arg_places, term_places_step, term_places}
-use Rattle.golog_semantics.specs.DraftOrder.{Ascend}
-use Rattle.golog_check.proofs.Rows.{key, Chain, chain-low, chain-high, chain-le, then-chain, gives-chain, found-chain, Spans, then-spans, wider, halves, ascend-le}
+use Rattle.golog_draft.specs.DraftPlaces.{arg_place, arg_places, term_places_step, term_places}
+use Rattle.golog_draft.specs.DraftOrder.{Ascend}
+use Rattle.golog_rows.proofs.Chain.{key, Chain, chain-low, chain-high, chain-le, then-chain, gives-chain, found-chain, Spans, then-spans, wider}
+use Rattle.golog_check.proofs.Halves.{halves, ascend-le}
 
 module _ (names : Declared) (scope : Scope) where
   arg_as-chain : (sort : ℕ) (arg : DraftArg) → Chain (key (arg_place arg) 30) (64 * (arg_place arg + 1)) (arg_as names scope sort arg).rows
   arg_as-chain sort (Word word at) =
-      found-chain (key at 30) (64 * (at + 1)) UNBOUND at (option_map (λ (meant : Meant). meant.arg) (meaning names scope word at)) (omega arith) (omega arith) (omega arith)
+      found-chain (key at 30) (64 * (at + 1)) UNBOUND at (option_map (λ (meant : Meant). meant.arg) (meaning names scope word at)) (omega arith) (omega arith) (omega arith) (omega arith)
   arg_as-chain sort (Number number at) =
-      found-chain (key at 30) (64 * (at + 1)) SORT_CLASH at (option_map Const (number_in names sort number)) (omega arith) (omega arith) (omega arith)
+      found-chain (key at 30) (64 * (at + 1)) SORT_CLASH at (option_map Const (number_in names sort number)) (omega arith) (omega arith) (omega arith) (omega arith)
 
   arg_in-chain : (sort : ℕ) (arg : DraftArg) → Chain (key (arg_place arg) 30) (64 * (arg_place arg + 1)) (arg_in names scope sort arg).rows
   unfolding arg_in
-  arg_in-chain sort arg = (omega arith, omega arith, arg_as-chain sort arg)
+  arg_in-chain sort arg = (omega arith, omega arith, omega arith, arg_as-chain sort arg)
 
   pub arg_in-spans : (sort : ℕ) (arg : DraftArg) → Spans (arg_place arg) (arg_place arg + 1) (arg_in names scope sort arg)
   arg_in-spans sort arg =
@@ -41,7 +42,7 @@ module _ (names : Declared) (scope : Scope) where
   unfolding next_arg
   next_arg-spans sorts before arg =
       then-chain (64 * arg_place arg) (key (arg_place arg) 30) (64 * (arg_place arg + 1)) (found SORT_CLASH (arg_place arg) (slice_get sorts (length before))) (λ sort. arg_in names scope sort arg) (omega arith)
-      (found-chain (64 * arg_place arg) (key (arg_place arg) 30) SORT_CLASH (arg_place arg) (slice_get sorts (length before)) (omega arith) (omega arith) (omega arith))
+      (found-chain (64 * arg_place arg) (key (arg_place arg) 30) SORT_CLASH (arg_place arg) (slice_get sorts (length before)) (omega arith) (omega arith) (omega arith) (omega arith))
       (λ sort. arg_in-chain sort arg)
 
   args-from : (sorts : List ℕ) (before : List Arg) (from : ℕ) (args : List DraftArg) (to : ℕ) → Ascend from (arg_places args) to → Spans from to (each (next_arg names scope sorts) before args)
@@ -101,6 +102,7 @@ module _ (names : Declared) (scope : Scope) where
         rows = λ sort. (
           omega arith,
           omega arith,
+          omega arith,
           gives-chain (key at 30) (64 * to) (term_as names scope d.0 sort) (λ t. term.Shift sort t by)
               (chain-low (key at 30) (key (term_place d.0) 30) (64 * to) (term_as names scope d.0 sort).rows (omega (arith, inner.behind)) (inner.rows sort)),
         );
@@ -123,7 +125,7 @@ module _ (names : Declared) (scope : Scope) where
   unfolding term_in
   term-spans sort from d to c =
       let s = stands d from to c in
-      (omega (arith, s.behind), omega arith, s.rows sort)
+      (omega (arith, s.behind), omega arith, omega arith, s.rows sort)
 
   pub sides-spans : (is_order : Bool) (from : ℕ) (one other : DraftTerm) (to : ℕ) → Ascend from (term_places one ++ term_places other) to → Spans from to (sides_in names scope is_order one other)
   unfolding sides_in
@@ -137,8 +139,9 @@ module _ (names : Declared) (scope : Scope) where
       (λ sort. row (is_order && not (is_range names sort)) SORT_CLASH (term_place one)
       (term_as names scope one sort >>= λ a. term_as names scope other sort >>= λ b. gives (record { sort = sort; one = a; other = b })))
       (omega (arith, le, chain-le low (64 * h.mid) (term_as names scope one 0).rows (s.rows (0))))
-      (found-chain (64 * from) low SORT_CLASH (term_place one) (common (term_sort names scope one) (term_sort names scope other)) (omega (arith, s.behind)) (omega arith) (omega arith))
+      (found-chain (64 * from) low SORT_CLASH (term_place one) (common (term_sort names scope one) (term_sort names scope other)) (omega (arith, s.behind)) (omega arith) (omega arith) (omega arith))
       (λ sort. (
+        omega arith,
         omega arith,
         omega arith,
         then-chain low (64 * h.mid) (64 * to) (term_as names scope one sort) (λ a. term_as names scope other sort >>= λ b. gives (record { sort = sort; one = a; other = b })) (omega (arith, le)) (s.rows sort)

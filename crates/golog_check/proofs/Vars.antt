@@ -19,10 +19,10 @@ use Rattle.golog_tree.specs.declared.draft.DraftSort.{DraftSort}
 use Rattle.golog_tree.specs.declared.draft.DraftSort.TheVariants.{Range, Listed}
 use Rattle.golog_tree.specs.declared.draft_cond.DraftArg.{DraftArg}
 use Rattle.golog_tree.specs.declared.draft_cond.DraftArg.TheVariants.{Word, Number}
-use Rattle.golog_semantics.specs.Reading.{Reading, gives, ◌>>=◌}
+use Rattle.golog_rows.specs.Reading.{Reading, gives, ◌>>=◌}
 use Rattle.golog_semantics.specs.Text.{Text}
 use Rattle.golog_semantics.specs.BuiltIn.{same_text}
-use Rattle.golog_semantics.specs.Drafts.{lists_before, is_constant_at, var_after, vars_after}
+use Rattle.golog_draft.specs.Drafts.{lists_before, is_constant_at, var_after, vars_after}
 use Rattle.golog_semantics.proofs.Tests.{and_cases, or_first, or_second}
 use Rattle.golog_check.specs.declared.heads.Head.{Head}
 use Rattle.golog_check.specs.declared.scope.Meant.{Meant}

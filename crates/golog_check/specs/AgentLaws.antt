@@ -3,7 +3,7 @@ use Rattle.std.specs.Prelude.{◌≡◌, ℕ, true, [], ◌↔◌}
 use Rattle.golog_tree.specs.declared.agent.Agent.{Agent}
 use Rattle.golog_tree.specs.declared.draft.DraftTheory.{DraftTheory}
 use Rattle.golog_tree.specs.declared.draft.DraftProgram.{DraftProgram}
-use Rattle.golog_semantics.specs.Drafts.{TheoryKeeps, ProgramKeeps}
+use Rattle.golog_draft.specs.Drafts.{TheoryKeeps, ProgramKeeps}
 use Rattle.golog_semantics.specs.FrontCalls.{Reaches}
 use Rattle.golog_semantics.specs.WellFormed.{WellFormed}
 use Rattle.golog_check.specs.Check.{all_refusals, agent_of}

@@ -7,15 +7,17 @@ use Rattle.golog_tree.specs.declared.draft.DraftTheory.{DraftTheory}
 use Rattle.golog_tree.specs.declared.draft.DraftProgram.{DraftProgram}
 use Rattle.golog_tree.specs.declared.draft.DraftDevice.{DraftDevice}
 use Rattle.golog_tree.specs.declared.draft.DraftMain.{DraftMain}
-use Rattle.golog_tree.specs.Ground.{ground_fluents}
-use Rattle.golog_semantics.specs.Reading.{Reading, row}
+use Rattle.golog_tree.specs.Ground.{ground_fluents, numbered}
+use Rattle.golog_rows.specs.Reading.{Reading, row}
 use Rattle.golog_check.specs.declared.fault.CheckFault.{CheckFault}
 use Rattle.golog_check.specs.declared.fault.CheckFault.TheVariants.{Refused, Memory}
-use Rattle.golog_check.specs.declared.fault.TheConstants.{FRONT_DEEP}
-use Rattle.golog_check.specs.declared.nesting.TheConstants.{MAIN_NEST}
+use Rattle.golog_check.specs.Codes.{FRONT_DEEP}
+use Rattle.golog_check.specs.Limits.{MAIN_NEST}
 use Rattle.golog_check.specs.declared.starts.Start.{Start}
 use Rattle.golog_check.specs.DeclaredItems.{Declared, sort_item, fluent_item, action_item, declared_by}
-use Rattle.golog_check.specs.Least.{CodeAt, IsLeast, refusals, given}
+use Rattle.golog_rows.specs.Order.{IsLeast}
+use Rattle.golog_rows.specs.Least.{CodeAt, IsAmong}
+use Rattle.golog_check.specs.Least.{refusals, given}
 use Rattle.golog_check.specs.Sums.{fluent_sum, action_sum}
 use Rattle.golog_check.specs.Starts.{start_in, start_value}
 use Rattle.golog_check.specs.Effects.{poss_in, cause_in, senses_in}
@@ -37,6 +39,7 @@ module _ (theory : DraftTheory) where
     sorts = map sort_item theory.sorts;
     fluents = map fluent_item theory.fluents;
     actions = map action_item theory.actions;
+    firsts = record { fluents = []; actions = [] };
     devices = map (λ (device : DraftDevice). device.name) theory.devices;
     poss = [];
     causes = [];
@@ -76,9 +79,10 @@ module _ (theory : DraftTheory) (program : DraftProgram) where
   abbrev pub all_refusals : List CodeAt
   all_refusals = refusals_in names_of theory program
 
-  -- The agent: the draft without places, its words resolved, with a start value for each ground fluent.
+  -- The agent: the draft without places, its words resolved, its ground things numbered, with a start value
+  -- for each ground fluent.
   abbrev pub agent_of : Agent
-  agent_of = record (bare theory) {
+  agent_of = record (numbered (bare theory)) {
     poss = given (map (poss_in names_of) theory.poss);
     causes = given (map (cause_in names_of) theory.causes);
     senses = given (senses_in names_of [] theory.senses);
@@ -91,5 +95,5 @@ module _ (theory : DraftTheory) (program : DraftProgram) where
 -- ran out.
 abbrev pub Checks : Result Agent CheckFault → DraftTheory → DraftProgram → Type 0
 Checks (Ok agent) theory program = (all_refusals theory program ≡ []) × (agent ≡ agent_of theory program)
-Checks (Err (Refused code at)) theory program = IsLeast code at (all_refusals theory program)
+Checks (Err (Refused code at)) theory program = IsLeast (IsAmong (all_refusals theory program)) code at
 Checks (Err Memory) theory program = Unit {0}

@@ -12,7 +12,7 @@ use Rattle.golog_tree.specs.declared.draft_cond.DraftCond.{DraftCond}
 use Rattle.golog_semantics.specs.Fits as fits
 use Rattle.golog_semantics.specs.Fits.{is_sort, args_fit, term_fits, cond_fits}
 use Rattle.golog_semantics.specs.Written.{is_written_term, is_written_cond}
-use Rattle.golog_semantics.specs.Drafts.{Signature, term_keeps, cond_keeps}
+use Rattle.golog_draft.specs.Drafts.{Signature, term_keeps, cond_keeps}
 use Rattle.golog_check.specs.DeclaredItems.{Declared}
 use Rattle.golog_check.specs.Scope.{Scope}
 use Rattle.golog_check.specs.Terms.{args_in, term_in}

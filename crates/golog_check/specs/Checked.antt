@@ -1,12 +1,13 @@
 -- Items that are checked one after another.
 use Rattle.std.specs.Prelude.{◌≡◌, Option, Result, List, [], ◌∷◌, ◌++◌}
-use Rattle.golog_semantics.specs.Reading.{Reading}
+use Rattle.golog_rows.specs.Reading.{Reading}
 use Rattle.golog_check.specs.declared.checked.Checked.{Checked}
 use Rattle.golog_check.specs.declared.fault.CheckFault.{CheckFault}
 use Rattle.golog_check.specs.declared.fault.CheckFault.TheVariants.{Refused, Memory}
-use Rattle.golog_check.specs.declared.least.Refusal.{Refusal}
+use Rattle.golog_rows.specs.declared.least.Refusal.{Refusal}
 use Rattle.golog_check.specs.Faults.{Answers}
-use Rattle.golog_check.specs.Least.{CodeAt, IsLeastOf, refusals, given}
+use Rattle.golog_rows.specs.Least.{CodeAt, IsLeastOf}
+use Rattle.golog_check.specs.Least.{refusals, given}
 
 -- what these give, and their least refusal
 pub record IsChecked {A : Type 0} (checked : Checked A) (readings : List (Reading A)) : Type 0 where

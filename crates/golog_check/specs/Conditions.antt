@@ -8,9 +8,9 @@ use Rattle.golog_tree.specs.declared.draft_cond.DraftCond.{DraftCond}
 use Rattle.golog_tree.specs.declared.draft_cond.DraftCond.TheOpen.{DraftCond-F, Truth, Is, Equal, Less, AtMost, Not, And, Or, ForSome, ForAll}
 use Rattle.golog_tree.specs.declared.draft_cond.DraftCond.TheFolds.{fold-DraftCond}
 use Rattle.golog_semantics.specs.Fits.{bool_sort}
-use Rattle.golog_semantics.specs.Reading.{Reading, gives, row, ◌>>=◌, each}
+use Rattle.golog_rows.specs.Reading.{Reading, gives, row, ◌>>=◌, each}
 use Rattle.golog_check.specs.declared.terms.Sides.{Sides}
-use Rattle.golog_check.specs.declared.fault.TheConstants.{SORT_CLASH}
+use Rattle.golog_check.specs.Codes.{SORT_CLASH}
 use Rattle.golog_check.specs.DeclaredItems.{Declared}
 use Rattle.golog_check.specs.Sorts.{fluent_sort, fluent_sorts}
 use Rattle.golog_check.specs.Scope.{Scope, variable_no, within}

@@ -9,8 +9,8 @@ use Rattle.golog_tree.specs.declared.prog.Prog.{Prog}
 use Rattle.golog_tree.specs.Ground.{to_count}
 use Rattle.golog_semantics.specs.BlockFree.{has_block_by, proc_blocks}
 use Rattle.golog_semantics.specs.ProgFits.{is_between, depth_limit, fuel_limit}
-use Rattle.golog_check.specs.declared.fault.TheConstants.{NESTED_SEARCH, SEARCH_NUMBERS}
-use Rattle.golog_check.specs.Least.{CodeAt}
+use Rattle.golog_check.specs.Codes.{NESTED_SEARCH, SEARCH_NUMBERS}
+use Rattle.golog_rows.specs.Least.{CodeAt}
 use Rattle.golog_check.specs.Shapes.{shape_step, shapes}
 use Rattle.golog_check.specs.Unguarded.{refused_where}
 

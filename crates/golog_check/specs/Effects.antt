@@ -9,10 +9,10 @@ use Rattle.golog_tree.specs.declared.agent.SenseItem.{SenseItem}
 use Rattle.golog_tree.specs.declared.draft.DraftPoss.{DraftPoss}
 use Rattle.golog_tree.specs.declared.draft.DraftCause.{DraftCause}
 use Rattle.golog_tree.specs.declared.draft.DraftSense.{DraftSense}
-use Rattle.golog_semantics.specs.Reading.{Reading, gives, row, ◌>>=◌}
+use Rattle.golog_rows.specs.Reading.{Reading, gives, row, ◌>>=◌}
 use Rattle.golog_semantics.specs.Ways.{is_empty}
 use Rattle.golog_check.specs.declared.heads.Head.{Head}
-use Rattle.golog_check.specs.declared.fault.TheConstants.{SENSE_CLASH}
+use Rattle.golog_check.specs.Codes.{SENSE_CLASH}
 use Rattle.golog_check.specs.DeclaredItems.{Declared}
 use Rattle.golog_check.specs.Sorts.{fluent_sort, fluent_sorts, action_sorts}
 use Rattle.golog_check.specs.Scope.{Scope, scope_of_vars}

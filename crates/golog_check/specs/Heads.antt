@@ -3,7 +3,7 @@ use Rattle.std.specs.Prelude.{ℕ, is_none, Bool, false, if◌then◌else◌, Li
 use Rattle.golog_tree.specs.declared.cond.Arg.TheVariants.{Var}
 use Rattle.golog_tree.specs.declared.draft_cond.DraftArg.{DraftArg}
 use Rattle.golog_tree.specs.declared.draft_cond.DraftArg.TheVariants.{Word, Number}
-use Rattle.golog_semantics.specs.Reading.{Reading, gives, ◌>>=◌}
+use Rattle.golog_rows.specs.Reading.{Reading, gives, ◌>>=◌}
 use Rattle.golog_check.specs.declared.heads.Head.{Head}
 use Rattle.golog_check.specs.DeclaredItems.{Declared}
 use Rattle.golog_check.specs.Scope.{Scope, variable_no, within, meaning}

@@ -1,3 +1,5 @@
+pub mod Codes
+pub mod Limits
 pub mod AgentLaws
 pub mod Check
 pub mod CheckLaws

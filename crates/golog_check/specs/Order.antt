@@ -1,13 +1,13 @@
 -- The least of all rows that fit.
-use Rattle.std.specs.Prelude.{not, ◌||◌, Bool, true, IsTrue, ⊤, Result, Ok, Err, List, [], ◌∷◌, ◌++◌, map, Contains}
-use Rattle.std.specs.List.{list_all}
+use Rattle.std.specs.Prelude.{true, Result, List, [], ◌∷◌, ◌++◌, map}
 use Rattle.golog_tree.specs.declared.draft.DraftTheory.{DraftTheory}
 use Rattle.golog_tree.specs.declared.draft.DraftProgram.{DraftProgram}
-use Rattle.golog_semantics.specs.Reading.{Row, Reading}
+use Rattle.golog_rows.specs.Reading.{Row, Reading}
+use Rattle.golog_rows.specs.Answers as rows
 use Rattle.golog_check.specs.declared.fault.CheckFault.{CheckFault}
-use Rattle.golog_check.specs.declared.fault.CheckFault.TheVariants.{Refused, Memory}
 use Rattle.golog_check.specs.DeclaredItems.{Declared}
-use Rattle.golog_check.specs.Least.{CodeAt, goes_before}
+use Rattle.golog_check.specs.Faults.{code_at}
+use Rattle.golog_rows.specs.Least.{CodeAt}
 use Rattle.golog_check.specs.Sums.{fluent_sum, action_sum}
 use Rattle.golog_check.specs.Starts.{start_in}
 use Rattle.golog_check.specs.Effects.{poss_in, cause_in, senses_in}
@@ -39,19 +39,9 @@ rows_in names theory program =
     ++ refused_rows (all_block_refusals program.procs program.main.body)
     ++ rows_of (main_in names program.main ∷ [])
 
--- the row does not fit, or the refusal goes before it
-abbrev pub is_behind : CodeAt → Row → Bool
-is_behind refusal (fits, code, at) = not fits || goes_before refusal (code, at)
-
-abbrev pub fits_not : Row → Bool
-fits_not (fits, code, at) = not fits
-
--- Where there is a value, no row fits. A refusal is a row that fits, and goes before all that fit.
+-- Where there is a value, no row fits. A refusal is the least of the rows that fit.
 abbrev pub IsLeastRow : {A : Type 0} → Result A CheckFault → List Row → Type 0
-IsLeastRow (Ok value) rows = IsTrue (list_all fits_not rows)
-IsLeastRow (Err (Refused code at)) rows =
-    Contains rows (true, code, at) × IsTrue (list_all (is_behind (code, at)) rows)
-IsLeastRow (Err Memory) rows = ⊤
+IsLeastRow result table = rows.IsLeastRow code_at result table
 
 abbrev pub all_rows : DraftTheory → DraftProgram → List Row
 all_rows theory program = rows_in (names_of theory program) theory program

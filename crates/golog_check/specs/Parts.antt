@@ -4,7 +4,8 @@ use Rattle.golog_tree.specs.declared.draft.DraftTheory.{DraftTheory}
 use Rattle.golog_tree.specs.declared.draft.DraftProgram.{DraftProgram}
 use Rattle.golog_check.specs.declared.checking.Parts.{Parts}
 use Rattle.golog_check.specs.DeclaredItems.{Declared}
-use Rattle.golog_check.specs.Least.{IsLeastOf, refusals}
+use Rattle.golog_rows.specs.Least.{IsLeastOf}
+use Rattle.golog_check.specs.Least.{refusals}
 use Rattle.golog_check.specs.Checked.{IsChecked}
 use Rattle.golog_check.specs.Sums.{fluent_sum, action_sum}
 use Rattle.golog_check.specs.Starts.{start_in}

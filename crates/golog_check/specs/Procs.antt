@@ -1,8 +1,8 @@
 -- What a procedure of a draft is.
 use Rattle.golog_tree.specs.declared.agent.ProcItem.{ProcItem}
 use Rattle.golog_tree.specs.declared.draft.DraftProc.{DraftProc}
-use Rattle.golog_semantics.specs.Drafts.{param_words}
-use Rattle.golog_semantics.specs.Reading.{Reading, gives, ◌>>=◌}
+use Rattle.golog_draft.specs.Drafts.{param_words}
+use Rattle.golog_rows.specs.Reading.{Reading, gives, ◌>>=◌}
 use Rattle.golog_check.specs.DeclaredItems.{Declared, param_sorts}
 use Rattle.golog_check.specs.Scope.{Scope, scope_of_vars}
 use Rattle.golog_check.specs.Programs.{prog_in}

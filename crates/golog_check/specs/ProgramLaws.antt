@@ -14,7 +14,7 @@ use Rattle.golog_semantics.specs.BlockFree.{block_at, proc_blocks}
 use Rattle.golog_semantics.specs.Fits as fits
 use Rattle.golog_semantics.specs.ProgFits.{Position, is_between, depth_limit, fuel_limit, prog_fits}
 use Rattle.golog_semantics.specs.Written.{is_written_prog}
-use Rattle.golog_semantics.specs.Drafts.{prog_keeps}
+use Rattle.golog_draft.specs.Drafts.{prog_keeps}
 use Rattle.golog_check.specs.DeclaredItems.{Declared, declared_by}
 use Rattle.golog_check.specs.Scope.{Scope}
 use Rattle.golog_check.specs.Programs.{prog_in}

@@ -7,7 +7,7 @@ use Rattle.golog_tree.specs.declared.draft_prog.DraftProg.{DraftProg}
 use Rattle.golog_tree.specs.declared.draft_prog.DraftProg.TheOpen.{DraftProg-F, Nil, Act, Test, Seq, Choice, Pick, Star, If, While, Conc, Prio, Cstar, Call, Search}
 use Rattle.golog_tree.specs.declared.draft_prog.DraftProg.TheFolds.{fold-DraftProg}
 use Rattle.golog_tree.specs.Ground.{to_count}
-use Rattle.golog_semantics.specs.Reading.{Reading, gives, ◌>>=◌, each}
+use Rattle.golog_rows.specs.Reading.{Reading, gives, ◌>>=◌, each}
 use Rattle.golog_check.specs.declared.programs.Join.{Join}
 use Rattle.golog_check.specs.declared.programs.Join.TheVariants.{Seq as InSeq, Choice as InChoice, Conc as InConc, Prio as InPrio}
 use Rattle.golog_check.specs.DeclaredItems.{Declared}

@@ -49,6 +49,7 @@ with_procs procs = record {
   sorts = [];
   fluents = [];
   actions = [];
+  firsts = record { fluents = []; actions = [] };
   devices = [];
   poss = [];
   causes = [];

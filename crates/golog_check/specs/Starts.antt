@@ -6,15 +6,15 @@ use Rattle.golog_tree.specs.declared.cond.Arg.TheVariants.{Const, Var}
 use Rattle.golog_tree.specs.declared.draft.DraftStart.{DraftStart}
 use Rattle.golog_tree.specs.declared.draft.DraftStart.TheVariants.{Each, One}
 use Rattle.golog_tree.specs.declared.draft_cond.DraftArg.{DraftArg}
-use Rattle.golog_semantics.specs.DraftPlaces.{arg_place}
-use Rattle.golog_semantics.specs.Reading.{Reading, gives, ◌>>=◌, found}
+use Rattle.golog_draft.specs.DraftPlaces.{arg_place}
+use Rattle.golog_rows.specs.Reading.{Reading, gives, ◌>>=◌, found}
 use Rattle.golog_semantics.specs.Truth.{unknown}
 use Rattle.golog_check.specs.declared.starts.Start.{Start}
 use Rattle.golog_check.specs.declared.starts.Start.TheVariants as start
-use Rattle.golog_check.specs.declared.fault.TheConstants.{BAD_START}
+use Rattle.golog_check.specs.Codes.{BAD_START}
 use Rattle.golog_check.specs.DeclaredItems.{Declared}
 use Rattle.golog_check.specs.Sorts.{fluent_sort, fluent_sorts}
-use Rattle.golog_check.specs.Least.{CodeAt}
+use Rattle.golog_rows.specs.Least.{CodeAt}
 use Rattle.golog_check.specs.Terms.{arg_in, args_in}
 
 -- the constant that an argument is

@@ -5,9 +5,9 @@ use Rattle.golog_tree.specs.declared.draft.DraftTheory.{DraftTheory}
 use Rattle.golog_tree.specs.declared.draft.DraftFluent.{DraftFluent}
 use Rattle.golog_tree.specs.declared.draft.DraftAction.{DraftAction}
 use Rattle.golog_tree.specs.Ground.{item_size, size_at, product}
-use Rattle.golog_semantics.specs.Reading.{Reading, gives, row}
-use Rattle.golog_check.specs.declared.fault.TheConstants.{GROUND_TOO_MANY}
-use Rattle.golog_check.specs.declared.sums.TheConstants.{GROUND_FLUENTS, GROUND_ACTIONS}
+use Rattle.golog_rows.specs.Reading.{Reading, gives, row}
+use Rattle.golog_check.specs.Codes.{GROUND_TOO_MANY}
+use Rattle.golog_check.specs.Limits.{GROUND_FLUENTS, GROUND_ACTIONS}
 use Rattle.golog_check.specs.DeclaredItems.{sort_item}
 
 -- how many constants a sort has

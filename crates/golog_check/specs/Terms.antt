@@ -9,11 +9,11 @@ use Rattle.golog_tree.specs.declared.draft_cond.DraftArg.TheVariants.{Word, Numb
 use Rattle.golog_tree.specs.declared.draft_cond.DraftTerm.{DraftTerm}
 use Rattle.golog_tree.specs.declared.draft_cond.DraftTerm.TheOpen.{DraftTerm-F, Arg as ArgTerm, Fluent, Shift}
 use Rattle.golog_tree.specs.declared.draft_cond.DraftTerm.TheFolds.{fold-DraftTerm}
-use Rattle.golog_semantics.specs.DraftPlaces.{arg_place}
-use Rattle.golog_semantics.specs.Reading.{Reading, gives, row, ◌>>=◌, found, each}
+use Rattle.golog_draft.specs.DraftPlaces.{arg_place}
+use Rattle.golog_rows.specs.Reading.{Reading, gives, row, ◌>>=◌, found, each}
 use Rattle.golog_check.specs.declared.scope.Meant.{Meant}
 use Rattle.golog_check.specs.declared.terms.Sides.{Sides}
-use Rattle.golog_check.specs.declared.fault.TheConstants.{SORT_CLASH, UNBOUND}
+use Rattle.golog_check.specs.Codes.{SORT_CLASH, UNBOUND}
 use Rattle.golog_check.specs.DeclaredItems.{Declared}
 use Rattle.golog_check.specs.Sorts.{number_in, is_range, fluent_sort, fluent_sorts}
 use Rattle.golog_check.specs.Scope.{Scope, meaning}

@@ -5,9 +5,9 @@ use Rattle.golog_tree.specs.declared.agent.Agent.{Agent}
 use Rattle.golog_tree.specs.declared.agent.ProcItem.{ProcItem}
 use Rattle.golog_tree.specs.declared.draft.DraftProc.{DraftProc}
 use Rattle.golog_semantics.specs.FrontCalls.{front_calls, front_nests}
-use Rattle.golog_check.specs.declared.fault.TheConstants.{UNGUARDED, FRONT_DEEP}
-use Rattle.golog_check.specs.declared.nesting.TheConstants.{PROC_NEST}
-use Rattle.golog_check.specs.Least.{CodeAt}
+use Rattle.golog_check.specs.Codes.{UNGUARDED, FRONT_DEEP}
+use Rattle.golog_check.specs.Limits.{PROC_NEST}
+use Rattle.golog_rows.specs.Least.{CodeAt}
 use Rattle.golog_check.specs.Shapes.{shapes}
 
 -- what is said of the procedure with this number

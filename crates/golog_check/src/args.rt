@@ -1,9 +1,9 @@
 ghost use Rattle.std.specs.Prelude.{◌≡◌, option_map};
 ghost use Rattle.golog_tree.specs.declared.cond.Arg.TheVariants.{Const};
-ghost use Rattle.golog_semantics.specs.DraftPlaces.{arg_place};
-ghost use Rattle.golog_semantics.specs.Reading.{found};
+ghost use Rattle.golog_draft.specs.DraftPlaces.{arg_place};
+ghost use Rattle.golog_rows.specs.Reading.{found};
 ghost use Rattle.golog_check.specs.declared.scope.Meant.{Meant};
-ghost use Rattle.golog_check.specs.declared.fault.TheConstants.{SORT_CLASH, UNBOUND};
+ghost use Rattle.golog_check.specs.Codes.{SORT_CLASH, UNBOUND};
 ghost use Rattle.golog_check.specs.Sorts.{number_in};
 ghost use Rattle.golog_check.specs.Scope.{meaning};
 ghost use Rattle.golog_check.specs.Faults.{Answers};

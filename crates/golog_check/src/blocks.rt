@@ -1,15 +1,15 @@
 ghost use Rattle.std.specs.Prelude.{◌≡◌, List, ◌++◌, map, IfOk};
 ghost use Rattle.std.specs.List.{list_any};
-ghost use Rattle.golog_check.specs.Least.{CodeAt, IsLeastOf};
+ghost use Rattle.golog_rows.specs.Least.{CodeAt, IsLeastOf};
 ghost use Rattle.golog_check.specs.Fronts.{draft_has, block_round};
 ghost use Rattle.golog_check.specs.Unguarded.{refused_where, said as spec_said};
 ghost use Rattle.golog_check.specs.DraftBlocks.{numbers_fit as spec_numbers_fit, blocks_of, of_each, block_refusals, all_block_refusals};
 
 use crate::fault::{NESTED_SEARCH, SEARCH_NUMBERS};
-use crate::least::{Refusal, least_of, lesser};
 use crate::programs::count_of;
 use crate::rounds::{Round, rounds_of};
 use golog_base::{List, NoMemory};
+use golog_rows::{Refusal, least_of, lesser};
 use golog_tree::{DraftProc, DraftProg, Place};
 use std::alloc::Global;
 

@@ -2,8 +2,8 @@ ghost use Rattle.std.specs.Prelude.{◌≡◌, [], None, OnOk, IfOk};
 ghost use Rattle.golog_check.specs.Checked.{AddsTo, IsChecked, Lowers};
 
 use crate::fault::CheckFault;
-use crate::least::{Refusal, lesser};
 use golog_base::{List, NoMemory};
+use golog_rows::{Refusal, lesser};
 use std::alloc::Global;
 
 /// What the items so far give, but for those that are refused, and the least refusal.

@@ -3,16 +3,17 @@ ghost use Rattle.golog_tree.specs.declared.draft.DraftSense.{DraftSense};
 ghost use Rattle.golog_tree.specs.declared.draft.DraftTheory.{DraftTheory};
 ghost use Rattle.golog_tree.specs.declared.draft.DraftProgram.{DraftProgram};
 ghost use Rattle.golog_tree.specs.declared.prog.Prog.{Prog};
-ghost use Rattle.golog_tree.specs.Ground.{IsCountable, ground_fluents};
-ghost use Rattle.golog_semantics.specs.Drafts.{TheoryKeeps, ProgramKeeps};
-ghost use Rattle.golog_semantics.specs.DraftOrder.{TheoryInOrder, ProgramInOrder};
+ghost use Rattle.golog_tree.specs.Ground.{IsCountable, ground_fluents, numbered as spec_numbered};
+ghost use Rattle.golog_draft.specs.Drafts.{TheoryKeeps, ProgramKeeps};
+ghost use Rattle.golog_draft.specs.DraftOrder.{TheoryInOrder, ProgramInOrder};
 ghost use Rattle.golog_semantics.specs.WellFormed.{WellFormed};
-ghost use Rattle.golog_semantics.specs.Reading.{Reading};
+ghost use Rattle.golog_rows.specs.Reading.{Reading};
 ghost use Rattle.golog_check.specs.Faults.{Answers};
 ghost use Rattle.golog_check.specs.Checked.{IsChecked};
 ghost use Rattle.golog_check.specs.DeclaredItems.{Declared, sort_item};
 ghost use Rattle.golog_check.specs.Sums.{AreSmall, HaveFewArgs, fluent_counted, action_counted};
-ghost use Rattle.golog_check.specs.Least.{IsLeastOf, given};
+ghost use Rattle.golog_rows.specs.Least.{IsLeastOf};
+ghost use Rattle.golog_check.specs.Least.{given};
 ghost use Rattle.golog_check.specs.Starts.{start_value};
 ghost use Rattle.golog_check.specs.Check.{Checks, bare as spec_bare, main_in as spec_main_in, main_of as spec_main_of, names_of, refusals_in};
 ghost use Rattle.golog_check.specs.Order.{IsLeastRow, all_rows};
@@ -23,9 +24,9 @@ use crate::checked::Checked;
 use crate::copies::{copy_actions, copy_devices, copy_fluents, copy_sorts, sort_places};
 use crate::effects::{cause_items_in, poss_items_in};
 use crate::fault::{CheckFault, FRONT_DEEP, refuse_where};
-use crate::least::{Refusal, least_of};
 use crate::names::Names;
 use crate::nesting::{MAIN_NEST, nests_within};
+use crate::numbering::numbered;
 use crate::procs::{params_of_each, proc_items_in};
 use crate::programs::prog_in;
 use crate::reaching::fronts_refused;
@@ -34,9 +35,10 @@ use crate::start_values::initial_values;
 use crate::starts::{Start, starts_in};
 use crate::sums::{GROUND_ACTIONS, GROUND_FLUENTS, sum_passes};
 use golog_base::{List, NoMemory};
+use golog_rows::{Refusal, least_of};
 use golog_tree::{
-    Agent, CauseItem, DraftMain, DraftProgram, DraftTheory, PossItem, ProcItem, Prog, SenseItem,
-    SortItem,
+    Agent, CauseItem, DraftMain, DraftProgram, DraftTheory, Firsts, PossItem, ProcItem, Prog,
+    SenseItem, SortItem,
 };
 use std::alloc::Global;
 
@@ -52,6 +54,10 @@ fn bare(alloc: Global, theory: &DraftTheory) -> Result<Agent, NoMemory>
         sorts,
         fluents,
         actions,
+        firsts: Firsts {
+            fluents: List::new(alloc),
+            actions: List::new(alloc),
+        },
         devices,
         poss: List::new(alloc),
         causes: List::new(alloc),
@@ -240,6 +246,28 @@ fn with_starts(alloc: Global, agent: Agent, parts: Parts) -> Result<Agent, NoMem
     }
 }
 
+/// The agent of what is declared, numbered, and of the parts, none of which is refused.
+fn whole(alloc: Global, agent: Agent, parts: Parts) -> Result<Agent, NoMemory>
+    requires { IsCountable (spec_numbered agent) }
+    ensures { IfOk result (λ whole. (reading : Reading Prog) → parts.main.items ≡ given (reading ∷ [])
+        → whole ≡ record (spec_numbered agent) {
+          poss = parts.poss.items;
+          causes = parts.causes.items;
+          senses = parts.senses.items;
+          starts = map (start_value parts.starts.items) (ground_fluents (spec_numbered agent));
+          procs = parts.procs.items;
+          main = spec_main_of reading.outcome;
+        }) }
+{
+    match numbered(alloc, agent) {
+        Ok(agent) => with_starts(alloc, agent, parts),
+        Err(NoMemory) => {
+            drop(parts);
+            Err(NoMemory)
+        }
+    }
+}
+
 /// The agent of the parts, or their least refusal.
 fn answer(
     alloc: Global,
@@ -262,7 +290,7 @@ fn answer(
                 at: refusal.at,
             })
         }
-        None => Ok(with_starts(alloc, agent, parts)?),
+        None => Ok(whole(alloc, agent, parts)?),
     }
 }
 

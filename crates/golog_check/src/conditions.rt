@@ -1,7 +1,7 @@
 ghost use Rattle.std.specs.Prelude.{◌≡◌, [], map, IfOk};
-ghost use Rattle.golog_semantics.specs.Drafts.{AgentCondKeeps};
-ghost use Rattle.golog_semantics.specs.DraftOrder.{IsAscending};
-ghost use Rattle.golog_semantics.specs.DraftPlaces.{cond_places};
+ghost use Rattle.golog_draft.specs.Drafts.{AgentCondKeeps};
+ghost use Rattle.golog_draft.specs.DraftOrder.{IsAscending};
+ghost use Rattle.golog_draft.specs.DraftPlaces.{cond_places};
 ghost use Rattle.golog_semantics.specs.Fits.{nothing_bound};
 ghost use Rattle.golog_semantics.specs.WellFormed.{WellFormed};
 ghost use Rattle.golog_check.specs.CheckLaws.{IsCondOf};

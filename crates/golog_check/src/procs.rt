@@ -1,5 +1,5 @@
 ghost use Rattle.std.specs.Prelude.{◌≡◌, map, IfOk};
-ghost use Rattle.golog_semantics.specs.Drafts.{param_words as spec_param_words};
+ghost use Rattle.golog_draft.specs.Drafts.{param_words as spec_param_words};
 ghost use Rattle.golog_check.specs.DeclaredItems.{param_sorts as spec_param_sorts};
 ghost use Rattle.golog_check.specs.Faults.{Answers};
 ghost use Rattle.golog_check.specs.Checked.{IsChecked};

@@ -1,6 +1,6 @@
 ghost use Rattle.std.specs.Prelude.{◌≡◌, ◌==◌, ◌++◌, nat_lt, not, ◌&&◌, ◌||◌, List, map, length, slice_index, IfOk};
 ghost use Rattle.golog_semantics.specs.FrontCalls.{greatest};
-ghost use Rattle.golog_check.specs.Least.{CodeAt, IsLeastOf};
+ghost use Rattle.golog_rows.specs.Least.{CodeAt, IsLeastOf};
 ghost use Rattle.golog_check.specs.Settled.{same_of, rounds_of};
 ghost use Rattle.golog_check.specs.Fronts.{nest_of_calls, nest_round, reach_round};
 ghost use Rattle.golog_check.specs.Told.{nesting, calls_told, reached_each, is_endless as spec_is_endless, reaches_itself as spec_reaches_itself};
@@ -9,10 +9,10 @@ ghost use Rattle.golog_check.specs.Unguarded.{leads_to as spec_leads_to, refused
 use crate::blocks::{is_said, lesser_where};
 use crate::fault::{FRONT_DEEP, UNGUARDED};
 use crate::fronts::{Nesting, TOO_DEEP, nestings_of};
-use crate::least::Refusal;
 use crate::nesting::PROC_NEST;
 use crate::rounds::{Round, rounds_of, same_of};
 use golog_base::{List, NoMemory};
+use golog_rows::Refusal;
 use golog_tree::{DraftProc, Place};
 use std::alloc::Global;
 

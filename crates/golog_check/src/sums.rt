@@ -3,7 +3,7 @@ ghost use Rattle.golog_tree.specs.Ground.{item_size as spec_item_size};
 ghost use Rattle.golog_check.specs.Sums.{size_in as spec_size_in, count_in as spec_count_in, sum_from as spec_sum_from, AreSmall, HaveFewArgs};
 
 use crate::fault::GROUND_TOO_MANY;
-use crate::least::Refusal;
+use golog_rows::Refusal;
 use golog_tree::{DraftAction, DraftFluent, Place, SortItem};
 
 /// The most ground fluents.

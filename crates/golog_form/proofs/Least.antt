@@ -1,6 +1,7 @@
 -- The first code in the order of the tokens is that of the least place.
 use Rattle.std.proofs.Common.{◌≡◌, ℕ, ◌+◌, ◌-◌, ◌<◌, ◌≤◌, ◌^◌, ◌⊎◌, inl, inr, Bool, true, false, cond, eqb, length, List, [], ◌∷◌, ◌++◌, Result, Ok, Err, refl, sym, ap, subst, ◌∙◌, append_assoc, arith}
 use Rattle.std.proofs.lemmas.List.{append-nil}
+use Rattle.golog_rows.specs.Order.{IsNoLater, IsLeast}
 use Rattle.golog_form.specs.declared.class.ByteClass.{ByteClass}
 use Rattle.golog_form.specs.declared.class.ByteClass.TheVariants as bytes
 use Rattle.golog_form.specs.declared.form.Form.{Form}
@@ -13,7 +14,7 @@ use Rattle.golog_form.specs.Gives.{Gives}
 use Rattle.golog_form.specs.Parsing.{parse, start}
 use Rattle.std.specs.Prelude.{fold}
 use Rattle.std.specs.List.{list_any}
-use Rattle.golog_form.specs.Faults.{begins_form, after_token, IsStray, IsBad, IsTooDeep, Fits, unclosed, stray, bad_byte, too_deep, empty, IsFirst, IsAnswer}
+use Rattle.golog_form.specs.Faults.{begins_form, after_token, IsStray, IsBad, IsTooDeep, Fits, unclosed, stray, bad_byte, too_deep, empty, IsAnswer}
 use Rattle.golog_form.proofs.Refused.{TokenFits, EndFits, FirstFrom, NoneFrom, Verdict, whole}
 
 -- tokens stand one after another, from a place up to another
@@ -107,15 +108,12 @@ one_end all why other (inl (e, a)) (inr (f, b)) = absurd (omega (arith, a, none_
 one_end all why other (inr (e, a)) (inl (f, b)) = absurd (omega (arith, b, none_open all 0 a))
 one_end all why other (inr (e, a)) (inr (f, b)) = e ∙ sym f
 
-abbrev IsLeast : ℕ → ℕ → ℕ → ℕ → Type 0
-IsLeast why at code place = (at < place) ⊎ ((at ≡ place) × (why ≤ code))
-
 -- the same code at the same place
-same_least : (why at code place : ℕ) → why ≡ code → at ≡ place → IsLeast why at code place
+same_least : (why at code place : ℕ) → why ≡ code → at ≡ place → IsNoLater why at code place
 same_least why at code place e f = inr (f, omega arith)
 
 least_token : (before after : List Token) (from end why at : ℕ) → Ordered from after end → FirstFrom before after end why at
-    → (mid : List Token) (t : Token) (rest : List Token) → after ≡ mid ++ t ∷ rest → (code : ℕ) → TokenFits (before ++ mid) t code → IsLeast why at code (place t)
+    → (mid : List Token) (t : Token) (rest : List Token) → after ≡ mid ++ t ∷ rest → (code : ℕ) → TokenFits (before ++ mid) t code → IsNoLater why at code (place t)
 least_token before [] from end why at o f [] t rest e code row = absurd cc
 least_token before [] from end why at o f (v ∷ mid) t rest e code row = absurd cc
 least_token before (u ∷ us) from end why at o (inl (fits, is)) [] t rest e code row =
@@ -135,7 +133,7 @@ least_token before (u ∷ us) from end why at o (inr (none, later)) (v ∷ mid) 
     let joined : before ++ v ∷ mid ≡ (before ++ u ∷ []) ++ mid = ap (λ x. before ++ x ∷ mid) same ∙ sym (append_assoc before (u ∷ []) mid) in
     least_token (before ++ u ∷ []) us (end_of u) end why at o.2 later mid t rest more code (subst (λ b. TokenFits b t code) joined row)
 
-least_end : (before after : List Token) (from end why at : ℕ) → Ordered from after end → FirstFrom before after end why at → (code : ℕ) → EndFits (before ++ after) code → IsLeast why at code end
+least_end : (before after : List Token) (from end why at : ℕ) → Ordered from after end → FirstFrom before after end why at → (code : ℕ) → EndFits (before ++ after) code → IsNoLater why at code end
 least_end before [] from end why at o f code row = same_least why at code end (one_end before why code f.0 (subst (λ b. EndFits b code) (append-nil before) row)) f.1
 least_end before (u ∷ us) from end why at o (inl (fits, is)) code row = inl (omega (arith, (stands-after from [] u us end o).1, is))
 least_end before (u ∷ us) from end why at o (inr (none, later)) code row =
@@ -188,13 +186,13 @@ module _ (text : List ℕ) where
   fits_of why at (inr (inl (f, row), is)) = subst (Fits text at) (sym f) (unclosed row is)
   fits_of why at (inr (inr (f, row), is)) = subst (Fits text at) (sym f) (empty row is)
 
-  is_first : (why at : ℕ) → FirstFrom [] (tokens text) (length text) why at → IsFirst text why at
+  is_first : (why at : ℕ) → FirstFrom [] (tokens text) (length text) why at → IsLeast (λ code place. Fits text place code) why at
   is_first why at f =
       let o = tokens-ordered false 0 text (length text) (omega arith) in
       record {
         fits = fits_of why at (stands [] (tokens text) (length text) why at f);
-        least = by_code (λ code place. IsLeast why at code place) (λ mid t rest e code row. least_token [] (tokens text) 0 (length text) why at o f mid t rest e code row)
-            (λ code row. least_end [] (tokens text) 0 (length text) why at o f code row);
+        least = λ code place. by_code (λ code place. IsNoLater why at code place) (λ mid t rest e code row. least_token [] (tokens text) 0 (length text) why at o f mid t rest e code row)
+            (λ code row. least_end [] (tokens text) 0 (length text) why at o f code row) place code;
       }
 
   is_none : NoneFrom [] (tokens text) → (at why : ℕ) → Fits text at why → ⊥

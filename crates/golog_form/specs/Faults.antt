@@ -1,6 +1,8 @@
 -- The codes of bytes that spell no form, each with its place.
-use Rattle.std.specs.Prelude.{◌≡◌, ◌<◌, ◌≤◌, ◌+◌, ◌-◌, ◌^◌, ◌⊎◌, ℕ, Bool, true, false, IsTrue, IsFalse, List, ◌∷◌, ◌++◌, length, fold, Result, Ok, Err}
+use Rattle.std.specs.Prelude.{◌≡◌, ◌<◌, ◌≤◌, ◌+◌, ◌-◌, ◌⊎◌, ℕ, Bool, true, false, IsTrue, IsFalse, List, ◌∷◌, ◌++◌, length, fold, Result, Ok, Err}
 use Rattle.std.specs.List.{list_any}
+use Rattle.golog_base.specs.Files.{file_limit}
+use Rattle.golog_rows.specs.Order.{IsLeast}
 use Rattle.golog_form.specs.declared.token.Token.{Token}
 use Rattle.golog_form.specs.declared.token.Token.TheVariants.{Open, Close, Atom, Bad}
 use Rattle.golog_form.specs.declared.fault.FormFault.{FormFault}
@@ -68,15 +70,10 @@ pub data Fits (bytes : List ℕ) (at : ℕ) : ℕ → Type 0 where
   too_deep : HasToken bytes IsTooDeep at → Fits bytes at 4
   empty : IsFalse (has_form (tokens bytes)) → at ≡ length bytes → Fits bytes at 6
 
--- the code fits at the place, and no code fits at a lesser place, or there with a lesser number
-pub record IsFirst (bytes : List ℕ) (why at : ℕ) : Type 0 where
-  pub fits : Fits bytes at why
-  pub least : (place code : ℕ) → Fits bytes place code → (at < place) ⊎ ((at ≡ place) × (why ≤ code))
-
 -- The answer of a reader. 5 TooLong, where the bytes are above the limit, is tested first and stands at the
--- limit. Any other code is the first that fits, and where a form is given none fits. Want of memory is free.
+-- limit. Any other code is the least that fits, and where a form is given none fits. Want of memory is free.
 abbrev pub IsAnswer : {A : Type 0} → List ℕ → Result A FormFault → Type 0
-IsAnswer bytes (Ok form) = (length bytes ≤ 2 ^ 20) × ((at why : ℕ) → Fits bytes at why → ⊥)
+IsAnswer bytes (Ok form) = (length bytes ≤ file_limit) × ((at why : ℕ) → Fits bytes at why → ⊥)
 IsAnswer bytes (Err (Refused why at)) =
-    ((2 ^ 20 < length bytes) × (why ≡ 5) × (at ≡ 2 ^ 20)) ⊎ ((length bytes ≤ 2 ^ 20) × IsFirst bytes why at)
+    ((file_limit < length bytes) × (why ≡ 5) × (at ≡ file_limit)) ⊎ ((length bytes ≤ file_limit) × IsLeast (λ code place. Fits bytes place code) why at)
 IsAnswer bytes (Err Memory) = Unit {0}

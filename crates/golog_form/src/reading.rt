@@ -1,4 +1,5 @@
-ghost use Rattle.std.specs.Prelude.{◌≤◌, ◌^◌, length, IfOk, IsTrue, Ok};
+ghost use Rattle.std.specs.Prelude.{◌≤◌, length, IfOk, IsTrue, Ok};
+ghost use Rattle.golog_base.specs.Files.{file_limit};
 ghost use Rattle.golog_form.specs.Printing.{atoms_fit};
 ghost use Rattle.golog_form.specs.Places.{IsInOrder};
 ghost use Rattle.golog_form.specs.Spelling.{Spells};
@@ -27,7 +28,7 @@ pub fn read_form(alloc: Global, bytes: &[u8]) -> Result<Form, FormFault>
     ensures printable { IfOk result (λ form. IsTrue (atoms_fit form)) }
     // What is spelled so is read, unless memory runs out.
     ensures only { (form : Form)
-        → length bytes.now ≤ 2 ^ 20 → Spells bytes.now form → Gives result (Ok form) }
+        → length bytes.now ≤ file_limit → Spells bytes.now form → Gives result (Ok form) }
     // Each code comes exactly where it is the first that fits, and a form exactly where none fits.
     ensures codes { IsAnswer bytes.now result }
 {

@@ -9,8 +9,8 @@ use Rattle.golog_tree.specs.declared.draft.DraftTheory.{DraftTheory}
 use Rattle.golog_tree.specs.declared.draft.DraftProc.{DraftProc}
 use Rattle.golog_tree.specs.declared.draft.DraftMain.{DraftMain}
 use Rattle.golog_tree.specs.declared.draft.DraftProgram.{DraftProgram}
-use Rattle.golog_semantics.specs.DraftPlaces.{prog_places, proc_places, main_places}
-use Rattle.golog_semantics.specs.DraftOrder.{Ascend, IsAscending, AreAscending, ProgramInOrder}
+use Rattle.golog_draft.specs.DraftPlaces.{prog_places, proc_places, main_places}
+use Rattle.golog_draft.specs.DraftOrder.{Ascend, IsAscending, AreAscending, ProgramInOrder}
 use Rattle.golog_theory.specs.declared.fault.TheoryFault.{TheoryFault}
 use Rattle.golog_theory.specs.Reading.{Answers, gives, refused, found, ◌>>=◌}
 use Rattle.golog_theory.specs.Names.{same}

@@ -16,8 +16,8 @@ use Rattle.golog_tree.specs.declared.draft_prog.DraftProg.TheOpen as draft
 use Rattle.golog_tree.specs.declared.draft_prog.DraftProg.TheOpen.{DraftProg-F}
 use Rattle.golog_tree.specs.declared.draft_prog.DraftProg.TheViews.{roll-DraftProg}
 use Rattle.golog_tree.specs.declared.draft_prog.DraftProg.TheFolds.{fold-roll-DraftProg, map-DraftProg}
-use Rattle.golog_semantics.specs.DraftPlaces.{joined, arg_places, cond_places_step, cond_places, prog_places_step, prog_places}
-use Rattle.golog_semantics.specs.DraftOrder.{Ascend}
+use Rattle.golog_draft.specs.DraftPlaces.{joined, arg_places, cond_places_step, cond_places, prog_places_step, prog_places}
+use Rattle.golog_draft.specs.DraftOrder.{Ascend}
 use Rattle.golog_theory.specs.Reading.{Reading, gives, refused, ◌>>=◌, each}
 use Rattle.golog_theory.specs.Names.{same}
 use Rattle.golog_theory.specs.Parts.{word, parts, number_of}

@@ -10,7 +10,7 @@ use Rattle.golog_tree.specs.declared.draft.DraftAction.{DraftAction}
 use Rattle.golog_tree.specs.declared.draft_cond.DraftArg.{DraftArg}
 use Rattle.golog_theory.specs.Before.{sort_place, before}
 use Rattle.golog_theory.proofs.KeptStill.{DeclaresMore}
-use Rattle.golog_semantics.specs.Drafts.{is_draft_sort, draft_action_at}
+use Rattle.golog_draft.specs.Drafts.{is_draft_sort, draft_action_at}
 
 module _ {X : Type 0} (p : X → Bool) where
   longer : (x : X) (xs : List X) (b : Bool) (ys : List X) → ys ≡ cond b (x ∷ take_while p xs) [] → length (take_while p xs) ≤ length xs → length ys ≤ length (x ∷ xs)

@@ -19,7 +19,7 @@ use Rattle.golog_theory.specs.Names.{same, is_taken}
 use Rattle.golog_theory.specs.Parts.{word, parts, short_name, sort_of}
 use Rattle.golog_theory.specs.Before.{before}
 use Rattle.golog_semantics.specs.BuiltIn.{same_text}
-use Rattle.golog_semantics.specs.Drafts.{BeginsBuiltIn, is_draft_sort, draft_args_keep, prog_keeps, param_words}
+use Rattle.golog_draft.specs.Drafts.{BeginsBuiltIn, is_draft_sort, draft_args_keep, prog_keeps, param_words}
 use Rattle.golog_theory.proofs.Yields.{Yields, gives-yields, refused-yields, row-yields, if-yields, then-yields, each-yields}
 use Rattle.golog_theory.proofs.Kept.{or_left, or_right, not_true, all_push, sort_of-yields}
 use Rattle.golog_theory.proofs.KeptTheory.{all_still, and_still}

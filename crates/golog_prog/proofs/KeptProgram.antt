@@ -20,7 +20,7 @@ use Rattle.golog_theory.specs.Reading.{Answers, gives, refused, found, ◌>>=◌
 use Rattle.golog_theory.specs.Names.{same, is_taken}
 use Rattle.golog_theory.specs.Heads.{head_word, arguments}
 use Rattle.golog_semantics.specs.BuiltIn.{is_keyword, same_text}
-use Rattle.golog_semantics.specs.Drafts.{AreNames, BeginsBuiltIn, TheoryKeeps, ProgramKeeps, theory_names, proc_names, param_words, draft_args_keep, draft_proc_keeps, prog_keeps}
+use Rattle.golog_draft.specs.Drafts.{AreNames, BeginsBuiltIn, TheoryKeeps, ProgramKeeps, theory_names, proc_names, param_words, draft_args_keep, draft_proc_keeps, prog_keeps}
 use Rattle.golog_theory.proofs.Yields.{Yields, gives-yields, refused-yields, row-yields, found-yields, if-yields, then-yields}
 use Rattle.golog_theory.proofs.Kept.{all_push}
 use Rattle.golog_theory.proofs.Amid.{Absent, all-append}

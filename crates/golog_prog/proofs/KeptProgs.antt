@@ -29,13 +29,13 @@ use Rattle.golog_theory.specs.Heads.{arguments, args_of}
 use Rattle.golog_theory.specs.Conditions.{binder_of, cond_of}
 use Rattle.golog_theory.specs.Recursion.{Part}
 use Rattle.golog_semantics.specs.Ways.{is_empty}
-use Rattle.golog_semantics.specs.Drafts.{BeginsBuiltIn, signature, fluent_keeps, binder_keeps, cond_keeps, is_draft_sort, draft_action_at, act_keeps, call_keeps, prog_keeps_step, prog_keeps, draft_running, draft_own_action}
+use Rattle.golog_draft.specs.Drafts.{BeginsBuiltIn, signature, fluent_keeps, binder_keeps, cond_keeps, is_draft_sort, draft_action_at, act_keeps, call_keeps, prog_keeps_step, prog_keeps, draft_running, draft_own_action}
 use Rattle.golog_theory.proofs.Inside.{Each, by_parts}
 use Rattle.golog_theory.proofs.Yields.{Yields, gives-yields, refused-yields, row-yields, if-yields, then-yields}
 use Rattle.golog_theory.proofs.Kept.{all_push}
 use Rattle.golog_theory.proofs.KeptTerms.{args_of-yields}
 use Rattle.golog_theory.proofs.KeptConds as conds
-use Rattle.golog_theory.proofs.KeptConds.{cond_of-yields}
+use Rattle.golog_theory.proofs.KeptConds.{cond_of-yields, binder_of-yields, room}
 use Rattle.golog_theory.proofs.KeptStill.{cond-still}
 use Rattle.golog_prog.specs.declared.callees.Callee.{Callee}
 use Rattle.golog_prog.specs.declared.keyword.Keyword.{Keyword}
@@ -47,7 +47,6 @@ use Rattle.golog_prog.specs.Constructs.{InScope, act_of, call_of, test_of, progs
 use Rattle.golog_prog.specs.Keywords.{keyword_of}
 use Rattle.golog_prog.specs.Programs.{nil_of, construct_of, list_of, prog_by, prog_of, prog_part}
 use Rattle.golog_prog.proofs.Progs.{prog_of-parts}
-use Rattle.golog_prog.proofs.Binders.{binder_of-yields, room}
 use Rattle.golog_prog.proofs.Earlier.{Knows, knows-sort, through}
 
 -- the number of what is named, and as many arguments as it has

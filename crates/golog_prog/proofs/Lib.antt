@@ -1,6 +1,5 @@
 pub mod Progs
 pub mod Program
-pub mod Binders
 pub mod Nested
 pub mod HasMain
 pub mod Earlier

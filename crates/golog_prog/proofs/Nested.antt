@@ -16,10 +16,10 @@ use Rattle.golog_theory.specs.Parts.{word, parts, number_of}
 use Rattle.golog_theory.specs.Heads.{arguments, args_of}
 use Rattle.golog_theory.specs.Conditions.{binder_of, cond_of}
 use Rattle.golog_theory.specs.Recursion.{Part}
-use Rattle.golog_theory.proofs.Chain.{key, Chain, chain-low, chain-high, Spans, then-chain, then-spans, gives-spans, Parts, ReadsFrom, each-spans}
+use Rattle.golog_rows.proofs.Chain.{key, Chain, chain-low, chain-high, Spans, then-chain, then-spans, gives-spans, Parts, ReadsFrom, each-spans, if-chain}
 use Rattle.golog_theory.proofs.Inside.{Each, by_parts, end_of, Between, Stands, stands, between-from, arguments-between}
-use Rattle.golog_theory.proofs.Tables.{if-chain, Covers, between-le, number_of-covers, args_of-spans}
-use Rattle.golog_theory.proofs.Nested.{within, refused-covers, cond_of-covers}
+use Rattle.golog_theory.proofs.Tables.{Covers, between-le, number_of-covers, args_of-spans}
+use Rattle.golog_theory.proofs.Nested.{within, refused-covers, cond_of-covers, first-spans, last-spans, binder_of-covers}
 use Rattle.golog_prog.specs.declared.callees.Callee.{Callee}
 use Rattle.golog_prog.specs.declared.keyword.Keyword.{Keyword}
 use Rattle.golog_prog.specs.declared.keyword.Keyword.TheVariants.{Act, Test, Seq, Choice, Pick, Star, If, While, Conc, Prio, Cstar, Call, Search, Interrupt, Interrupts}
@@ -29,16 +29,15 @@ use Rattle.golog_prog.specs.Callees.{action_named, proc_named, declared_with, na
 use Rattle.golog_prog.specs.Constructs.{InScope, act_of, call_of, test_of, progs_of, several_of, seq_of, choice_of, conc_of, prio_of, pick_of, one_of, star_of, cstar_of, guarded_of, if_of, while_of, search_of, interrupt, interrupt_of, interrupts, interrupts_of}
 use Rattle.golog_prog.specs.Keywords.{keyword_of}
 use Rattle.golog_prog.specs.Programs.{nil_of, construct_of, list_of, prog_by, prog_of, prog_part}
-use Rattle.golog_prog.proofs.Binders.{binder_of-covers, first-spans, last-spans}
 use Rattle.golog_prog.proofs.Progs.{prog_of-parts}
 
 -- a part that begins later
 later : {A : Type 0} (from at to : ℕ) (reading : Reading A) → from ≤ at → Spans at to reading → Spans from to reading
-later from at to reading le c = chain-low (32 * from) (32 * at) (32 * to) reading.rows (omega arith) c
+later from at to reading le c = chain-low (64 * from) (64 * at) (64 * to) reading.rows (omega arith) c
 
 -- a part that ends earlier
 earlier : {A : Type 0} (from end to : ℕ) (reading : Reading A) → end ≤ to → Spans from end reading → Spans from to reading
-earlier from end to reading le c = chain-high (32 * from) (32 * end) (32 * to) reading.rows (omega arith) c
+earlier from end to reading le c = chain-high (64 * from) (64 * end) (64 * to) reading.rows (omega arith) c
 
 -- what a form names
 declared_with-spans : (at : ℕ) (name : Form) (count : ℕ) (callee : Option Callee) → IsInOrder name → at < place_of name
@@ -53,7 +52,7 @@ named-spans : (at : ℕ) (name : Form) (args : List Form) (callee : Option Calle
 unfolding named
 named-spans at name args callee order lt =
     let size = (stands name order).size in
-    if-chain (32 * at) (32 * end_of name) (is_name (word name)) (declared_with at (place_of name) (length args) callee) (refused 20 (place_of name))
+    if-chain (64 * at) (64 * end_of name) (is_name (word name)) (declared_with at (place_of name) (length args) callee) (refused 20 (place_of name))
     (declared_with-spans at name (length args) callee order lt) (omega arith, omega arith, omega arith, omega arith)
 
 -- the name, and then the arguments
@@ -72,7 +71,7 @@ nil_of-covers : (f : Form) → IsInOrder f → Covers f (nil_of f)
 unfolding nil_of
 nil_of-covers f order =
     let size = (stands f order).size in
-    if-chain (32 * place_of f) (32 * end_of f) (same (word f) (codes "nil")) (gives (prog.Nil (place_of f))) (refused 20 (place_of f))
+    if-chain (64 * place_of f) (64 * end_of f) (same (word f) (codes "nil")) (gives (prog.Nil (place_of f))) (refused 20 (place_of f))
     (omega arith) (none (place_of f) (end_of f) size)
 
 module _ (theory : DraftTheory) (procs : List Declared) where
@@ -118,7 +117,7 @@ module _ (theory : DraftTheory) (procs : List Declared) where
     omega arith,
     omega arith,
     omega arith,
-    chain-low (key at 20) (32 * from) (32 * to) (progs_of scope (as_parts fs)).rows (omega arith) (progs_of-spans scope fs from to b e),
+    chain-low (key at 20) (64 * from) (64 * to) (progs_of scope (as_parts fs)).rows (omega arith) (progs_of-spans scope fs from to b e),
   )
 
   pick_of-spans : (scope at : ℕ) (fs : List Form) (from to : ℕ) → at < from → at < to → Between from fs to → Each ProgCovers fs → Spans at to (pick_of theory scope at (as_parts fs))
@@ -129,7 +128,7 @@ module _ (theory : DraftTheory) (procs : List Declared) where
     omega arith,
     omega arith,
     omega arith,
-    chain-low (key at 25) (32 * from) (32 * to) _ (omega arith)
+    chain-low (key at 25) (64 * from) (64 * to) _ (omega arith)
         (first-spans from binder (body ∷ []) to (binder_of theory binder)
         (λ binder. prog_of theory procs body (scope + 1) >>= λ body. gives (prog.Pick binder.var binder.sort body at)) b (binder_of-covers theory binder b.1)
         (λ binder'. last-spans (end_of binder) body to (prog_of theory procs body (scope + 1)) (λ body. prog.Pick binder'.var binder'.sort body at) b.2

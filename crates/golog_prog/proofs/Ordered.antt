@@ -11,60 +11,36 @@ use Rattle.golog_tree.specs.declared.draft.DraftProc.{DraftProc}
 use Rattle.golog_tree.specs.declared.draft.DraftMain.{DraftMain}
 use Rattle.golog_tree.specs.declared.draft.DraftProgram.{DraftProgram}
 use Rattle.golog_theory.specs.declared.fault.TheoryFault.{TheoryFault}
-use Rattle.golog_theory.specs.Reading.{Row, Reading, Answers, gives, refused, rows_behind, ◌>>=◌, found, each}
+use Rattle.golog_theory.specs.Reading.{Reading, code_at, Answers, gives, refused, ◌>>=◌, found, each}
 use Rattle.golog_theory.specs.Names.{same}
 use Rattle.golog_theory.specs.Parts.{word, parts, short_name, sort_of}
 use Rattle.golog_theory.specs.Heads.{head_word, arguments}
 use Rattle.golog_theory.specs.Before.{before}
 use Rattle.golog_theory.specs.Order.{IsLeastRow}
-use Rattle.golog_theory.proofs.Chain.{key, Chain, chain-low, chain-append, Spans, gives-spans}
+use Rattle.golog_rows.proofs.Chain.{key, Chain, chain-low, behind-chain, Spans, gives-spans, if-chain, if-chain-where, chain-ordered, least_row}
 use Rattle.golog_theory.proofs.Inside.{end_of, Between, Stands, stands, arguments-between}
-use Rattle.golog_theory.proofs.Tables.{if-chain, Covers, each-covers, short_name-behind, sort_of-covers}
-use Rattle.golog_theory.proofs.Nested.{refused-covers}
+use Rattle.golog_theory.proofs.Tables.{Covers, each-covers, named-covers, sort_of-covers}
+use Rattle.golog_theory.proofs.Nested.{refused-covers, first-spans, last-spans}
 use Rattle.golog_theory.proofs.Theory.{first_row}
-use Rattle.golog_theory.proofs.Chain.{chain-ordered, least_row}
 use Rattle.golog_prog.specs.declared.items.SoFar.{SoFar}
 use Rattle.golog_prog.specs.declared.procedures.Declared.{Declared}
 use Rattle.golog_prog.specs.Procedures.{declared_in}
 use Rattle.golog_prog.specs.Programs.{prog_of}
 use Rattle.golog_prog.specs.Items.{proc_name, param_var, param_by, param_of, params_of, proc_item, main_by, main_item, proc_read, main_read, read_by, item_read, items_read, nothing, is_main, program_with, program_in, program_of}
-use Rattle.golog_prog.proofs.Binders.{first-spans, last-spans}
 use Rattle.golog_prog.proofs.Nested.{prog_of-covers}
 use Rattle.golog_prog.proofs.HasMain.{HasMain, items_read-main}
 
 -- a refusal of an item at its place
-none : (A : Type 0) (at to code : ℕ) → at < to → 0 < code → code < 32 → Spans at to (refused {A = A} code at)
+none : (A : Type 0) (at to code : ℕ) → at < to → 0 < code → code < 64 → Spans at to (refused {A = A} code at)
 none A at to code lt some small = refused-covers A at to code lt some small
 
 proc_name-covers : (theory : DraftTheory) (procs : List DraftProc) (f : Form) → IsInOrder f → Covers f (proc_name theory procs f)
 unfolding proc_name
-proc_name-covers theory procs f order =
-    let size = (stands f order).size in (
-      omega arith,
-      omega arith,
-      omega arith,
-      (
-        omega arith,
-        omega arith,
-        omega arith,
-        chain-low (key (place_of f) 21) (key (place_of f) 25) (32 * end_of f) (short_name f).rows (omega arith) (short_name-behind f size),
-      ),
-    )
+proc_name-covers theory procs f order = named-covers f order
 
 param_var-covers : (params : List DraftParam) (f : Form) → IsInOrder f → Covers f (param_var params f)
 unfolding param_var
-param_var-covers params f order =
-    let size = (stands f order).size in (
-      omega arith,
-      omega arith,
-      omega arith,
-      (
-        omega arith,
-        omega arith,
-        omega arith,
-        chain-low (key (place_of f) 21) (key (place_of f) 25) (32 * end_of f) (short_name f).rows (omega arith) (short_name-behind f size),
-      ),
-    )
+param_var-covers params f order = named-covers f order
 
 param_by-spans : (theory : DraftTheory) (params : List DraftParam) (at : ℕ) (fs : List Form) (to : ℕ) → at < to → Between (at + 1) fs to
     → Spans at to (param_by theory params at fs)
@@ -91,7 +67,7 @@ params_of-covers theory f order =
         omega arith,
         omega arith,
         omega arith,
-        chain-low (key (place_of f) 25) (32 * (place_of f + 1)) (32 * end_of f) _ (omega arith)
+        chain-low (key (place_of f) 25) (64 * (place_of f + 1)) (64 * end_of f) _ (omega arith)
             (each-covers (param_of theory) (param_of-covers theory) [] (place_of f + 1) (parts f) (end_of f) s.inner),
       ),
     )
@@ -107,7 +83,7 @@ module _ (theory : DraftTheory) (procs : List Declared) where
         omega arith,
         omega arith,
         omega arith,
-        chain-low (key at 25) (32 * (at + 1)) (32 * to) _ (omega arith)
+        chain-low (key at 25) (64 * (at + 1)) (64 * to) _ (omega arith)
             (first-spans (at + 1) name (params ∷ body ∷ []) to (proc_name theory done name)
             (λ name. params_of known params >>= λ params. prog_of known procs body (length params) >>= λ body. gives (record { name = name; params = params; body = body; at = at })) b
             (proc_name-covers theory done name b.1)
@@ -128,15 +104,15 @@ module _ (theory : DraftTheory) (procs : List Declared) where
   main_item-spans : (main : Option DraftMain) (at : ℕ) (fs : List Form) (to : ℕ) → at < to → Between (at + 1) fs to → Spans at to (main_item theory procs main at fs)
   unfolding main_item
   main_item-spans main at fs to lt b =
-      if-chain (32 * at) (32 * to) (is_some main) (refused 21 at) (main_by theory procs at fs) (none DraftMain at to 21 lt (omega arith) (omega arith)) (main_by-spans at fs to lt b)
+      if-chain (64 * at) (64 * to) (is_some main) (refused 21 at) (main_by theory procs at fs) (none DraftMain at to 21 lt (omega arith) (omega arith)) (main_by-spans at fs to lt b)
 
   read_by-spans : (so_far : SoFar) (at : ℕ) (keyword : List ℕ) (fs : List Form) (to : ℕ) → at < to → Between (at + 1) fs to
       → Spans at to (read_by theory procs so_far at keyword fs)
   unfolding read_by proc_read main_read
   read_by-spans so_far at keyword fs to lt b =
-      if-chain (32 * at) (32 * to) (same keyword (codes "proc")) (proc_read theory procs so_far at fs) (if same keyword (codes "main") then main_read theory procs so_far at fs else gives so_far)
+      if-chain (64 * at) (64 * to) (same keyword (codes "proc")) (proc_read theory procs so_far at fs) (if same keyword (codes "main") then main_read theory procs so_far at fs else gives so_far)
       (gives-spans at to (proc_item theory procs so_far.procs at fs) (λ proc. record so_far { procs = so_far.procs ++ proc ∷ [] }) (proc_item-spans so_far.procs at fs to lt b))
-      (if-chain (32 * at) (32 * to) (same keyword (codes "main")) (main_read theory procs so_far at fs) (gives so_far)
+      (if-chain (64 * at) (64 * to) (same keyword (codes "main")) (main_read theory procs so_far at fs) (gives so_far)
       (gives-spans at to (main_item theory procs so_far.main at fs) (λ main. record so_far { main = Some main }) (main_item-spans so_far.main at fs to lt b))
       (omega arith))
 
@@ -149,12 +125,6 @@ module _ (theory : DraftTheory) (procs : List Declared) where
       first-spans from f fs to (item_read theory procs so_far f) (λ next. items_read theory procs next fs) b (item_read-covers so_far f b.1)
       (λ next. items_read-spans next (end_of f) fs to b.2)
 
--- one part behind another, in view of its value
-behind-chain : {A B : Type 0} (low mid high : ℕ) (rows : List Row) (outcome : Result A (ℕ × ℕ)) (next : A → Reading B) → mid ≤ high
-    → Chain low mid rows → ((x : A) → outcome ≡ Ok x → Chain mid high (next x).rows) → Chain low high (rows ++ rows_behind outcome next)
-behind-chain low mid high rows (Ok x) next le c d = chain-append low mid high rows (next x).rows c (d x refl)
-behind-chain low mid high rows (Err refusal) next le c d = chain-append low mid high rows [] c le
-
 -- Where `main` was read, nothing is refused behind the items.
 found-main : (at low : ℕ) (so_far : SoFar) → HasMain so_far → Chain low low (program_with at so_far).rows
 found-main at low so_far has = go so_far.main has
@@ -163,20 +133,15 @@ found-main at low so_far has = go so_far.main has
     go None e = absurd cc
     go (Some main) e = omega arith
 
-if-chain-where : {A : Type 0} (low high : ℕ) (b : Bool) (one other : Reading A) → (b ≡ true → Chain low high one.rows) → Chain low high other.rows
-    → Chain low high (if b then one else other).rows
-if-chain-where low high true one other c d = c refl
-if-chain-where low high false one other c d = d
-
 program_in-chain : (theory : DraftTheory) (at : ℕ) (items : List Form) (to : ℕ) → at < to → Between (at + 1) items to
-    → Chain (key at 20) (32 * to) (program_in theory at items).rows
+    → Chain (key at 20) (64 * to) (program_in theory at items).rows
 program_in-chain theory at items to lt b =
     let procs = declared_in items in
     let read = items_read theory procs nothing items in
-    if-chain-where (key at 20) (32 * to) (list_any is_main items) (read >>= program_with at) (refused 27 at)
-    (λ has. behind-chain (key at 20) (32 * to) (32 * to) read.rows read.outcome (program_with at) (omega arith)
-    (chain-low (key at 20) (32 * (at + 1)) (32 * to) read.rows (omega arith) (items_read-spans theory procs nothing (at + 1) items to b))
-    (λ so_far e. found-main at (32 * to) so_far (items_read-main theory procs nothing items has so_far e)))
+    if-chain-where (key at 20) (64 * to) (list_any is_main items) (read >>= program_with at) (refused 27 at)
+    (λ has. behind-chain (key at 20) (64 * to) (64 * to) read.rows read.outcome (program_with at) (omega arith)
+    (chain-low (key at 20) (64 * (at + 1)) (64 * to) read.rows (omega arith) (items_read-spans theory procs nothing (at + 1) items to b))
+    (λ so_far e. found-main at (64 * to) so_far (items_read-main theory procs nothing items has so_far e)))
     (omega arith, omega arith, omega arith, omega arith)
 
 pub program_of-covers : (theory : DraftTheory) (f : Form) → IsInOrder f → Covers f (program_of theory f)
@@ -190,6 +155,6 @@ pub program-least : (result : Result DraftProgram TheoryFault) (theory : DraftTh
     → IsLeastRow result (program_of theory f).rows
 program-least result theory f e order =
     let rows = (program_of theory f).rows in
-    least_row result rows (chain-ordered (32 * place_of f) (32 * end_of f) rows (program_of-covers theory f order)) (first_row result (program_of theory f) e)
+    least_row code_at result rows (chain-ordered (64 * place_of f) (64 * end_of f) rows (program_of-covers theory f order)) (first_row result (program_of theory f) e)
 
 pub ruleset laws = (program-least)

@@ -1,6 +1,6 @@
 -- What parts give, one behind another.
 use Rattle.std.proofs.Common.{◌≡◌, ℕ, Bool, false, Option, Some, Ok, ap, ◌∙◌}
-use Rattle.golog_semantics.specs.Reading.{Reading, row, unless, outcome_behind, ◌>>=◌, found}
+use Rattle.golog_rows.specs.Reading.{Reading, row, unless, outcome_behind, ◌>>=◌, found}
 
 pub then-ok : {A B : Type 0} (reading : Reading A) (next : A → Reading B) (x : A) (y : B) → reading.outcome ≡ Ok x → (next x).outcome ≡ Ok y → (reading >>= next).outcome ≡ Ok y
 then-ok reading next x y e h = ap (λ outcome. outcome_behind outcome next) e ∙ h

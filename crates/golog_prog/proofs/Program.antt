@@ -3,7 +3,7 @@ use Rattle.std.proofs.Common.{◌≡◌, ℕ, ◌+◌, ◌<◌, List, length, ge
 use Rattle.golog_form.specs.declared.form.Form.{Form}
 use Rattle.golog_tree.specs.declared.draft.DraftTheory.{DraftTheory}
 use Rattle.golog_theory.specs.Reading.{◌>>=◌}
-use Rattle.golog_theory.proofs.Each.{drop-item}
+use Rattle.golog_rows.proofs.Each.{drop-item}
 use Rattle.golog_theory.proofs.Theory.{first_row}
 use Rattle.golog_prog.specs.declared.items.SoFar.{SoFar}
 use Rattle.golog_prog.specs.declared.procedures.Declared.{Declared}

@@ -7,7 +7,7 @@ use Rattle.golog_tree.specs.declared.draft_prog.DraftProg.{DraftProg}
 use Rattle.golog_theory.specs.Reading.{◌>>=◌, each}
 use Rattle.golog_theory.specs.Parts.{parts}
 use Rattle.golog_theory.specs.Recursion.{Part}
-use Rattle.golog_theory.proofs.Each.{drop-item, each-drop}
+use Rattle.golog_rows.proofs.Each.{drop-item, each-drop}
 use Rattle.golog_theory.proofs.Forms.{by_parts}
 use Rattle.golog_theory.proofs.Descent.{deepest, rest_deeper, deepest_one, deepest_two, deepest_at}
 use Rattle.golog_prog.specs.declared.procedures.Declared.{Declared}

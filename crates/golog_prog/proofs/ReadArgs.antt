@@ -23,21 +23,21 @@ use Rattle.golog_semantics.specs.Text.{Text, constant_in}
 use Rattle.golog_semantics.specs.BuiltIn.{sort_names, declared_names}
 use Rattle.golog_semantics.specs.WellFormed.{WellFormed}
 use Rattle.golog_semantics.specs.ReportLaws.{RangesFit}
-use Rattle.golog_semantics.specs.DraftPlaces.{arg_place}
-use Rattle.golog_semantics.specs.Reading.{gives, ◌>>=◌, found, each}
+use Rattle.golog_draft.specs.DraftPlaces.{arg_place}
+use Rattle.golog_rows.specs.Reading.{gives, ◌>>=◌, found, each}
 use Rattle.golog_semantics.specs.Fits as fits
 use Rattle.golog_semantics.specs.Fits.{is_range, arg_fits, args_fit}
 use Rattle.golog_semantics.specs.Written.{written_arg}
 use Rattle.golog_semantics.proofs.Among.{Among, among-get, any-among}
 use Rattle.golog_semantics.proofs.Words.{and-left, and-right}
 use Rattle.golog_semantics.proofs.WellNamed.{distinct-right, distinct-part}
-use Rattle.golog_theory.specs.declared.fault.TheConstants.{UNKNOWN_FORM, COUNT, NUMBER_RANGE}
-use Rattle.golog_theory.specs.declared.limits.TheConstants.{NAME_BYTES}
+use Rattle.golog_theory.specs.Codes.{UNKNOWN_FORM, COUNT, NUMBER_RANGE}
+use Rattle.golog_theory.specs.Limits.{NAME_BYTES}
 use Rattle.golog_theory.specs.Numbers.{is_number, value}
 use Rattle.golog_theory.specs.Parts.{word, short_name, number_of, arg_of}
 use Rattle.golog_theory.specs.Heads.{args_of}
 use Rattle.golog_check.specs.declared.scope.Meant.{Meant}
-use Rattle.golog_check.specs.declared.fault.TheConstants.{SORT_CLASH, UNBOUND}
+use Rattle.golog_check.specs.Codes.{SORT_CLASH, UNBOUND}
 use Rattle.golog_check.specs.DeclaredItems.{Declared}
 use Rattle.golog_check.specs.Sorts.{place_of_number, constant, number_in}
 use Rattle.golog_check.specs.Scope.{Scope, or_else, meaning}

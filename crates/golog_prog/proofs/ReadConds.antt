@@ -35,7 +35,7 @@ use Rattle.golog_tree.specs.declared.draft_cond.DraftCond.TheViews.{roll-DraftCo
 use Rattle.golog_tree.specs.declared.draft_cond.DraftCond.TheFolds.{fold-roll-DraftCond, map-DraftCond}
 use Rattle.golog_semantics.specs.Text.{Text}
 use Rattle.golog_semantics.specs.BuiltIn.{sort_names, same_text, is_keyword}
-use Rattle.golog_semantics.specs.Reading.{Reading, gives, refused, row, ◌>>=◌, found, each}
+use Rattle.golog_rows.specs.Reading.{Reading, gives, refused, row, ◌>>=◌, found, each}
 use Rattle.golog_semantics.specs.Fits as fits
 use Rattle.golog_semantics.specs.Fits.{bool_sort, is_sort, is_range, binder_fits, cond_fits, term_fits}
 use Rattle.golog_semantics.specs.Written.{Wording, is_amount, written_sides, written_cond_step, written_term_step, is_written_cond}
@@ -44,9 +44,9 @@ use Rattle.golog_semantics.proofs.Words.{and-left, and-right}
 use Rattle.golog_theory.specs.declared.conditions.Sides.{Sides as DraftSides}
 use Rattle.golog_theory.specs.declared.conditions.Binder.{Binder}
 use Rattle.golog_theory.specs.declared.conditions.Bound.{Bound}
-use Rattle.golog_theory.specs.declared.fault.TheConstants.{UNKNOWN_FORM, UNKNOWN_SORT, COUNT}
+use Rattle.golog_theory.specs.Codes.{UNKNOWN_FORM, UNKNOWN_SORT, COUNT}
 use Rattle.golog_theory.specs.declared.heads.Called.{Called}
-use Rattle.golog_theory.specs.declared.limits.TheConstants.{VARIABLES}
+use Rattle.golog_theory.specs.Limits.{VARIABLES}
 use Rattle.golog_theory.specs.Names.{same, sort_no}
 use Rattle.golog_theory.specs.Names as read
 use Rattle.golog_theory.specs.Parts.{word, parts, short_name, sort_of}
@@ -56,7 +56,7 @@ use Rattle.golog_theory.specs.Terms.{term_of}
 use Rattle.golog_theory.specs.Conditions.{truth_of, fluent_cond, sides_of, equal_of, less_of, at_most_of, not_of, conds_of, and_of, or_of, binder_by, binder_of, bound_of, some_of, all_of, cond_list, cond_by, cond_of, cond_part}
 use Rattle.golog_theory.proofs.Conds.{cond_of-parts, cond_of-none}
 use Rattle.golog_check.specs.declared.terms.Sides.{Sides}
-use Rattle.golog_check.specs.declared.fault.TheConstants.{SORT_CLASH}
+use Rattle.golog_check.specs.Codes.{SORT_CLASH}
 use Rattle.golog_check.specs.DeclaredItems.{Declared, sort_item}
 use Rattle.golog_check.specs.Sorts as sorts
 use Rattle.golog_check.specs.Sorts.{fluent_sort, fluent_sorts}

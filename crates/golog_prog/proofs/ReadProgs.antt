@@ -30,7 +30,7 @@ use Rattle.golog_tree.specs.declared.draft_prog.DraftProg.TheOpen.{DraftProg-F}
 use Rattle.golog_tree.specs.declared.draft_prog.DraftProg.TheViews.{roll-DraftProg}
 use Rattle.golog_tree.specs.declared.draft_prog.DraftProg.TheFolds.{fold-roll-DraftProg, map-DraftProg}
 use Rattle.golog_semantics.specs.Text.{Text}
-use Rattle.golog_semantics.specs.Reading.{Reading, gives, refused, ◌>>=◌, each}
+use Rattle.golog_rows.specs.Reading.{Reading, gives, refused, ◌>>=◌, each}
 use Rattle.golog_semantics.specs.Ways.{is_empty}
 use Rattle.golog_semantics.specs.BlockFree.{block_at, proc_blocks}
 use Rattle.golog_semantics.specs.Fits.{is_sort, args_fit, binder_fits, cond_fits}
@@ -39,8 +39,8 @@ use Rattle.golog_semantics.specs.ProgFits.{Position, prog_fits, block_fits}
 use Rattle.golog_semantics.specs.Written.{is_written_cond, written_prog_step, is_written_prog}
 use Rattle.golog_semantics.proofs.Words.{and-left, and-right}
 use Rattle.golog_theory.specs.declared.conditions.Binder.{Binder}
-use Rattle.golog_theory.specs.declared.fault.TheConstants.{UNKNOWN_FORM, COUNT, ARITY}
-use Rattle.golog_theory.specs.declared.limits.TheConstants.{VARIABLES}
+use Rattle.golog_theory.specs.Codes.{UNKNOWN_FORM, COUNT, ARITY}
+use Rattle.golog_theory.specs.Limits.{VARIABLES}
 use Rattle.golog_theory.specs.Names.{same, action_no}
 use Rattle.golog_theory.specs.Parts.{word, parts, number_of}
 use Rattle.golog_theory.specs.Heads.{args_of}

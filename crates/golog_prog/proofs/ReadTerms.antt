@@ -26,7 +26,7 @@ use Rattle.golog_tree.specs.declared.draft_cond.DraftTerm.TheFolds.{fold-roll-Dr
 use Rattle.golog_semantics.specs.Text.{Text}
 use Rattle.golog_semantics.specs.BuiltIn.{declared_names}
 use Rattle.golog_semantics.proofs.Among.{Among}
-use Rattle.golog_semantics.specs.Reading.{Reading, gives, refused, row, ◌>>=◌, found}
+use Rattle.golog_rows.specs.Reading.{Reading, gives, refused, row, ◌>>=◌, found}
 use Rattle.golog_semantics.specs.Fits as fits
 use Rattle.golog_semantics.specs.Fits.{is_range, arg_fits, args_fit, fluent_fits, term_fits}
 use Rattle.golog_semantics.specs.Written.{Wording, is_amount, written_arg, written_cond_step, written_term_step}
@@ -34,7 +34,7 @@ use Rattle.golog_semantics.proofs.GroundNumbers.{some-same}
 use Rattle.golog_semantics.proofs.Levels.{same_values-eq}
 use Rattle.golog_semantics.proofs.Words.{and-left, and-right}
 use Rattle.golog_theory.specs.declared.heads.Called.{Called}
-use Rattle.golog_theory.specs.declared.fault.TheConstants.{UNKNOWN_FORM, UNKNOWN_NAME, ARITY, NUMBER_RANGE}
+use Rattle.golog_theory.specs.Codes.{UNKNOWN_FORM, UNKNOWN_NAME, ARITY, NUMBER_RANGE}
 use Rattle.golog_theory.specs.Names.{same, fluent_no, fluent_args, fluent_arity}
 use Rattle.golog_theory.specs.Numbers.{is_number, has_sign, value}
 use Rattle.golog_theory.specs.Parts.{word, parts, arg_of}
@@ -43,7 +43,7 @@ use Rattle.golog_theory.specs.Recursion.{Part}
 use Rattle.golog_theory.specs.Terms.{step_of, plus_of, minus_of, fluent_term, atom_term, term_list, term_by, term_of, term_part}
 use Rattle.golog_theory.proofs.Descent.{term_of-parts}
 use Rattle.golog_theory.proofs.Forms.{parts-Atom, parts-Group}
-use Rattle.golog_check.specs.declared.fault.TheConstants.{SORT_CLASH}
+use Rattle.golog_check.specs.Codes.{SORT_CLASH}
 use Rattle.golog_check.specs.DeclaredItems.{Declared, fluent_item}
 use Rattle.golog_check.specs.Sorts as sorts
 use Rattle.golog_check.specs.Sorts.{fluent_sort, fluent_sorts}

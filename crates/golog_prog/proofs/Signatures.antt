@@ -6,7 +6,7 @@ use Rattle.golog_tree.specs.declared.draft.DraftFluent.{DraftFluent}
 use Rattle.golog_tree.specs.declared.draft.DraftTheory.{DraftTheory}
 use Rattle.golog_tree.specs.declared.draft.DraftProgram.{DraftProgram}
 use Rattle.golog_tree.specs.declared.draft_cond.DraftCond.{DraftCond}
-use Rattle.golog_semantics.specs.Drafts.{CondKeeps, AgentCondKeeps, Signature, signature, agent_signature, cond_keeps}
+use Rattle.golog_draft.specs.Drafts.{CondKeeps, AgentCondKeeps, Signature, signature, agent_signature, cond_keeps}
 use Rattle.golog_check.specs.DeclaredItems.{sort_item, fluent_item}
 use Rattle.golog_check.specs.Check.{agent_of}
 use Rattle.golog_prog.specs.Laws.{SignatureStays, ConditionsStayKept}

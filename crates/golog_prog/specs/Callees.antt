@@ -5,7 +5,7 @@ use Rattle.golog_form.specs.declared.form.Form.{Form}
 use Rattle.golog_form.specs.Shape.{place_of}
 use Rattle.golog_tree.specs.declared.draft.DraftTheory.{DraftTheory}
 use Rattle.golog_tree.specs.declared.draft.DraftAction.{DraftAction}
-use Rattle.golog_theory.specs.declared.fault.TheConstants.{UNKNOWN_FORM, UNKNOWN_NAME, ARITY}
+use Rattle.golog_theory.specs.Codes.{UNKNOWN_FORM, UNKNOWN_NAME, ARITY}
 use Rattle.golog_theory.specs.Reading.{Reading, gives, refused, row}
 use Rattle.golog_theory.specs.Names.{same, action_no}
 use Rattle.golog_theory.specs.Parts.{word}

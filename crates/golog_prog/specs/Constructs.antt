@@ -6,13 +6,13 @@ use Rattle.golog_tree.specs.declared.draft_cond.DraftCond.{DraftCond}
 use Rattle.golog_tree.specs.declared.draft_cond.DraftCond.TheVariants.{Truth, Is}
 use Rattle.golog_tree.specs.declared.draft_prog.DraftProg.{DraftProg}
 use Rattle.golog_tree.specs.declared.draft_prog.DraftProg.TheVariants.{Nil, Act, Test, Seq, Choice, Pick, Star, If, While, Conc, Prio, Cstar, Call, Search}
-use Rattle.golog_theory.specs.declared.fault.TheConstants.{UNKNOWN_FORM, COUNT}
+use Rattle.golog_theory.specs.Codes.{UNKNOWN_FORM, COUNT}
 use Rattle.golog_theory.specs.Reading.{Reading, gives, refused, row, ◌>>=◌, each}
 use Rattle.golog_theory.specs.Parts.{word, number_of}
 use Rattle.golog_theory.specs.Heads.{args_of}
 use Rattle.golog_theory.specs.Conditions.{binder_of, cond_of}
 use Rattle.golog_theory.specs.Recursion.{Part}
-use Rattle.golog_theory.specs.declared.limits.TheConstants.{VARIABLES}
+use Rattle.golog_theory.specs.Limits.{VARIABLES}
 use Rattle.golog_prog.specs.declared.built_in.TheConstants.{INTERRUPTS_RUNNING, START_INTERRUPTS, STOP_INTERRUPTS}
 use Rattle.golog_prog.specs.declared.procedures.Declared.{Declared}
 use Rattle.golog_prog.specs.declared.programs.Guarded.{Guarded}

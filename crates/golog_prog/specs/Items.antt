@@ -10,14 +10,14 @@ use Rattle.golog_tree.specs.declared.draft.DraftParam.{DraftParam}
 use Rattle.golog_tree.specs.declared.draft.DraftProc.{DraftProc}
 use Rattle.golog_tree.specs.declared.draft.DraftMain.{DraftMain}
 use Rattle.golog_tree.specs.declared.draft.DraftProgram.{DraftProgram}
-use Rattle.golog_theory.specs.declared.fault.TheConstants.{UNKNOWN_FORM, DUPLICATE, COUNT}
+use Rattle.golog_theory.specs.Codes.{UNKNOWN_FORM, DUPLICATE, COUNT}
 use Rattle.golog_theory.specs.Reading.{Reading, gives, refused, row, ◌>>=◌, found, each}
 use Rattle.golog_theory.specs.Names.{same, is_taken}
 use Rattle.golog_theory.specs.Parts.{word, parts, short_name, sort_of}
 use Rattle.golog_theory.specs.Heads.{head_word, arguments}
 use Rattle.golog_theory.specs.Before.{before}
-use Rattle.golog_theory.specs.declared.limits.TheConstants.{ARGUMENTS}
-use Rattle.golog_prog.specs.declared.items.TheConstants.{NO_MAIN, PROCEDURES}
+use Rattle.golog_theory.specs.Limits.{ARGUMENTS}
+use Rattle.golog_prog.specs.Limits.{NO_MAIN, PROCEDURES}
 use Rattle.golog_prog.specs.declared.items.SoFar.{SoFar}
 use Rattle.golog_prog.specs.declared.procedures.Declared.{Declared}
 use Rattle.golog_prog.specs.Procedures.{declared_in}

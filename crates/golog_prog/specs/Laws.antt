@@ -4,7 +4,7 @@ use Rattle.golog_tree.specs.declared.agent.Agent.{Agent}
 use Rattle.golog_tree.specs.declared.draft.DraftTheory.{DraftTheory}
 use Rattle.golog_tree.specs.declared.draft.DraftProgram.{DraftProgram}
 use Rattle.golog_tree.specs.declared.draft_cond.DraftCond.{DraftCond}
-use Rattle.golog_semantics.specs.Drafts.{signature, agent_signature, CondKeeps, AgentCondKeeps}
+use Rattle.golog_draft.specs.Drafts.{signature, agent_signature, CondKeeps, AgentCondKeeps}
 use Rattle.golog_check.specs.Check.{Checks}
 
 -- the agent has as many sorts as the theory, and its fluents as many arguments

@@ -1,3 +1,4 @@
+pub mod Limits
 pub mod Keywords
 pub mod Procedures
 pub mod Callees

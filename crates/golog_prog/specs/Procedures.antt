@@ -6,7 +6,7 @@ use Rattle.golog_form.specs.Shape.{items_of}
 use Rattle.golog_theory.specs.Names.{same}
 use Rattle.golog_theory.specs.Parts.{word}
 use Rattle.golog_theory.specs.Heads.{head_word, arguments}
-use Rattle.golog_theory.specs.declared.limits.TheConstants.{NAME_BYTES}
+use Rattle.golog_theory.specs.Limits.{NAME_BYTES}
 use Rattle.golog_prog.specs.declared.procedures.Declared.{Declared}
 
 -- a name that can be declared

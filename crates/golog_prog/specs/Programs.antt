@@ -5,7 +5,7 @@ use Rattle.golog_form.specs.Shape.{place_of}
 use Rattle.golog_tree.specs.declared.draft.DraftTheory.{DraftTheory}
 use Rattle.golog_tree.specs.declared.draft_prog.DraftProg.{DraftProg}
 use Rattle.golog_tree.specs.declared.draft_prog.DraftProg.TheVariants.{Nil}
-use Rattle.golog_theory.specs.declared.fault.TheConstants.{UNKNOWN_FORM}
+use Rattle.golog_theory.specs.Codes.{UNKNOWN_FORM}
 use Rattle.golog_theory.specs.Reading.{Reading, gives, refused}
 use Rattle.golog_theory.specs.Names.{same}
 use Rattle.golog_theory.specs.Parts.{word}

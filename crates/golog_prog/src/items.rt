@@ -10,8 +10,8 @@ ghost use Rattle.golog_prog.specs.Procedures.{declared_in};
 ghost use Rattle.golog_theory.specs.Order.{IsLeastRow};
 ghost use Rattle.golog_theory.specs.declared.fault.TheoryFault.TheVariants.{Refused};
 ghost use Rattle.golog_form.specs.Places.{IsInOrder};
-ghost use Rattle.golog_semantics.specs.Drafts.{TheoryKeeps, ProgramKeeps};
-ghost use Rattle.golog_semantics.specs.DraftOrder.{ProgramInOrder};
+ghost use Rattle.golog_draft.specs.Drafts.{TheoryKeeps, ProgramKeeps};
+ghost use Rattle.golog_draft.specs.DraftOrder.{ProgramInOrder};
 
 use crate::procedures::Procedures;
 use crate::programs::prog_of;

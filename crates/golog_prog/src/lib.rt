@@ -16,6 +16,3 @@ mod written;
 pub use items::{NO_MAIN, program_of};
 pub use laws::{conditions_stay_kept, ranges_fit, signature_stays};
 pub use prog_text::print_prog;
-
-#[cfg(test)]
-mod tests;

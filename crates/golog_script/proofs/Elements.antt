@@ -3,17 +3,13 @@ use Rattle.std.proofs.Common.{◌≡◌, ℕ, suc, ◌+◌, ◌<◌, List, [], �
 use Rattle.serde_json.specs.Data.{Data}
 use Rattle.serde_json.specs.declared.value.Value.{Value}
 use Rattle.serde_json.specs.View.{view, items_view}
+use Rattle.golog_rows.proofs.Each.{drop-item}
 use Rattle.golog_script.specs.Reading.{Reading, ◌>>=◌, outcome_behind, each}
 use Rattle.golog_script.specs.DevicesFile.{listed}
 
 pub listed-view : (vs : List Value) → listed (items_view vs) ≡ map view vs
 listed-view [] = refl
 listed-view (v ∷ vs) = ap (λ ds. view v ∷ ds) (listed-view vs)
-
-pub drop-item : {P : Type 0} (parts : List P) (i : ℕ) (part : P) → i < length parts → part ≡ get_or parts i part
-    → drop i parts ≡ part ∷ drop (i + 1) parts
-drop-item parts i part lt is =
-    drop-cons parts i part lt ∙ ap (λ p. p ∷ drop (suc i) parts) (sym is) ∙ ap (λ n. part ∷ drop n parts) (sym (add-one i))
 
 pub each-drop : {A : Type 0} (read : List A → Data → Reading A) (done : List A) (vs : List Value) (i : ℕ) (v : Value) → i < length vs → v ≡ get_or vs i v
     → each read done (map view (drop i vs)) ≡ (read done (view v) >>= λ y. each read (done ++ y ∷ []) (map view (drop (i + 1) vs)))

@@ -7,7 +7,7 @@ use Rattle.serde_json.specs.Read.{read}
 use Rattle.golog_device.specs.Scripts.{script_of, script_spelled}
 use Rattle.golog_script.specs.declared.fault.ScriptFault.{ScriptFault}
 use Rattle.golog_script.specs.declared.fault.ScriptFault.TheVariants.{Refused, Memory}
-use Rattle.golog_script.specs.Reading.{Reading, refusal_in, Answers, IsFirstRow}
+use Rattle.golog_script.specs.Reading.{Reading, Answers}
 use Rattle.golog_script.specs.DevicesFile.{value_in, scripts_in, scripts_of}
 
 pub value-some : (bytes : List ℕ) (d : Data) → IsUtf8 bytes → read bytes ≡ Some d → value_in bytes ≡ Some d
@@ -42,9 +42,3 @@ pub answers-same : {A : Type 0} (result : Result A ScriptFault) (reading other :
 answers-same (Ok x) reading other same h = same ∙ h
 answers-same (Err (Refused code at)) reading other same h = same ∙ h
 answers-same (Err Memory) reading other same h = tt
-
--- the row of a refusal is the first that fits
-pub first_row : {A : Type 0} (result : Result A ScriptFault) (reading : Reading A) → Answers result reading → IsFirstRow result reading.rows
-first_row (Ok x) reading h = reading.agrees ∙ ap refusal_in h
-first_row (Err (Refused code at)) reading h = reading.agrees ∙ ap refusal_in h
-first_row (Err Memory) reading h = tt

@@ -8,8 +8,8 @@ use Rattle.serde_json.specs.Find.{get, as_str, as_array}
 use Rattle.serde_json.specs.Read.{read}
 use Rattle.golog_semantics.specs.Text.{Text}
 use Rattle.golog_semantics.specs.Same.{same_values}
-use Rattle.golog_script.specs.declared.fault.TheConstants.{NOT_JSON, SHAPE, TOO_MANY, NO_DEVICE, SAME_NAME}
-use Rattle.golog_script.specs.declared.scripts.TheConstants.{DEVICES}
+use Rattle.golog_script.specs.Codes.{NOT_JSON, SHAPE, TOO_MANY, NO_DEVICE, SAME_NAME}
+use Rattle.golog_script.specs.Limits.{DEVICES}
 use Rattle.golog_script.specs.declared.scripts.Script.{Script}
 use Rattle.golog_script.specs.Reading.{Reading, gives, row, found, each, ◌>>=◌}
 use Rattle.golog_device.specs.Scripts.{strings_in}

@@ -1,3 +1,5 @@
+pub mod Codes
+pub mod Limits
 pub mod Reading
 pub mod DevicesFile
 pub mod ScriptTexts

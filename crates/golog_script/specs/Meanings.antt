@@ -3,7 +3,7 @@ use Rattle.std.specs.Prelude.{◌≡◌, ◌||◌, nat_lt, Bool, false, Option, 
 use Rattle.golog_semantics.specs.Dealt.{Service, Script, Meaning}
 use Rattle.golog_device.specs.declared.device.Begun.{Begun}
 use Rattle.golog_device.specs.declared.device.Begun.TheVariants.{Ready, Refused, Memory}
-use Rattle.golog_script.specs.declared.served.TheConstants.{ROOM}
+use Rattle.golog_script.specs.Limits.{ROOM}
 use Rattle.golog_script.specs.declared.served.ServedTexts.{ServedTexts}
 use Rattle.golog_script.specs.declared.device.ScriptDevice.{ScriptDevice}
 use Rattle.golog_script.specs.Following.{items_of, bytes_of, services_of}

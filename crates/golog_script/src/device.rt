@@ -2,7 +2,7 @@
 ghost use Rattle.std.specs.Prelude.{◌≡◌, ◌<◌, ◌+◌, false, vec_len, vec_capacity};
 ghost use Rattle.golog_device.specs.Devices.{idle_of, tells};
 ghost use Rattle.golog_script.specs.Following.{item_of};
-ghost use Rattle.golog_script.specs.declared.served.TheConstants.{ROOM};
+ghost use Rattle.golog_script.specs.Limits.{ROOM};
 
 use crate::lines::{Lines, lines_of};
 use crate::served::{ROOM, ServedTexts};

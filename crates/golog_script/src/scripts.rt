@@ -8,7 +8,7 @@ ghost use Rattle.golog_script.specs.Reading.{Answers, IsFirstRow, found, each};
 ghost use Rattle.golog_script.specs.DevicesFile.{listed, strings_at, new_name, element_of, scripts_in, scripts_of};
 ghost use Rattle.golog_script.specs.ScriptTexts.{HasTexts};
 ghost use Rattle.golog_script.specs.declared.scripts.Script.{Script};
-ghost use Rattle.golog_script.specs.declared.fault.TheConstants.{SHAPE};
+ghost use Rattle.golog_script.specs.Codes.{SHAPE};
 
 use crate::fault::{
     NO_DEVICE, NOT_JSON, SAME_NAME, ScriptFault, TOO_MANY, bad_shape, refuse_where,

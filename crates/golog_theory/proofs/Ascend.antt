@@ -3,7 +3,7 @@ use Rattle.std.proofs.Common.{◌≡◌, ℕ, ◌+◌, ◌≤◌, List, [], ◌�
 use Rattle.golog_form.specs.declared.form.Form.{Form}
 use Rattle.golog_form.specs.Shape.{place_of}
 use Rattle.golog_form.specs.Places.{IsInOrder}
-use Rattle.golog_semantics.specs.DraftOrder.{Ascend, IsAscending, AreAscending, Rise}
+use Rattle.golog_draft.specs.DraftOrder.{Ascend, IsAscending, AreAscending, Rise}
 use Rattle.golog_theory.specs.Reading.{Reading, each}
 use Rattle.golog_theory.proofs.Inside.{end_of, Between}
 use Rattle.golog_theory.proofs.Yields.{Yields, gives-yields, then-yields}

@@ -9,19 +9,16 @@ use Rattle.golog_tree.specs.declared.draft_cond.DraftArg.{DraftArg}
 use Rattle.golog_tree.specs.declared.draft_cond.DraftArg.TheVariants.{Word, Number}
 use Rattle.golog_tree.specs.declared.draft_cond.DraftCond.{DraftCond}
 use Rattle.golog_theory.specs.declared.effects.Effect.{Effect}
+pub use Rattle.golog_theory.specs.Before.{sort_place}
 use Rattle.golog_theory.specs.Names.{lists, is_constant}
 use Rattle.golog_theory.specs.Effects.{is_new_variable, variable_after, variables_after, variable_count, cause_of}
 use Rattle.golog_semantics.specs.BuiltIn.{same_text}
-use Rattle.golog_semantics.specs.Drafts.{lists_before, is_constant_at, var_after, vars_after, cause_vars}
+use Rattle.golog_draft.specs.Drafts.{lists_before, is_constant_at, var_after, vars_after, cause_vars}
 use Rattle.golog_theory.proofs.Amid.{all-weaker}
 
 abbrev pub arg_place : DraftArg → ℕ
 arg_place (Word word at) = at
 arg_place (Number number at) = at
-
-abbrev pub sort_place : DraftSort → ℕ
-sort_place (Range name low high at) = at
-sort_place (Listed name constants at) = at
 
 -- these arguments stand from a place on, and before another
 abbrev pub AreFrom : ℕ → List DraftArg → Type 0

@@ -7,7 +7,7 @@ use Rattle.golog_theory.specs.Reading.{◌>>=◌, each}
 use Rattle.golog_theory.specs.Parts.{parts}
 use Rattle.golog_theory.specs.Recursion.{Part}
 use Rattle.golog_theory.specs.Conditions.{InScope, truth_of, cond_by, cond_of, cond_part}
-use Rattle.golog_theory.proofs.Each.{drop-item}
+use Rattle.golog_rows.proofs.Each.{drop-item}
 use Rattle.golog_theory.proofs.Forms.{by_parts}
 use Rattle.golog_theory.proofs.Descent.{rest_deeper, deepest_one, deepest_two, deepest_at}
 

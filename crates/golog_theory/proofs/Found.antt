@@ -8,7 +8,7 @@ use Rattle.std.specs.Map.{KeepsOthers}
 use Rattle.std.proofs.lemmas.Bool.{cases_Bool}
 use Rattle.std.proofs.lemmas.Iterator.Adapters.{position_from-zero}
 use Rattle.std.proofs.lemmas.List.{take_more}
-use Rattle.golog_theory.proofs.Each.{drop-item}
+use Rattle.golog_rows.proofs.Each.{drop-item}
 use Rattle.golog_theory.specs.Names.{same}
 use Rattle.golog_theory.specs.Index.{number_at, or_new, Finds}
 use Rattle.golog_theory.specs.declared.index.Numbers.{Numbers}

@@ -23,7 +23,7 @@ use Rattle.golog_theory.specs.Parts.{word, parts, short_name, new_name, sort_of,
 use Rattle.golog_theory.specs.Sorts.{bound, is_above, is_too_wide, range_of, constant_of, listed_of, range_by, sort_by, sort_item}
 use Rattle.golog_theory.specs.Fluents.{sorts_of, start_value, fluent_of, fluent_item}
 use Rattle.golog_theory.specs.Actions.{device_item, device_of, action_of, action_item, exo_item}
-use Rattle.golog_semantics.specs.Drafts.{is_draft_sort, is_draft_device, draft_args_keep, draft_sort_keeps, draft_fluent_keeps, draft_action_keeps, IsFew}
+use Rattle.golog_draft.specs.Drafts.{is_draft_sort, is_draft_device, draft_args_keep, draft_sort_keeps, draft_fluent_keeps, draft_action_keeps, IsFew}
 use Rattle.golog_semantics.specs.Ways.{is_empty}
 use Rattle.golog_theory.proofs.Yields.{Yields, gives-yields, refused-yields, row-yields, found-yields, if-yields, then-yields, each-yields}
 

@@ -34,7 +34,7 @@ use Rattle.golog_theory.specs.Fluents.{fluent_item, start_item}
 use Rattle.golog_theory.specs.Actions.{device_item, action_item, exo_item}
 use Rattle.golog_theory.specs.Effects.{variable_count, effect_of, cause_of, poss_item, causes_item, senses_item}
 use Rattle.golog_theory.specs.Items.{built_in, with_fluent, sort_read, device_read, fluent_read, start_read, action_read, exo_read, poss_read, causes_read, senses_read, other_read, read_by, item_read, items_read, theory_of}
-use Rattle.golog_semantics.specs.Drafts.{signature, fluent_keeps, term_keeps, cond_keeps, is_constant_at, cause_vars, draft_action_at, draft_cause_keeps}
+use Rattle.golog_draft.specs.Drafts.{signature, fluent_keeps, term_keeps, cond_keeps, is_constant_at, cause_vars, draft_action_at, draft_cause_keeps}
 use Rattle.golog_theory.proofs.Yields.{Yields, gives-yields, refused-yields, row-yields, if-yields, then-yields}
 use Rattle.golog_theory.proofs.Inside.{end_of, Between, stands, between-to, arguments-between}
 use Rattle.golog_theory.proofs.Tables.{between-le}

@@ -23,12 +23,16 @@ use Rattle.golog_theory.specs.Heads.{fluent_called}
 use Rattle.golog_theory.specs.Recursion.{Part}
 use Rattle.golog_theory.specs.Terms.{term_of}
 use Rattle.golog_theory.specs.Conditions.{InScope, truth_of, fluent_cond, sides_of, equal_of, less_of, at_most_of, not_of, conds_of, and_of, or_of, binder_by, binder_of, bound_of, some_of, all_of, cond_list, cond_by, cond_of, cond_part}
-use Rattle.golog_semantics.specs.Drafts.{signature, fluent_keeps, term_keeps, binder_keeps, cond_keeps_step, cond_keeps, is_draft_sort}
+use Rattle.golog_draft.specs.Drafts.{signature, fluent_keeps, term_keeps, binder_keeps, cond_keeps_step, cond_keeps, is_draft_sort}
 use Rattle.golog_theory.proofs.Inside.{Each, by_parts}
 use Rattle.golog_theory.proofs.Conds.{cond_of-parts}
 use Rattle.golog_theory.proofs.Yields.{Yields, On, gives-yields, refused-yields, row-yields, found-yields, if-yields, then-yields, each-yields}
 use Rattle.golog_theory.proofs.Kept.{sort_of-yields, all_push}
 use Rattle.golog_theory.proofs.KeptTerms.{fluent_called-yields, TermKeeps, term_of-yields}
+
+-- there is room for one more variable
+pub room : (scope : ℕ) → nat_le 32 scope ≡ false → nat_lt scope 32 ≡ true
+room scope e = grind arith
 
 module _ (theory : DraftTheory) where
   abbrev pub keeps : DraftCond → ℕ → Bool
@@ -136,16 +140,14 @@ module _ (theory : DraftTheory) where
       gives-yields (λ (b : Binder). is_draft_sort theory b.sort ≡ true) (record { var = name; sort = n }) is)))
   binder_by-yields at (var ∷ sort ∷ other ∷ fs) = refused-yields _ 20 at
 
-  binder_of-yields : (f : Form) → Yields (λ (b : Binder). is_draft_sort theory b.sort ≡ true) (binder_of theory f)
+  -- the sort of a binder is declared
+  pub binder_of-yields : (f : Form) → Yields (λ (b : Binder). is_draft_sort theory b.sort ≡ true) (binder_of theory f)
   unfolding binder_of
   binder_of-yields f = binder_by-yields (place_of f) (parts f)
 
   record BoundKeeps (scope : ℕ) (b : Bound) : Type 0 where
     binder : binder_keeps (signature theory) scope b.binder.sort ≡ true
     body : Keeps (scope + 1) b.body
-
-  room : (scope : ℕ) → nat_le 32 scope ≡ false → nat_lt scope 32 ≡ true
-  room scope e = grind arith
 
   bound_of-yields : (scope at : ℕ) (fs : List Form) → Each IsKept fs → Yields (BoundKeeps scope) (bound_of theory scope at (as_parts fs))
   unfolding bound_of

@@ -27,7 +27,7 @@ use Rattle.golog_theory.specs.Parts.{word, short_name}
 use Rattle.golog_theory.specs.Heads.{head_word, arguments, called, allowed, action_called, var_of, schema_of, fluent_called, args_of}
 use Rattle.golog_theory.specs.Conditions.{cond_of}
 use Rattle.golog_theory.specs.Effects.{has_poss, has_poss_at, is_restricted, poss_item, senses_item}
-use Rattle.golog_semantics.specs.Drafts.{signature, fluent_keeps, cond_keeps, draft_action_at, draft_poss_keeps, draft_sense_keeps}
+use Rattle.golog_draft.specs.Drafts.{signature, fluent_keeps, cond_keeps, draft_action_at, draft_poss_keeps, draft_sense_keeps}
 use Rattle.golog_semantics.specs.Ways.{is_empty}
 use Rattle.golog_semantics.specs.BuiltIn.{same_text}
 use Rattle.golog_theory.proofs.Yields.{Yields, On, gives-yields, refused-yields, row-yields, found-yields, if-yields, then-yields, each-yields}

@@ -16,7 +16,7 @@ use Rattle.golog_theory.specs.Names.{is_taken}
 use Rattle.golog_theory.specs.Parts.{new_name, sort_of}
 use Rattle.golog_theory.specs.Fluents.{sorts_of, start_value, fluent_of, fluent_item}
 use Rattle.golog_theory.specs.Actions.{device_item, device_of, action_of, action_item, exo_item}
-use Rattle.golog_semantics.specs.Drafts.{is_draft_sort, is_draft_device, draft_args_keep, draft_fluent_keeps, draft_action_keeps}
+use Rattle.golog_draft.specs.Drafts.{is_draft_sort, is_draft_device, draft_args_keep, draft_fluent_keeps, draft_action_keeps}
 use Rattle.golog_semantics.specs.Ways.{is_empty}
 use Rattle.golog_theory.proofs.Yields.{Yields, On, gives-yields, refused-yields, row-yields, found-yields, if-yields, then-yields, each-yields}
 use Rattle.golog_theory.proofs.Kept.{new_name-yields, sort_of-yields, device_of-yields, sorts_of-yields, all_push}

@@ -23,7 +23,7 @@ use Rattle.golog_theory.specs.Actions.{device_item, action_item, exo_item}
 use Rattle.golog_theory.specs.Effects.{poss_item, causes_item, senses_item}
 use Rattle.golog_theory.specs.Items.{built_in, with_fluent, sort_read, device_read, fluent_read, start_read, action_read, exo_read, poss_read, causes_read, senses_read, other_read, read_by, item_read, items_read, theory_of}
 use Rattle.golog_semantics.specs.BuiltIn.{is_keyword, same_text}
-use Rattle.golog_semantics.specs.Drafts.{AreNames, draft_sort_names, theory_names}
+use Rattle.golog_draft.specs.Drafts.{AreNames, draft_sort_names, theory_names}
 use Rattle.golog_theory.proofs.Yields.{Yields, gives-yields, refused-yields, row-yields, if-yields, then-yields}
 use Rattle.golog_theory.proofs.KeptItems.{IsNew, FluentFits, ActionFits, DeviceFits, fluent_item-yields, device_item-yields, action_item-yields, exo_item-yields}
 use Rattle.golog_theory.proofs.Amid.{all-amid, all-weaker, Absent, distinct-amid}

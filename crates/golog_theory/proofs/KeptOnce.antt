@@ -11,7 +11,7 @@ use Rattle.golog_tree.specs.declared.draft_cond.DraftArg.{DraftArg}
 use Rattle.golog_tree.specs.declared.draft_cond.DraftArg.TheVariants.{Word, Number}
 use Rattle.golog_theory.specs.Effects.{has_poss}
 use Rattle.golog_theory.specs.Fluents as fluents
-use Rattle.golog_semantics.specs.Drafts as drafts
+use Rattle.golog_draft.specs.Drafts as drafts
 use Rattle.golog_theory.proofs.Kept.{or_left, or_right}
 
 all_push : {X : Type 0} (f : X → ℕ) (P : ℕ → Type 0) (xs : List X) (x : X) → AllByRecursion P (map f xs) → P (f x) → AllByRecursion P (map f (xs ++ x ∷ []))

@@ -22,7 +22,7 @@ use Rattle.golog_theory.specs.Heads.{head_word, arguments, called, allowed, sche
 use Rattle.golog_theory.specs.Fluents.{constant_arg, constants_of, ground_of, start_value, is_started, is_started_again, start_item}
 use Rattle.golog_theory.specs.Conditions.{cond_of}
 use Rattle.golog_theory.specs.Effects.{has_poss, has_poss_at, is_restricted, poss_item}
-use Rattle.golog_semantics.specs.Drafts.{signature, fluent_keeps, cond_keeps, draft_action_at, draft_poss_keeps, draft_start_keeps}
+use Rattle.golog_draft.specs.Drafts.{signature, fluent_keeps, cond_keeps, draft_action_at, draft_poss_keeps, draft_start_keeps}
 use Rattle.golog_semantics.specs.Ways.{is_empty}
 use Rattle.golog_semantics.specs.BuiltIn.{same_text}
 use Rattle.golog_theory.proofs.Yields.{Yields, On, gives-yields, refused-yields, row-yields, then-yields, each-yields}

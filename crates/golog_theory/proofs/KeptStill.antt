@@ -18,7 +18,7 @@ use Rattle.golog_tree.specs.declared.draft_cond.DraftCond.TheVariants as cond
 use Rattle.golog_tree.specs.declared.draft_cond.DraftCond.TheOpen.{DraftCond-F, Truth, Is, Equal, Less, AtMost, Not, And, Or, ForSome, ForAll}
 use Rattle.golog_tree.specs.declared.draft_cond.DraftCond.TheViews.{roll-DraftCond}
 use Rattle.golog_tree.specs.declared.draft_cond.DraftCond.TheFolds.{ind-DraftCond, map-DraftCond}
-use Rattle.golog_semantics.specs.Drafts.{signature, fluent_keeps, term_keeps, binder_keeps, cond_keeps}
+use Rattle.golog_draft.specs.Drafts.{signature, fluent_keeps, term_keeps, binder_keeps, cond_keeps}
 use Rattle.golog_semantics.specs.Written.{is_amount}
 use Rattle.golog_theory.proofs.KeptTerms as terms
 use Rattle.golog_theory.proofs.KeptConds as conds

@@ -31,7 +31,7 @@ use Rattle.golog_theory.specs.Parts.{word, parts, short_name, sort_of, arg_of}
 use Rattle.golog_theory.specs.Heads.{head_word, head_place, arguments, args_of, has_others, called, fluent_called}
 use Rattle.golog_theory.specs.Recursion.{Part}
 use Rattle.golog_theory.specs.Terms.{step_of, plus_of, minus_of, fluent_term, atom_term, term_list, term_by, term_of, term_part}
-use Rattle.golog_semantics.specs.Drafts.{Signature, signature, fluent_keeps, term_keeps_step, term_keeps, binder_keeps, cond_keeps_step, cond_keeps}
+use Rattle.golog_draft.specs.Drafts.{Signature, signature, fluent_keeps, term_keeps_step, term_keeps, binder_keeps, cond_keeps_step, cond_keeps}
 use Rattle.golog_semantics.specs.Written.{is_amount}
 use Rattle.golog_theory.proofs.Inside.{Each, by_parts}
 use Rattle.golog_theory.proofs.Descent.{term_of-parts}

@@ -29,7 +29,7 @@ use Rattle.golog_theory.specs.Actions.{device_item, action_item, exo_item}
 use Rattle.golog_theory.specs.Conditions.{cond_of}
 use Rattle.golog_theory.specs.Effects.{poss_item, variable_count, effect_of, cause_of, causes_item, senses_item}
 use Rattle.golog_theory.specs.Items.{built_in, with_fluent, sort_read, device_read, fluent_read, start_read, action_read, exo_read, poss_read, causes_read, senses_read, other_read, read_by, item_read, items_read, theory_of}
-use Rattle.golog_semantics.specs.Drafts.{BeginsBuiltIn, IsFew, is_draft_sort, is_draft_device, draft_args_keep, draft_sort_keeps, draft_fluent_keeps, draft_action_keeps}
+use Rattle.golog_draft.specs.Drafts.{BeginsBuiltIn, IsFew, is_draft_sort, is_draft_device, draft_args_keep, draft_sort_keeps, draft_fluent_keeps, draft_action_keeps}
 use Rattle.golog_semantics.specs.Ways.{is_empty}
 use Rattle.golog_theory.proofs.Yields.{Yields, On, gives-yields, refused-yields, row-yields, found-yields, if-yields, then-yields, each-yields}
 use Rattle.golog_theory.proofs.Kept.{all_push, SortFits, sort_item-yields}

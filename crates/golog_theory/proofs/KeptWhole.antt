@@ -27,7 +27,7 @@ use Rattle.golog_theory.specs.Fluents.{fluent_item, start_item}
 use Rattle.golog_theory.specs.Actions.{device_item, action_item, exo_item}
 use Rattle.golog_theory.specs.Effects.{poss_item, causes_item, senses_item}
 use Rattle.golog_theory.specs.Items.{built_in, with_fluent, sort_read, device_read, fluent_read, start_read, action_read, exo_read, poss_read, causes_read, senses_read, other_read, read_by, item_read, items_read, theory_of}
-use Rattle.golog_semantics.specs.Drafts.{signature, fluent_keeps, cond_keeps, draft_action_at, draft_poss_keeps, draft_sense_keeps, draft_start_keeps, same_start}
+use Rattle.golog_draft.specs.Drafts.{signature, fluent_keeps, cond_keeps, draft_action_at, draft_poss_keeps, draft_sense_keeps, draft_start_keeps, same_start}
 use Rattle.golog_semantics.specs.Ways.{is_empty}
 use Rattle.golog_semantics.specs.BuiltIn.{same_text}
 use Rattle.golog_theory.proofs.Yields.{Yields, gives-yields, refused-yields, row-yields, if-yields, then-yields}

@@ -5,7 +5,7 @@ use Rattle.golog_form.specs.declared.form.Form.{Form}
 use Rattle.golog_form.specs.Places.{IsInOrder}
 use Rattle.golog_tree.specs.declared.draft.DraftTheory.{DraftTheory}
 use Rattle.golog_tree.specs.declared.draft_cond.DraftCond.{DraftCond}
-use Rattle.golog_semantics.specs.Drafts.{TheoryKeeps, CondKeeps}
+use Rattle.golog_draft.specs.Drafts.{TheoryKeeps, CondKeeps}
 use Rattle.golog_theory.specs.declared.fault.TheoryFault.{TheoryFault}
 use Rattle.golog_theory.specs.Reading.{Answers}
 use Rattle.golog_theory.specs.Conditions.{cond_of}

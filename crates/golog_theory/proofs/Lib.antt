@@ -1,8 +1,8 @@
 pub mod Amounts
 pub mod Conds
+pub mod Each
 pub mod Descent
 pub mod Drafts
-pub mod Each
 pub mod Forms
 pub mod Found
 pub mod Lookups
@@ -10,7 +10,6 @@ pub mod Within
 pub mod Starting
 pub mod Theory
 pub mod Variables
-pub mod Chain
 pub mod Inside
 pub mod Tables
 pub mod Nested

@@ -20,19 +20,31 @@ use Rattle.golog_theory.specs.Heads.{fluent_called}
 use Rattle.golog_theory.specs.Recursion.{Part}
 use Rattle.golog_theory.specs.Terms.{step_of, plus_of, minus_of, fluent_term, atom_term, term_list, term_by, term_of, term_part}
 use Rattle.golog_theory.specs.Conditions.{InScope, truth_of, fluent_cond, sides_of, equal_of, less_of, at_most_of, not_of, conds_of, and_of, or_of, binder_by, binder_of, bound_of, some_of, all_of, cond_list, cond_by, cond_of, cond_part}
-use Rattle.golog_theory.proofs.Chain.{key, Chain, chain-low, chain-high, Spans, then-chain, then-spans, gives-spans, found-chain, Parts, ReadsFrom, each-spans}
+use Rattle.golog_rows.proofs.Chain.{key, Chain, chain-low, chain-high, Spans, then-chain, then-spans, gives-spans, found-chain, Parts, ReadsFrom, each-spans, if-chain, wider}
 use Rattle.golog_theory.proofs.Inside.{Each, by_parts, end_of, Between, Stands, stands, between-from, between-to}
-use Rattle.golog_theory.proofs.Tables.{if-chain, Covers, between-le, short_name-behind, sort_of-covers, arg_of-covers, fluent_called-covers}
+use Rattle.golog_theory.proofs.Tables.{Covers, between-le, short_name-behind, sort_of-covers, arg_of-covers, fluent_called-covers}
 use Rattle.golog_theory.proofs.Descent.{term_of-parts}
 use Rattle.golog_theory.proofs.Conds.{cond_of-parts}
 
 -- a form within others, wherever these begin and end
 pub within : {A : Type 0} (from to : ℕ) (f : Form) (reading : Reading A) → from ≤ place_of f → end_of f ≤ to → Covers f reading → Spans from to reading
 within from to f reading lo hi c =
-    chain-low (32 * from) (32 * place_of f) (32 * to) reading.rows (omega arith) (chain-high (32 * place_of f) (32 * end_of f) (32 * to) reading.rows (omega arith) c)
+    wider from (place_of f) (end_of f) to reading lo hi c
+
+-- the first of some parts, and then what is read of the others
+pub first-spans : {A B : Type 0} (from : ℕ) (f : Form) (fs : List Form) (to : ℕ) (reading : Reading A) (next : A → Reading B) → Between from (f ∷ fs) to
+    → Covers f reading → ((x : A) → Spans (end_of f) to (next x)) → Spans from to (reading >>= next)
+first-spans from f fs to reading next b c d =
+    then-spans from (end_of f) to reading next (between-le (end_of f) fs to b.2)
+    (chain-low (64 * from) (64 * place_of f) (64 * end_of f) reading.rows (omega (arith, b.0)) c) d
+
+-- the last of some parts
+pub last-spans : {A B : Type 0} (from : ℕ) (f : Form) (to : ℕ) (reading : Reading A) (made : A → B) → Between from (f ∷ []) to
+    → Covers f reading → Spans from to (reading >>= λ x. gives (made x))
+last-spans from f to reading made b c = gives-spans from to reading made (within from to f reading b.0 b.2 c)
 
 -- a refusal of the form itself
-pub refused-covers : (A : Type 0) (from to code : ℕ) → from < to → 0 < code → code < 32 → Spans from to (refused {A = A} code from)
+pub refused-covers : (A : Type 0) (from to code : ℕ) → from < to → 0 < code → code < 64 → Spans from to (refused {A = A} code from)
 refused-covers A from to code size some small = (omega arith, some, small, omega arith)
 
 step_of-covers : (f : Form) → IsInOrder f → Covers f (step_of f)
@@ -42,7 +54,7 @@ step_of-covers f order =
       omega arith,
       omega arith,
       omega arith,
-      found-chain (key (place_of f) 20) (32 * end_of f) 26 (place_of f) (value (word f)) (omega arith) (omega arith) (omega arith) (omega arith),
+      found-chain (key (place_of f) 20) (64 * end_of f) 26 (place_of f) (value (word f)) (omega arith) (omega arith) (omega arith) (omega arith),
     )
 
 atom_term-covers : (f : Form) → IsInOrder f → Covers f (atom_term f)
@@ -89,7 +101,7 @@ module _ (theory : DraftTheory) where
       → Covers f (term_list theory f keyword (map (term_part theory) fs))
   unfolding term_list
   term_list-covers f keyword fs from order lt b e =
-      let low = 32 * place_of f in let high = 32 * end_of f in let parts = map (term_part theory) fs in
+      let low = 64 * place_of f in let high = 64 * end_of f in let parts = map (term_part theory) fs in
       let minus = if same keyword (codes "-") then minus_of (place_of f) parts else fluent_term theory f in
       if-chain low high (same keyword (codes "+")) (plus_of (place_of f) parts) minus
       (plus_of-spans (place_of f) fs from (end_of f) lt b e)
@@ -121,7 +133,7 @@ module _ (theory : DraftTheory) where
   unfolding truth_of
   truth_of-covers f order =
       let size = (stands f order).size in
-      let low = 32 * place_of f in let high = 32 * end_of f in
+      let low = 64 * place_of f in let high = 64 * end_of f in
       let none = refused-covers DraftCond (place_of f) (end_of f) 20 size (omega arith) (omega arith) in
       if-chain low high (same (word f) (codes "true")) (gives (cond.Truth true (place_of f)))
       (if same (word f) (codes "false") then gives (cond.Truth false (place_of f)) else refused 20 (place_of f))
@@ -172,15 +184,16 @@ module _ (theory : DraftTheory) where
         omega (arith, b.0),
         omega arith,
         omega arith,
-        then-chain (key (place_of var) 20) (32 * end_of var) (32 * to) (short_name var) (λ var. sort_of theory sort >>= λ sort. gives (record { var = var; sort = sort }))
+        then-chain (key (place_of var) 20) (64 * end_of var) (64 * to) (short_name var) (λ var. sort_of theory sort >>= λ sort. gives (record { var = var; sort = sort }))
             (omega (arith, b.2.0, size', b.2.2))
-            (chain-low (key (place_of var) 20) (key (place_of var) 25) (32 * end_of var) (short_name var).rows (omega arith) (short_name-behind var size))
+            (chain-low (key (place_of var) 20) (key (place_of var) 25) (64 * end_of var) (short_name var).rows (omega arith) (short_name-behind var size))
             (λ name. gives-spans (end_of var) to (sort_of theory sort) (λ sort. record { var = name; sort = sort })
             (within (end_of var) to sort (sort_of theory sort) b.2.0 b.2.2 (sort_of-covers theory sort b.2.1))),
       )
   binder_by-spans at (var ∷ sort ∷ other ∷ fs) to lt b = refused-covers Binder at to 20 lt (omega arith) (omega arith)
 
-  binder_of-covers : (f : Form) → IsInOrder f → Covers f (binder_of theory f)
+  -- the rows of a binder stand within its places
+  pub binder_of-covers : (f : Form) → IsInOrder f → Covers f (binder_of theory f)
   unfolding binder_of
   binder_of-covers f order = binder_by-spans (place_of f) (parts f) (end_of f) (stands f order).size (stands f order).inner
 
@@ -194,10 +207,10 @@ module _ (theory : DraftTheory) where
         omega arith,
         omega arith,
         omega arith,
-        then-chain (key at 25) (32 * end_of binder) (32 * to) (binder_of theory binder)
+        then-chain (key at 25) (64 * end_of binder) (64 * to) (binder_of theory binder)
             (λ binder. cond_of theory body (scope + 1) >>= λ body. gives (record { binder = binder; body = body }))
             (omega (arith, b.2.0, size, b.2.2))
-            (chain-low (key at 25) (32 * place_of binder) (32 * end_of binder) (binder_of theory binder).rows (omega (arith, b.0)) (binder_of-covers binder b.1))
+            (chain-low (key at 25) (64 * place_of binder) (64 * end_of binder) (binder_of theory binder).rows (omega (arith, b.0)) (binder_of-covers binder b.1))
             (λ binder'. gives-spans (end_of binder) to (cond_of theory body (scope + 1)) (λ body. record { binder = binder'; body = body })
             (within (end_of binder) to body (cond_of theory body (scope + 1)) b.2.0 b.2.2 (e.1.0 b.2.1 (scope + 1)))),
       )
@@ -212,7 +225,7 @@ module _ (theory : DraftTheory) where
       let sides = sides_of-spans at fs from to lt b in
       let conds = conds_of-spans scope at fs from to lt b e in
       let bound = bound_of-spans scope at fs from to lt b e in
-      let choose = if-chain (32 * at) (32 * to) in
+      let choose = if-chain (64 * at) (64 * to) in
       let r8 = if same keyword (codes "all") then all_of theory scope at parts else fluent_cond theory f in
       let r7 = if same keyword (codes "some") then some_of theory scope at parts else r8 in
       let r6 = if same keyword (codes "or") then or_of scope at parts else r7 in

@@ -19,7 +19,7 @@ use Rattle.golog_theory.specs.Numbers.{is_number}
 use Rattle.golog_theory.specs.Parts.{word, short_name, new_name, number_of}
 use Rattle.golog_theory.specs.Sorts.{bound, is_above, is_too_wide, range_of, is_taken_beside, constant_of, listed_of, range_by, sort_by, sort_item}
 use Rattle.golog_semantics.specs.BuiltIn.{is_keyword, same_text}
-use Rattle.golog_semantics.specs.Drafts.{draft_sort_names, theory_names}
+use Rattle.golog_draft.specs.Drafts.{draft_sort_names, theory_names}
 use Rattle.golog_theory.proofs.Yields.{Yields, gives-yields, refused-yields, row-yields, if-yields, then-yields, each-yields}
 use Rattle.golog_theory.proofs.Kept.{or_left, or_right, not_true, new_name-yields}
 use Rattle.golog_theory.proofs.KeptItems.{IsNew}

@@ -24,7 +24,7 @@ use Rattle.golog_theory.specs.declared.fault.TheoryFault.{TheoryFault}
 use Rattle.golog_theory.specs.declared.names.Actions.TheVariants.{OfProgram, All}
 use Rattle.golog_theory.specs.declared.fluents.FluentItem.{FluentItem}
 use Rattle.golog_theory.specs.declared.effects.Effect.{Effect}
-use Rattle.golog_theory.specs.Reading.{Row, Reading, Answers, gives, refused, row, ◌>>=◌, found, each}
+use Rattle.golog_theory.specs.Reading.{Row, Reading, Answers, gives, refused, row, ◌>>=◌, found, each, code_at}
 use Rattle.golog_theory.specs.Names.{same, is_constant, fluent_no, fluent_arity, device_no}
 use Rattle.golog_theory.specs.Numbers.{is_number}
 use Rattle.golog_theory.specs.Parts.{word, parts, short_name, new_name, sort_of, number_of, arg_of}
@@ -37,25 +37,13 @@ use Rattle.golog_theory.specs.Conditions.{cond_of}
 use Rattle.golog_theory.specs.Effects.{poss_item, variable_count, effect_of, cause_of, causes_item, senses_item}
 use Rattle.golog_theory.specs.Items.{built_in, with_fluent, sort_read, device_read, fluent_read, start_read, action_read, exo_read, poss_read, causes_read, senses_read, other_read, read_by, item_read, items_read, theory_of}
 use Rattle.golog_theory.specs.Order.{StandIn, TablesAreOrdered, IsLeastRow}
-use Rattle.golog_theory.proofs.Chain.{key, Chain, chain-low, chain-high, Spans, then-chain, then-spans, gives-spans, found-chain, Parts, ReadsFrom, each-spans, chain-ordered, chain-within, least_row}
+use Rattle.golog_rows.proofs.Chain.{key, Chain, chain-low, chain-high, Spans, then-chain, then-spans, gives-spans, found-chain, Parts, ReadsFrom, each-spans, if-chain, chain-ordered, chain-within, least_row}
 use Rattle.golog_theory.proofs.Theory.{first_row}
 use Rattle.golog_theory.proofs.Inside.{end_of, Between, Stands, stands, between-drop, between-from, arguments-between}
-use Rattle.golog_theory.proofs.Tables.{if-chain, Covers, each-covers, between-le, short_name-behind, new_name-covers, sort_of-covers, number_of-covers, arg_of-covers, called-covers, fluent_called-covers, action_called-covers, schema_of-covers}
-use Rattle.golog_theory.proofs.Nested.{within, refused-covers, term_of-covers, cond_of-covers}
+use Rattle.golog_theory.proofs.Tables.{Covers, each-covers, between-le, short_name-behind, named-covers, new_name-covers, sort_of-covers, number_of-covers, arg_of-covers, called-covers, fluent_called-covers, action_called-covers, schema_of-covers}
+use Rattle.golog_theory.proofs.Nested.{within, refused-covers, first-spans, last-spans, term_of-covers, cond_of-covers}
 
 module _ (theory : DraftTheory) where
-  -- the first of some parts, and then what is read of the others
-  first-spans : {A B : Type 0} (from : ℕ) (f : Form) (fs : List Form) (to : ℕ) (reading : Reading A) (next : A → Reading B) → Between from (f ∷ fs) to
-      → Covers f reading → ((x : A) → Spans (end_of f) to (next x)) → Spans from to (reading >>= next)
-  first-spans from f fs to reading next b c d =
-      then-spans from (end_of f) to reading next (between-le (end_of f) fs to b.2)
-      (chain-low (32 * from) (32 * place_of f) (32 * end_of f) reading.rows (omega (arith, b.0)) c) d
-
-  -- the last of some parts
-  last-spans : {A B : Type 0} (from : ℕ) (f : Form) (to : ℕ) (reading : Reading A) (made : A → B) → Between from (f ∷ []) to
-      → Covers f reading → Spans from to (reading >>= λ x. gives (made x))
-  last-spans from f to reading made b c = gives-spans from to reading made (within from to f reading b.0 b.2 c)
-
   range_of-spans : (at : ℕ) (name low high : Form) (from to : ℕ) → at < from → Between from (name ∷ low ∷ high ∷ []) to
       → Spans at to (range_of theory at name low high)
   unfolding range_of
@@ -67,7 +55,7 @@ module _ (theory : DraftTheory) where
       omega arith,
       omega arith,
       omega arith,
-      chain-low (key at 26) (32 * from) (32 * to) _ (omega arith)
+      chain-low (key at 26) (64 * from) (64 * to) _ (omega arith)
           (first-spans from name (low ∷ high ∷ []) to (new_name theory name) (λ name. number_of low >>= λ low. number_of high >>= λ high. gives (Range name low high at)) b
           (new_name-covers theory name b.1)
           (λ name. first-spans (end_of _) low (high ∷ []) to (number_of low) (λ low. number_of high >>= λ high. gives (Range name low high at)) b.2 (number_of-covers low b.2.1)
@@ -77,18 +65,7 @@ module _ (theory : DraftTheory) where
 
   constant_of-covers : (own : List ℕ) (before : List (List ℕ)) (f : Form) → IsInOrder f → Covers f (constant_of theory own before f)
   unfolding constant_of
-  constant_of-covers own before f order =
-      let size = (stands f order).size in (
-        omega arith,
-        omega arith,
-        omega arith,
-        (
-          omega arith,
-          omega arith,
-          omega arith,
-          chain-low (key (place_of f) 21) (key (place_of f) 25) (32 * end_of f) (short_name f).rows (omega arith) (short_name-behind f size),
-        ),
-      )
+  constant_of-covers own before f order = named-covers f order
 
   listed_of-spans : (at : ℕ) (name : Form) (constants : List Form) (from to : ℕ) → at < from → Between from (name ∷ constants) to
       → Spans at to (listed_of theory at name constants)
@@ -97,7 +74,7 @@ module _ (theory : DraftTheory) where
     omega arith,
     omega arith,
     omega arith,
-    chain-low (key at 25) (32 * from) (32 * to) _ (omega arith)
+    chain-low (key at 25) (64 * from) (64 * to) _ (omega arith)
         (first-spans from name constants to (new_name theory name) (λ own. each (constant_of theory own) [] constants >>= λ names. gives (Listed own names at)) b
         (new_name-covers theory name b.1)
         (λ own. gives-spans (end_of name) to (each (constant_of theory own) [] constants) (λ names. Listed own names at)
@@ -114,7 +91,7 @@ module _ (theory : DraftTheory) where
   sort_by-spans : (at : ℕ) (name : Form) (fs : List Form) (from to : ℕ) → at < from → Between from (name ∷ fs) to → Spans at to (sort_by theory at name fs)
   sort_by-spans at name [] from to lt b = refused-covers DraftSort at to 20 (omega (arith, between-le from (name ∷ []) to b)) (omega arith) (omega arith)
   sort_by-spans at name (f ∷ fs) from to lt b =
-      if-chain (32 * at) (32 * to) (is_number (word f)) (range_by theory at name f fs) (listed_of theory at name (f ∷ fs))
+      if-chain (64 * at) (64 * to) (is_number (word f)) (range_by theory at name f fs) (listed_of theory at name (f ∷ fs))
       (range_by-spans at name f fs from to lt b) (listed_of-spans at name (f ∷ fs) from to lt b)
 
   sort_item-spans : (at : ℕ) (fs : List Form) (to : ℕ) → at < to → Between (at + 1) fs to → Spans at to (sort_item theory at fs)
@@ -137,7 +114,7 @@ module _ (theory : DraftTheory) where
           omega arith,
           omega arith,
           omega arith,
-          chain-low (key (place_of f) 25) (32 * (place_of f + 1)) (32 * end_of f) _ (omega arith)
+          chain-low (key (place_of f) 25) (64 * (place_of f + 1)) (64 * end_of f) _ (omega arith)
               (each-covers (λ (_ : List ℕ). sort_of theory) (λ _. sort_of-covers theory) [] (place_of f + 1) (parts f) (end_of f) s.inner),
         ),
       )
@@ -151,8 +128,8 @@ module _ (theory : DraftTheory) where
         omega arith,
         omega arith,
         omega arith,
-        then-chain (key (place_of f) 23) (32 * end_of f) (32 * end_of f) (short_name f) (λ word. gives (Word word (place_of f))) (omega arith)
-            (chain-low (key (place_of f) 23) (key (place_of f) 25) (32 * end_of f) (short_name f).rows (omega arith) (short_name-behind f size))
+        then-chain (key (place_of f) 23) (64 * end_of f) (64 * end_of f) (short_name f) (λ word. gives (Word word (place_of f))) (omega arith)
+            (chain-low (key (place_of f) 23) (key (place_of f) 25) (64 * end_of f) (short_name f).rows (omega arith) (short_name-behind f size))
             (λ name. omega arith),
       )
   constant_by-covers f false fits order =
@@ -166,7 +143,7 @@ module _ (theory : DraftTheory) where
   unfolding start_value
   start_value-covers f order =
       let size = (stands f order).size in
-      if-chain (32 * place_of f) (32 * end_of f) (same (word f) (codes "unknown")) (gives None) (constant_arg theory f >>= (λ arg. gives (Some arg)))
+      if-chain (64 * place_of f) (64 * end_of f) (same (word f) (codes "unknown")) (gives None) (constant_arg theory f >>= (λ arg. gives (Some arg)))
       (omega arith) (gives-spans (place_of f) (end_of f) (constant_arg theory f) (λ arg. Some arg) (constant_arg-covers f order))
 
   -- a fluent that is declared, up to its sort
@@ -218,7 +195,7 @@ module _ (theory : DraftTheory) where
     omega arith,
     omega arith,
     omega arith,
-    chain-low (key at 21) (32 * (at + 1)) (32 * to) _ (omega arith)
+    chain-low (key at 21) (64 * (at + 1)) (64 * to) _ (omega arith)
         (first-spans (at + 1) fluent (value ∷ []) to (ground_of theory fluent) (λ called. start_value theory value >>= λ value. gives (One called.item called.args value at)) b
         (ground_of-covers fluent b.1)
         (λ called. last-spans (end_of fluent) value to (start_value theory value) (λ value. One called.item called.args value at) b.2 (start_value-covers value b.2.1))),
@@ -232,7 +209,7 @@ module _ (theory : DraftTheory) where
     omega arith,
     omega arith,
     omega arith,
-    chain-low (key at 25) (32 * (at + 1)) (32 * to) _ (omega arith)
+    chain-low (key at 25) (64 * (at + 1)) (64 * to) _ (omega arith)
         (last-spans (at + 1) name to (new_name theory name) (λ name. record { name = name; at = at }) b (new_name-covers theory name b.1)),
   )
   device_item-spans at (name ∷ other ∷ fs) to lt b = none DraftDevice at to lt
@@ -244,7 +221,7 @@ module _ (theory : DraftTheory) where
         omega arith,
         omega arith,
         omega arith,
-        found-chain (key (place_of f) 20) (32 * end_of f) 23 (place_of f) (device_no theory (word f)) (omega arith) (omega arith) (omega arith) (omega arith),
+        found-chain (key (place_of f) 20) (64 * end_of f) 23 (place_of f) (device_no theory (word f)) (omega arith) (omega arith) (omega arith) (omega arith),
       )
 
   action_of-spans : (at : ℕ) (name sorts : Form) (from : ℕ) → Between from (name ∷ sorts ∷ []) (end_of sorts) → Spans from (end_of sorts) (action_of theory at name sorts)
@@ -261,7 +238,7 @@ module _ (theory : DraftTheory) where
   action_item-spans at [] to lt b = none DraftAction at to lt
   action_item-spans at (name ∷ []) to lt b = none DraftAction at to lt
   action_item-spans at (name ∷ sorts ∷ []) to lt b =
-      chain-high (32 * at) (32 * end_of sorts) (32 * to) (action_of theory at name sorts).rows (omega (arith, b.2.2))
+      chain-high (64 * at) (64 * end_of sorts) (64 * to) (action_of theory at name sorts).rows (omega (arith, b.2.2))
       (action_of-spans at name sorts at (omega (arith, b.0), b.1, (b.2.0, b.2.1, omega arith)))
   action_item-spans at (name ∷ sorts ∷ device ∷ []) to lt b =
       then-spans at (end_of sorts) to (action_of theory at name sorts) (λ action. device_of theory device >>= λ device. gives (record action { device = Some device }))
@@ -291,7 +268,7 @@ module _ (theory : DraftTheory) where
     omega arith,
     omega arith,
     omega arith,
-    chain-low (key at 21) (32 * (at + 1)) (32 * to) _ (omega arith)
+    chain-low (key at 21) (64 * (at + 1)) (64 * to) _ (omega arith)
         (first-spans (at + 1) schema (cond ∷ []) to (schema_of theory OfProgram schema)
         (λ schema. cond_of theory cond (length schema.vars) >>= λ cond. gives (record { action = schema.action; vars = schema.vars; cond = cond; at = at })) b
         (schema_of-covers theory OfProgram schema b.1)
@@ -320,7 +297,7 @@ module _ (theory : DraftTheory) where
     omega arith,
     omega arith,
     omega arith,
-    chain-low (key at 25) (32 * (at + 1)) (32 * to) _ (omega arith)
+    chain-low (key at 25) (64 * (at + 1)) (64 * to) _ (omega arith)
         (then-spans (at + 1) (end_of term) to (effect_of theory action fluent term) (λ effect. gives (cause_of at effect (Truth true at))) b.2.2.2
         (effect_of-spans action fluent term (at + 1) (b.0, b.1, (b.2.0, b.2.1, (b.2.2.0, b.2.2.1, omega arith))))
         (λ effect. omega (arith, b.2.2.2))),
@@ -329,7 +306,7 @@ module _ (theory : DraftTheory) where
     omega arith,
     omega arith,
     omega arith,
-    chain-low (key at 25) (32 * (at + 1)) (32 * to) _ (omega arith)
+    chain-low (key at 25) (64 * (at + 1)) (64 * to) _ (omega arith)
         (then-spans (at + 1) (end_of term) to (effect_of theory action fluent term)
         (λ effect. cond_of theory cond (variable_count theory effect) >>= λ cond. gives (cause_of at effect cond))
         (between-le (end_of term) (cond ∷ []) to b.2.2.2)
@@ -355,12 +332,12 @@ module _ (theory : DraftTheory) where
   other_read-spans : (at : ℕ) (keyword : List ℕ) (to : ℕ) → at < to → Spans at to (other_read theory at keyword)
   unfolding other_read
   other_read-spans at keyword to lt =
-      if-chain (32 * at) (32 * to) _ (gives theory) (refused 20 at) (omega arith) (none DraftTheory at to lt)
+      if-chain (64 * at) (64 * to) _ (gives theory) (refused 20 at) (omega arith) (none DraftTheory at to lt)
 
   read_by-spans : (at : ℕ) (keyword : List ℕ) (fs : List Form) (to : ℕ) → at < to → Between (at + 1) fs to → Spans at to (read_by theory at keyword fs)
   unfolding read_by sort_read device_read fluent_read start_read action_read exo_read poss_read causes_read senses_read
   read_by-spans at keyword fs to lt b =
-      let choose = if-chain (32 * at) (32 * to) in
+      let choose = if-chain (64 * at) (64 * to) in
       choose (same keyword (codes "sort")) (sort_read theory at fs) _ (gives-spans at to (sort_item theory at fs) (λ item. record theory { sorts = theory.sorts ++ item ∷ [] }) (sort_item-spans at fs to lt b))
       (choose (same keyword (codes "device")) (device_read theory at fs) _ (gives-spans at to (device_item theory at fs) (λ item. record theory { devices = theory.devices ++ item ∷ [] }) (device_item-spans at fs to lt b))
       (choose (same keyword (codes "fluent")) (fluent_read theory at fs) _ (gives-spans at to (fluent_item theory at fs) (λ item. with_fluent theory item at) (fluent_item-spans at fs to lt b))
@@ -379,7 +356,7 @@ module _ (theory : DraftTheory) where
 pub items_read-spans : (theory : DraftTheory) (from : ℕ) (fs : List Form) (to : ℕ) → Between from fs to → Spans from to (items_read theory fs)
 items_read-spans theory from [] to b = omega (arith, b)
 items_read-spans theory from (f ∷ fs) to b =
-    first-spans theory from f fs to (item_read theory f) (λ next. items_read next fs) b (item_read-covers theory f b.1)
+    first-spans from f fs to (item_read theory f) (λ next. items_read next fs) b (item_read-covers theory f b.1)
     (λ next. items_read-spans next (end_of f) fs to b.2)
 
 pub theory_of-covers : (f : Form) → IsInOrder f → Covers f (theory_of f)
@@ -389,14 +366,14 @@ theory_of-covers f order =
       omega arith,
       omega arith,
       omega arith,
-      chain-low (key (place_of f) 20) (32 * (place_of f + 1)) (32 * end_of f) _ (omega arith)
+      chain-low (key (place_of f) 20) (64 * (place_of f + 1)) (64 * end_of f) _ (omega arith)
           (items_read-spans built_in (place_of f + 1) (arguments f) (end_of f) (arguments-between f order)),
     )
 
 stand : {A : Type 0} (f : Form) (reading : Reading A) → Covers f reading → StandIn f reading.rows
 stand f reading c = record {
-  ordered = chain-ordered (32 * place_of f) (32 * end_of f) reading.rows c;
-  within = chain-within (place_of f) (end_of f) (32 * place_of f) reading.rows (omega arith) c;
+  ordered = chain-ordered (64 * place_of f) (64 * end_of f) reading.rows c;
+  within = chain-within (place_of f) (end_of f) (64 * place_of f) reading.rows (omega arith) c;
 }
 
 pub tables-ordered : (f : Form) → IsInOrder f → TablesAreOrdered f
@@ -408,11 +385,11 @@ tables-ordered f order = record {
 
 -- so the answer of a reader is the least row that fits
 pub theory-least : (result : Result DraftTheory TheoryFault) (f : Form) → Answers result (theory_of f) → IsInOrder f → IsLeastRow result (theory_of f).rows
-theory-least result f e order = least_row result (theory_of f).rows (tables-ordered f order).theories.ordered (first_row result (theory_of f) e)
+theory-least result f e order = least_row code_at result (theory_of f).rows (tables-ordered f order).theories.ordered (first_row result (theory_of f) e)
 
 pub condition-least : (result : Result DraftCond TheoryFault) (theory : DraftTheory) (f : Form) → Answers result (cond_of theory f 0) → IsInOrder f
     → IsLeastRow result (cond_of theory f 0).rows
 condition-least result theory f e order =
-    least_row result (cond_of theory f 0).rows ((tables-ordered f order).conditions theory 0).ordered (first_row result (cond_of theory f 0) e)
+    least_row code_at result (cond_of theory f 0).rows ((tables-ordered f order).conditions theory 0).ordered (first_row result (cond_of theory f 0) e)
 
 pub ruleset laws = (theory-least, condition-least)

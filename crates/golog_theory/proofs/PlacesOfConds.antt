@@ -11,8 +11,8 @@ use Rattle.golog_tree.specs.declared.draft_cond.DraftCond.{DraftCond}
 use Rattle.golog_tree.specs.declared.draft_cond.DraftCond.TheVariants as cond
 use Rattle.golog_tree.specs.declared.draft_cond.DraftCond.TheOpen.{Truth, Is, Equal, Less, AtMost, Not, And, Or, ForSome, ForAll}
 use Rattle.golog_tree.specs.declared.draft_cond.DraftCond.TheFolds.{fold-roll-DraftCond}
-use Rattle.golog_semantics.specs.DraftPlaces.{arg_places, joined, term_places, cond_places_step, cond_places}
-use Rattle.golog_semantics.specs.DraftOrder.{Ascend}
+use Rattle.golog_draft.specs.DraftPlaces.{arg_places, joined, term_places, cond_places_step, cond_places}
+use Rattle.golog_draft.specs.DraftOrder.{Ascend}
 use Rattle.golog_theory.specs.declared.conditions.Sides.{Sides}
 use Rattle.golog_theory.specs.declared.conditions.Bound.{Bound}
 use Rattle.golog_theory.specs.Reading.{Reading, gives, refused, each}

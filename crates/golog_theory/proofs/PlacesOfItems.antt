@@ -12,8 +12,8 @@ use Rattle.golog_tree.specs.declared.draft.DraftPoss.{DraftPoss}
 use Rattle.golog_tree.specs.declared.draft.DraftCause.{DraftCause}
 use Rattle.golog_tree.specs.declared.draft.DraftSense.{DraftSense}
 use Rattle.golog_tree.specs.declared.draft_cond.DraftCond.TheVariants.{Truth}
-use Rattle.golog_semantics.specs.DraftPlaces.{arg_places, term_places, cond_places, value_places, start_places, poss_places, cause_places, sense_places}
-use Rattle.golog_semantics.specs.DraftOrder.{Ascend, IsAscending}
+use Rattle.golog_draft.specs.DraftPlaces.{arg_places, term_places, cond_places, value_places, start_places, poss_places, cause_places, sense_places}
+use Rattle.golog_draft.specs.DraftOrder.{Ascend, IsAscending}
 use Rattle.golog_theory.specs.declared.names.Actions.TheVariants.{OfProgram, All}
 use Rattle.golog_theory.specs.declared.fluents.FluentItem.{FluentItem}
 use Rattle.golog_theory.specs.declared.effects.Effect.{Effect}

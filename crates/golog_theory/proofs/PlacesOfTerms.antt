@@ -12,8 +12,8 @@ use Rattle.golog_tree.specs.declared.draft_cond.DraftTerm.{DraftTerm}
 use Rattle.golog_tree.specs.declared.draft_cond.DraftTerm.TheVariants as term
 use Rattle.golog_tree.specs.declared.draft_cond.DraftTerm.TheOpen.{Arg, Fluent, Shift}
 use Rattle.golog_tree.specs.declared.draft_cond.DraftTerm.TheFolds.{fold-roll-DraftTerm}
-use Rattle.golog_semantics.specs.DraftPlaces.{arg_place, arg_places, term_places_step, term_places, value_places}
-use Rattle.golog_semantics.specs.DraftOrder.{Ascend}
+use Rattle.golog_draft.specs.DraftPlaces.{arg_place, arg_places, term_places_step, term_places, value_places}
+use Rattle.golog_draft.specs.DraftOrder.{Ascend}
 use Rattle.golog_theory.specs.declared.heads.Called.{Called}
 use Rattle.golog_theory.specs.Reading.{Reading, gives, row, ◌>>=◌}
 use Rattle.golog_theory.specs.Names.{same, is_constant, fluent_no, fluent_arity, action_no, action_arity}

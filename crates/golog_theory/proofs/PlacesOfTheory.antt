@@ -17,8 +17,8 @@ use Rattle.golog_tree.specs.declared.draft.DraftSense.{DraftSense}
 use Rattle.golog_tree.specs.declared.draft_cond.DraftArg.TheVariants.{Word}
 use Rattle.golog_tree.specs.declared.draft_cond.DraftCond.{DraftCond}
 use Rattle.golog_tree.specs.declared.draft_cond.DraftCond.TheVariants.{Truth}
-use Rattle.golog_semantics.specs.DraftPlaces.{start_places, poss_places, cause_places, sense_places, cond_places}
-use Rattle.golog_semantics.specs.DraftOrder.{Ascend, IsAscending, AreAscending, TheoryInOrder}
+use Rattle.golog_draft.specs.DraftPlaces.{start_places, poss_places, cause_places, sense_places, cond_places}
+use Rattle.golog_draft.specs.DraftOrder.{Ascend, IsAscending, AreAscending, TheoryInOrder}
 use Rattle.golog_theory.specs.declared.fault.TheoryFault.{TheoryFault}
 use Rattle.golog_theory.specs.declared.fluents.FluentItem.{FluentItem}
 use Rattle.golog_theory.specs.Reading.{Answers, gives, refused}

@@ -13,13 +13,8 @@ use Rattle.golog_theory.specs.Names.{sort_no, fluent_no, fluent_arity, action_no
 use Rattle.golog_theory.specs.Numbers.{value}
 use Rattle.golog_theory.specs.Parts.{word, parts, short_name, new_name, sort_of, number_of, arg_of}
 use Rattle.golog_theory.specs.Heads.{first_word, first_place, head_word, head_place, arguments, args_of, has_others, called, allowed, fluent_called, action_called, var_of, schema_of}
-use Rattle.golog_theory.proofs.Chain.{key, Chain, chain-low, Spans, then-spans, gives-spans, found-chain, Parts, ReadsFrom, each-spans}
+use Rattle.golog_rows.proofs.Chain.{key, Chain, chain-low, Spans, then-spans, gives-spans, found-chain, Parts, ReadsFrom, each-spans, if-chain}
 use Rattle.golog_theory.proofs.Inside.{end_of, Between, Stands, stands, between-drop, between-from}
-
-pub if-chain : {A : Type 0} (low high : ℕ) (b : Bool) (one other : Reading A) → Chain low high one.rows → Chain low high other.rows
-    → Chain low high (if b then one else other).rows
-if-chain low high true one other c d = c
-if-chain low high false one other c d = d
 
 -- a part of a form, and the places of the form
 abbrev pub Covers : {A : Type 0} → Form → Reading A → Type 0
@@ -40,13 +35,13 @@ pub between-le : (from : ℕ) (fs : List Form) (to : ℕ) → Between from fs to
 between-le from [] to b = b
 between-le from (f ∷ fs) to b = omega (arith, b.0, (stands f b.1).size, between-le (end_of f) fs to b.2)
 
-pub short_name-behind : (f : Form) → place_of f < end_of f → Chain (key (place_of f) 25) (32 * end_of f) (short_name f).rows
+pub short_name-behind : (f : Form) → place_of f < end_of f → Chain (key (place_of f) 25) (64 * end_of f) (short_name f).rows
 unfolding short_name
 short_name-behind f size = (omega arith, omega arith, omega arith, omega arith)
 
-pub new_name-covers : (theory : DraftTheory) (f : Form) → IsInOrder f → Covers f (new_name theory f)
-unfolding new_name
-new_name-covers theory f order =
+-- a name that is none, 20, or that may not stand there, 21, and its length: whether these rows fit or not
+pub named-covers : (f : Form) → IsInOrder f → Covers f (row false 20 (place_of f) (row false 21 (place_of f) (short_name f)))
+named-covers f order =
     let size = (stands f order).size in (
       omega arith,
       omega arith,
@@ -55,9 +50,13 @@ new_name-covers theory f order =
         omega arith,
         omega arith,
         omega arith,
-        chain-low (key (place_of f) 21) (key (place_of f) 25) (32 * end_of f) (short_name f).rows (omega arith) (short_name-behind f size),
+        chain-low (key (place_of f) 21) (key (place_of f) 25) (64 * end_of f) (short_name f).rows (omega arith) (short_name-behind f size),
       ),
     )
+
+pub new_name-covers : (theory : DraftTheory) (f : Form) → IsInOrder f → Covers f (new_name theory f)
+unfolding new_name
+new_name-covers theory f order = named-covers f order
 
 pub sort_of-covers : (theory : DraftTheory) (f : Form) → IsInOrder f → Covers f (sort_of theory f)
 unfolding sort_of
@@ -66,7 +65,7 @@ sort_of-covers theory f order =
       omega arith,
       omega arith,
       omega arith,
-      found-chain (key (place_of f) 20) (32 * end_of f) 22 (place_of f) (sort_no theory (word f)) (omega arith) (omega arith) (omega arith) (omega arith),
+      found-chain (key (place_of f) 20) (64 * end_of f) 22 (place_of f) (sort_no theory (word f)) (omega arith) (omega arith) (omega arith) (omega arith),
     )
 
 pub number_of-covers : (f : Form) → IsInOrder f → Covers f (number_of f)
@@ -76,18 +75,18 @@ number_of-covers f order =
       omega arith,
       omega arith,
       omega arith,
-      found-chain (key (place_of f) 20) (32 * end_of f) 26 (place_of f) (value (word f)) (omega arith) (omega arith) (omega arith) (omega arith),
+      found-chain (key (place_of f) 20) (64 * end_of f) 26 (place_of f) (value (word f)) (omega arith) (omega arith) (omega arith) (omega arith),
     )
 
 pub short_name-covers : (f : Form) → IsInOrder f → Covers f (short_name f)
 short_name-covers f order =
     let size = (stands f order).size in
-    chain-low (32 * place_of f) (key (place_of f) 25) (32 * end_of f) (short_name f).rows (omega arith) (short_name-behind f size)
+    chain-low (64 * place_of f) (key (place_of f) 25) (64 * end_of f) (short_name f).rows (omega arith) (short_name-behind f size)
 
 pub arg_of-covers : (f : Form) → IsInOrder f → Covers f (arg_of f)
 unfolding arg_of
 arg_of-covers f order =
-    if-chain (32 * place_of f) (32 * end_of f) (is_name (word f)) (short_name f >>= (λ word. gives (Word word (place_of f)))) (number_of f >>= (λ number. gives (Number number (place_of f))))
+    if-chain (64 * place_of f) (64 * end_of f) (is_name (word f)) (short_name f >>= (λ word. gives (Word word (place_of f)))) (number_of f >>= (λ number. gives (Number number (place_of f))))
     (gives-spans (place_of f) (end_of f) (short_name f) (λ word. Word word (place_of f)) (short_name-covers f order))
     (gives-spans (place_of f) (end_of f) (number_of f) (λ number. Number number (place_of f)) (number_of-covers f order))
 
@@ -115,11 +114,11 @@ called-first : (at : ℕ) (fs : List Form) (to count : ℕ) (arity : ℕ → ℕ
 called-first at [] to count arity item b = (omega arith, omega arith, omega arith, omega arith)
 called-first at (f ∷ fs) to count arity item b =
     let size = (stands f b.1).size in
-    if-chain (32 * at) (32 * end_of f) (is_name (word f)) (row (has_others count arity item) 24 at (found 23 (place_of f) item)) (refused 20 at) (
+    if-chain (64 * at) (64 * end_of f) (is_name (word f)) (row (has_others count arity item) 24 at (found 23 (place_of f) item)) (refused 20 at) (
       omega arith,
       omega arith,
       omega arith,
-      found-chain (key at 24) (32 * end_of f) 23 (place_of f) item (omega (arith, b.0)) (omega arith) (omega arith) (omega arith),
+      found-chain (key at 24) (64 * end_of f) 23 (place_of f) item (omega (arith, b.0)) (omega arith) (omega arith) (omega arith),
     )
     (omega arith, omega arith, omega arith, omega (arith, b.0))
 
@@ -149,18 +148,7 @@ action_called-covers theory f order =
 
 var_of-covers : (theory : DraftTheory) (before : List (List ℕ)) (f : Form) → IsInOrder f → Covers f (var_of theory before f)
 unfolding var_of
-var_of-covers theory before f order =
-    let size = (stands f order).size in (
-      omega arith,
-      omega arith,
-      omega arith,
-      (
-        omega arith,
-        omega arith,
-        omega arith,
-        chain-low (key (place_of f) 21) (key (place_of f) 25) (32 * end_of f) (short_name f).rows (omega arith) (short_name-behind f size),
-      ),
-    )
+var_of-covers theory before f order = named-covers f order
 
 pub schema_of-covers : (theory : DraftTheory) (actions : Actions) (f : Form) → IsInOrder f → Covers f (schema_of theory actions f)
 unfolding schema_of

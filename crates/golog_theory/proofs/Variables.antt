@@ -3,7 +3,7 @@ use Rattle.std.proofs.Common.{◌≡◌, ℕ, ◌+◌, ◌<◌, List, length, ge
 use Rattle.golog_tree.specs.declared.draft.DraftTheory.{DraftTheory}
 use Rattle.golog_tree.specs.declared.draft_cond.DraftArg.{DraftArg}
 use Rattle.golog_theory.specs.Effects.{variable_after, variables_after}
-use Rattle.golog_theory.proofs.Each.{drop-item}
+use Rattle.golog_rows.proofs.Each.{drop-item}
 
 pub variables_after-drop : (theory : DraftTheory) (vars : List (List ℕ)) (args : List DraftArg) (i : ℕ) (arg : DraftArg) → i < length args → arg ≡ get_or args i arg
     → variables_after theory vars (drop i args) ≡ variables_after theory (variable_after theory vars arg) (drop (i + 1) args)

@@ -6,8 +6,8 @@ use Rattle.golog_form.specs.Shape.{place_of}
 use Rattle.golog_tree.specs.declared.draft.DraftTheory.{DraftTheory}
 use Rattle.golog_tree.specs.declared.draft.DraftDevice.{DraftDevice}
 use Rattle.golog_tree.specs.declared.draft.DraftAction.{DraftAction}
-use Rattle.golog_theory.specs.declared.fault.TheConstants.{UNKNOWN_FORM, UNKNOWN_NAME, COUNT}
-use Rattle.golog_theory.specs.declared.limits.TheConstants.{DEVICES}
+use Rattle.golog_theory.specs.Codes.{UNKNOWN_FORM, UNKNOWN_NAME, COUNT}
+use Rattle.golog_theory.specs.Limits.{DEVICES}
 use Rattle.golog_theory.specs.Reading.{Reading, gives, refused, row, ◌>>=◌, found, each}
 use Rattle.golog_theory.specs.Names.{device_no}
 use Rattle.golog_theory.specs.Parts.{word, new_name}

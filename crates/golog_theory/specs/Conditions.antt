@@ -9,8 +9,8 @@ use Rattle.golog_tree.specs.declared.draft_cond.DraftCond.TheVariants.{Truth, Is
 use Rattle.golog_theory.specs.declared.conditions.Sides.{Sides}
 use Rattle.golog_theory.specs.declared.conditions.Binder.{Binder}
 use Rattle.golog_theory.specs.declared.conditions.Bound.{Bound}
-use Rattle.golog_theory.specs.declared.fault.TheConstants.{UNKNOWN_FORM, COUNT}
-use Rattle.golog_theory.specs.declared.limits.TheConstants.{VARIABLES}
+use Rattle.golog_theory.specs.Codes.{UNKNOWN_FORM, COUNT}
+use Rattle.golog_theory.specs.Limits.{VARIABLES}
 use Rattle.golog_theory.specs.Reading.{Reading, gives, refused, row, ◌>>=◌, each}
 use Rattle.golog_theory.specs.Names.{same}
 use Rattle.golog_theory.specs.Parts.{word, parts, short_name, sort_of}

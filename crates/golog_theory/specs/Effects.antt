@@ -12,8 +12,8 @@ use Rattle.golog_tree.specs.declared.draft_cond.DraftCond.{DraftCond}
 use Rattle.golog_tree.specs.declared.draft_cond.DraftCond.TheVariants.{Truth}
 use Rattle.golog_theory.specs.declared.names.Actions.TheVariants.{OfProgram, All}
 use Rattle.golog_theory.specs.declared.effects.Effect.{Effect}
-use Rattle.golog_theory.specs.declared.fault.TheConstants.{UNKNOWN_FORM, DUPLICATE, COUNT}
-use Rattle.golog_theory.specs.declared.limits.TheConstants.{BUILT_IN, CAUSES}
+use Rattle.golog_theory.specs.Codes.{UNKNOWN_FORM, DUPLICATE, COUNT}
+use Rattle.golog_theory.specs.Limits.{BUILT_IN, CAUSES}
 use Rattle.golog_theory.specs.Reading.{Reading, gives, refused, row, ◌>>=◌}
 use Rattle.golog_theory.specs.Names.{same, is_constant, action_no}
 use Rattle.golog_theory.specs.Heads.{head_word, fluent_called, action_called, schema_of}

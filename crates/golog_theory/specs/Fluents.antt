@@ -13,8 +13,8 @@ use Rattle.golog_tree.specs.declared.draft_cond.DraftArg.{DraftArg}
 use Rattle.golog_tree.specs.declared.draft_cond.DraftArg.TheVariants.{Word, Number}
 use Rattle.golog_theory.specs.declared.heads.Called.{Called}
 use Rattle.golog_theory.specs.declared.fluents.FluentItem.{FluentItem}
-use Rattle.golog_theory.specs.declared.fault.TheConstants.{UNKNOWN_FORM, DUPLICATE, UNKNOWN_NAME, COUNT}
-use Rattle.golog_theory.specs.declared.limits.TheConstants.{ARGUMENTS}
+use Rattle.golog_theory.specs.Codes.{UNKNOWN_FORM, DUPLICATE, UNKNOWN_NAME, COUNT}
+use Rattle.golog_theory.specs.Limits.{ARGUMENTS}
 use Rattle.golog_theory.specs.Reading.{Reading, gives, refused, row, ◌>>=◌, found, each}
 use Rattle.golog_theory.specs.Names.{same, is_constant, fluent_no, fluent_arity}
 use Rattle.golog_theory.specs.Parts.{word, parts, new_name, sort_of, arg_of}

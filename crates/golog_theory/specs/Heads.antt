@@ -9,7 +9,7 @@ use Rattle.golog_tree.specs.declared.draft_cond.DraftArg.{DraftArg}
 use Rattle.golog_theory.specs.declared.names.Actions.{Actions}
 use Rattle.golog_theory.specs.declared.heads.Called.{Called}
 use Rattle.golog_theory.specs.declared.heads.Schema.{Schema}
-use Rattle.golog_theory.specs.declared.fault.TheConstants.{UNKNOWN_FORM, DUPLICATE, UNKNOWN_NAME, ARITY}
+use Rattle.golog_theory.specs.Codes.{UNKNOWN_FORM, DUPLICATE, UNKNOWN_NAME, ARITY}
 use Rattle.golog_theory.specs.Reading.{Reading, gives, refused, row, ◌>>=◌, found, each}
 use Rattle.golog_theory.specs.Names.{same, is_constant, fluent_no, action_no, fluent_arity, action_arity, allows}
 use Rattle.golog_theory.specs.Parts.{word, parts, short_name, arg_of}

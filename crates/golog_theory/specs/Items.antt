@@ -10,7 +10,7 @@ use Rattle.golog_tree.specs.declared.draft.DraftStart.TheVariants.{Each}
 use Rattle.golog_tree.specs.declared.draft_cond.DraftArg.TheVariants.{Word}
 use Rattle.golog_tree.specs.declared.draft_cond.DraftTerm.TheVariants.{Arg}
 use Rattle.golog_tree.specs.declared.draft_cond.DraftCond.TheVariants.{Truth}
-use Rattle.golog_theory.specs.declared.fault.TheConstants.{UNKNOWN_FORM}
+use Rattle.golog_theory.specs.Codes.{UNKNOWN_FORM}
 use Rattle.golog_theory.specs.Reading.{Reading, gives, refused, row, ◌>>=◌}
 use Rattle.golog_theory.specs.Names.{same}
 use Rattle.golog_theory.specs.Heads.{head_word, arguments}

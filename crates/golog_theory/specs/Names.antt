@@ -10,7 +10,7 @@ use Rattle.golog_tree.specs.declared.draft.DraftDevice.{DraftDevice}
 use Rattle.golog_tree.specs.declared.draft.DraftTheory.{DraftTheory}
 use Rattle.golog_theory.specs.declared.names.Actions.{Actions}
 use Rattle.golog_theory.specs.declared.names.Actions.TheVariants.{OfProgram, All}
-use Rattle.golog_theory.specs.declared.limits.TheConstants.{BUILT_IN}
+use Rattle.golog_theory.specs.Limits.{BUILT_IN}
 
 abbrev pub same : List ℕ → List ℕ → Bool
 same one other = pointwise nat_eq one other

@@ -6,8 +6,8 @@ use Rattle.golog_form.specs.Shape.{place_of, atom_of, items_of}
 use Rattle.golog_tree.specs.declared.draft.DraftTheory.{DraftTheory}
 use Rattle.golog_tree.specs.declared.draft_cond.DraftArg.{DraftArg}
 use Rattle.golog_tree.specs.declared.draft_cond.DraftArg.TheVariants.{Word, Number}
-use Rattle.golog_theory.specs.declared.fault.TheConstants.{UNKNOWN_FORM, DUPLICATE, UNKNOWN_SORT, COUNT, NUMBER_RANGE}
-use Rattle.golog_theory.specs.declared.limits.TheConstants.{NAME_BYTES}
+use Rattle.golog_theory.specs.Codes.{UNKNOWN_FORM, DUPLICATE, UNKNOWN_SORT, COUNT, NUMBER_RANGE}
+use Rattle.golog_theory.specs.Limits.{NAME_BYTES}
 use Rattle.golog_theory.specs.Reading.{Reading, gives, row, ◌>>=◌, found}
 use Rattle.golog_theory.specs.Names.{is_taken, sort_no}
 use Rattle.golog_theory.specs.Numbers.{is_number, value}

@@ -7,8 +7,8 @@ use Rattle.golog_form.specs.Shape.{place_of}
 use Rattle.golog_tree.specs.declared.draft.DraftTheory.{DraftTheory}
 use Rattle.golog_tree.specs.declared.draft.DraftSort.{DraftSort}
 use Rattle.golog_tree.specs.declared.draft.DraftSort.TheVariants.{Range, Listed}
-use Rattle.golog_theory.specs.declared.fault.TheConstants.{UNKNOWN_FORM, DUPLICATE, COUNT, NUMBER_RANGE}
-use Rattle.golog_theory.specs.declared.limits.TheConstants.{SORTS, CONSTANTS}
+use Rattle.golog_theory.specs.Codes.{UNKNOWN_FORM, DUPLICATE, COUNT, NUMBER_RANGE}
+use Rattle.golog_theory.specs.Limits.{SORTS, CONSTANTS}
 use Rattle.golog_theory.specs.Reading.{Reading, gives, refused, row, ◌>>=◌, each}
 use Rattle.golog_theory.specs.Names.{same, is_taken}
 use Rattle.golog_theory.specs.Numbers.{is_number, value}

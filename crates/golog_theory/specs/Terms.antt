@@ -5,7 +5,7 @@ use Rattle.golog_form.specs.Shape.{place_of}
 use Rattle.golog_tree.specs.declared.draft.DraftTheory.{DraftTheory}
 use Rattle.golog_tree.specs.declared.draft_cond.DraftTerm.{DraftTerm}
 use Rattle.golog_tree.specs.declared.draft_cond.DraftTerm.TheVariants.{Arg, Fluent, Shift}
-use Rattle.golog_theory.specs.declared.fault.TheConstants.{UNKNOWN_FORM, NUMBER_RANGE}
+use Rattle.golog_theory.specs.Codes.{UNKNOWN_FORM, NUMBER_RANGE}
 use Rattle.golog_theory.specs.Reading.{Reading, gives, refused, row, ◌>>=◌, found}
 use Rattle.golog_theory.specs.Names.{same}
 use Rattle.golog_theory.specs.Numbers.{is_number, has_sign, value}

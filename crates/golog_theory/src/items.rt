@@ -1,7 +1,7 @@
 ghost use Rattle.std.specs.Prelude.{◌≡◌, OnOk, IfOk};
-ghost use Rattle.golog_semantics.specs.Drafts.{TheoryKeeps, CondKeeps};
-ghost use Rattle.golog_semantics.specs.DraftOrder.{IsAscending, TheoryInOrder};
-ghost use Rattle.golog_semantics.specs.DraftPlaces.{cond_places};
+ghost use Rattle.golog_draft.specs.Drafts.{TheoryKeeps, CondKeeps};
+ghost use Rattle.golog_draft.specs.DraftOrder.{IsAscending, TheoryInOrder};
+ghost use Rattle.golog_draft.specs.DraftPlaces.{cond_places};
 ghost use Rattle.golog_theory.specs.Reading.{Answers, IsFirstRow, Leaves};
 ghost use Rattle.golog_form.specs.Places.{IsInOrder};
 ghost use Rattle.golog_theory.specs.Order.{IsLeastRow};

@@ -26,6 +26,3 @@ pub use fault::TheoryFault;
 pub use index::Index;
 pub use indexed::Indexed;
 pub use items::{condition_of, theory_of, theory_of_items};
-
-#[cfg(test)]
-mod tests;

@@ -1,5 +1,5 @@
 use Rattle.std.proofs.Common.{◌≡◌, [], drop}
-use Rattle.golog_semantics.specs.Reading.{each}
+use Rattle.golog_rows.specs.Reading.{each}
 use Rattle.golog_check.specs.Terms.{next_arg}
 use Rattle.golog_check.proofs.args.args_in.Given as goal
 

@@ -3,7 +3,7 @@ use Rattle.std.proofs.Common.{to_z-of_z}
 use Rattle.std.proofs.lemmas.Grind.{common_steps}
 use Rattle.golog_tree.specs.declared.draft_prog.DraftProg.{DraftProg}
 use Rattle.golog_semantics.specs.BlockFree.{has_block_by}
-use Rattle.golog_check.specs.Least.{CodeAt, IsLeastOf}
+use Rattle.golog_rows.specs.Least.{CodeAt, IsLeastOf}
 use Rattle.golog_check.specs.Unguarded.{refused_where}
 use Rattle.golog_check.specs.DraftBlocks.{blocks_of, block_refusals, numbers_fit}
 use Rattle.golog_check.proofs.Adding.{added-if, added-search, if-rows, search-rows}

@@ -1,6 +1,6 @@
 use Rattle.std.proofs.Common.{◌≡◌, List, ◌++◌, map, take}
 use Rattle.std.specs.List.{list_any}
-use Rattle.golog_check.specs.Least.{CodeAt, IsLeastOf}
+use Rattle.golog_rows.specs.Least.{CodeAt, IsLeastOf}
 use Rattle.golog_check.specs.DraftBlocks.{blocks_of, of_each}
 use Rattle.golog_check.specs.Fronts.{draft_has}
 use Rattle.golog_check.proofs.blocks.+blocks.Given as goal

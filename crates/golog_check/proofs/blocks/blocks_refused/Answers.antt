@@ -3,7 +3,7 @@ use Rattle.std.specs.List.{flat_map}
 use Rattle.std.proofs.lemmas.Grind.{common_steps}
 use Rattle.golog_tree.specs.declared.draft.DraftProc.{DraftProc}
 use Rattle.golog_semantics.specs.BlockFree.{proc_blocks}
-use Rattle.golog_check.specs.Least.{IsLeastOf}
+use Rattle.golog_rows.specs.Least.{IsLeastOf}
 use Rattle.golog_check.specs.Shapes.{shapes}
 use Rattle.golog_check.specs.DraftBlocks.{block_refusals}
 use Rattle.golog_check.proofs.RoundLaws.{blocks-rounds}

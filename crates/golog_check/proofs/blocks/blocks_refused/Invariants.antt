@@ -1,7 +1,7 @@
 use Rattle.std.proofs.Common.{take}
 use Rattle.std.specs.List.{flat_map}
 use Rattle.golog_tree.specs.declared.draft.DraftProc.{DraftProc}
-use Rattle.golog_check.specs.Least.{IsLeastOf}
+use Rattle.golog_rows.specs.Least.{IsLeastOf}
 use Rattle.golog_check.specs.DraftBlocks.{block_refusals}
 use Rattle.golog_check.proofs.blocks.blocks_refused.Given as goal
 

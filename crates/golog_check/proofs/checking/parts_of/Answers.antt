@@ -10,7 +10,8 @@ use Rattle.golog_tree.specs.declared.draft.DraftProc.{DraftProc}
 use Rattle.golog_check.specs.Procs.{proc_in}
 use Rattle.golog_check.specs.Unguarded.{all_front_refusals}
 use Rattle.golog_check.specs.DraftBlocks.{all_block_refusals}
-use Rattle.golog_check.specs.Least.{IsLeastOf, refusals}
+use Rattle.golog_rows.specs.Least.{IsLeastOf}
+use Rattle.golog_check.specs.Least.{refusals}
 use Rattle.golog_check.specs.Checked.{IsChecked}
 use Rattle.golog_check.specs.Sums.{sum_from, fluent_counted, action_counted}
 use Rattle.golog_check.specs.Starts.{start_in}

@@ -1,6 +1,6 @@
 use Rattle.std.proofs.Common.{◌≡◌, List, [], map, drop}
 use Rattle.golog_tree.specs.declared.cond.Cond.{Cond}
-use Rattle.golog_semantics.specs.Reading.{each}
+use Rattle.golog_rows.specs.Reading.{each}
 use Rattle.golog_check.specs.Conditions.{InScope, cond_in}
 use Rattle.golog_check.proofs.conditions.+conditions.Given as goal
 

@@ -1,6 +1,6 @@
 use Rattle.std.proofs.Common.{◌≡◌, List, [], map, drop}
 use Rattle.golog_tree.specs.declared.prog.Prog.{Prog}
-use Rattle.golog_semantics.specs.Reading.{each}
+use Rattle.golog_rows.specs.Reading.{each}
 use Rattle.golog_check.specs.Programs.{InScope, prog_in}
 use Rattle.golog_check.proofs.programs.+programs.Given as goal
 

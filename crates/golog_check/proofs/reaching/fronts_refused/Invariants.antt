@@ -1,6 +1,6 @@
 use Rattle.std.proofs.Common.{take}
 use Rattle.std.specs.List.{flat_map, enumerate_from}
-use Rattle.golog_check.specs.Least.{IsLeastOf}
+use Rattle.golog_rows.specs.Least.{IsLeastOf}
 use Rattle.golog_check.specs.Shapes.{shapes}
 use Rattle.golog_check.specs.Unguarded.{front_refusals}
 use Rattle.golog_check.proofs.reaching.fronts_refused.Given as goal

@@ -2,7 +2,7 @@ use Rattle.std.proofs.Common.{◌≡◌, ℕ, Bool, ◌&&◌, ◌||◌, ◌+◌,
 use Rattle.std.specs.List.{list_any, enumerate_from}
 use Rattle.std.proofs.lemmas.List.{at_drop_all}
 use Rattle.golog_check.specs.Unguarded.{said}
-use Rattle.golog_check.proofs.Each.{drop-item}
+use Rattle.golog_rows.proofs.Each.{drop-item}
 use Rattle.golog_check.proofs.reaching.is_endless.Goals as goal
 
 abbrev ends : ℕ → ℕ × List Bool → Bool

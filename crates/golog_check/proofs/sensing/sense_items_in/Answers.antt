@@ -2,7 +2,7 @@ use Rattle.std.proofs.Common.{◌≡◌, ◌+◌, Bool, [], ◌∷◌, ◌++◌,
 use Rattle.std.proofs.lemmas.List.{take_more}
 use Rattle.golog_tree.specs.declared.draft.DraftSense.{DraftSense}
 use Rattle.golog_tree.specs.declared.agent.SenseItem.{SenseItem}
-use Rattle.golog_semantics.specs.Reading.{Reading}
+use Rattle.golog_rows.specs.Reading.{Reading}
 use Rattle.golog_check.specs.Faults.{Answers}
 use Rattle.golog_check.specs.Checked.{IsChecked}
 use Rattle.golog_check.specs.Effects.{is_sensed, sense_by, senses_in}

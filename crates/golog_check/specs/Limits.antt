@@ -1,0 +1,18 @@
+-- How deep programs nest, and how many ground things there are.
+use Rattle.std.specs.Prelude.{ℕ}
+
+-- the deepest front nest of a procedure
+abbrev pub PROC_NEST : ℕ
+PROC_NEST = 1024
+
+-- the deepest nest of the program of `main`
+abbrev pub MAIN_NEST : ℕ
+MAIN_NEST = 3072
+
+-- the most ground fluents, those built in among them
+abbrev pub GROUND_FLUENTS : ℕ
+GROUND_FLUENTS = 4096
+
+-- the most ground actions, those built in among them
+abbrev pub GROUND_ACTIONS : ℕ
+GROUND_ACTIONS = 65536

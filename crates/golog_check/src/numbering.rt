@@ -1,0 +1,48 @@
+ghost use Rattle.std.specs.Prelude.{◌≡◌, ◌≤◌, All, length, map, IfOk};
+ghost use Rattle.golog_tree.specs.Ground.{IsCountable, action_args, firsts_of as spec_firsts_of, fluent_args, ground_count, numbered as spec_numbered};
+ghost use Rattle.golog_check.specs.Sums.{AreSmall};
+
+use crate::sums::count_in;
+use golog_base::{List, NoMemory};
+use golog_tree::{Agent, Firsts, HasArgs};
+use std::alloc::Global;
+
+/// The number of the first ground thing of each of these items.
+fn firsts_of<T: HasArgs>(alloc: Global, agent: &Agent, items: &[T]) -> Result<List<u32>, NoMemory>
+    requires small { AreSmall agent.now.sorts }
+    requires few { All (λ sorts. length sorts ≤ 3) (map T.arg_sorts items.now) }
+    requires numbered { ground_count agent.now (map T.arg_sorts items.now) ≤ 65536 }
+    ensures { IfOk result (λ firsts. firsts ≡ spec_firsts_of agent.now (map T.arg_sorts items.now)) }
+{
+    let mut firsts = List::new(alloc);
+    let mut count = 0;
+    for item in items {
+        firsts.push(count)?;
+        count += count_in(agent.sorts.as_slice(), item.arg_sorts());
+    }
+    Ok(firsts)
+}
+
+/// The number of the first ground fluent of each fluent, and of the first ground action of each action.
+fn firsts_in(alloc: Global, agent: &Agent) -> Result<Firsts, NoMemory>
+    requires { IsCountable (spec_numbered agent.now) }
+    ensures { IfOk result (λ firsts. firsts ≡ (spec_numbered agent.now).firsts) }
+{
+    let fluents = firsts_of(alloc, agent, agent.fluents.as_slice())?;
+    let actions = firsts_of(alloc, agent, agent.actions.as_slice())?;
+    Ok(Firsts { fluents, actions })
+}
+
+/// The agent, where each fluent and each action has the number of its first ground thing.
+pub fn numbered(alloc: Global, agent: Agent) -> Result<Agent, NoMemory>
+    requires { IsCountable (spec_numbered agent) }
+    ensures { IfOk result (λ whole. whole ≡ spec_numbered agent) }
+{
+    match firsts_in(alloc, &agent) {
+        Ok(firsts) => Ok(Agent { firsts, ..agent }),
+        Err(NoMemory) => {
+            drop(agent);
+            Err(NoMemory)
+        }
+    }
+}
