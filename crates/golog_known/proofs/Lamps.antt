@@ -20,6 +20,8 @@ countable = record {
   actions = omega arith;
   ground_fluents = omega arith;
   ground_actions = omega arith;
+  first_fluents = refl;
+  first_actions = refl;
 }
 
 pub seven : length (ground_fluents lamps) ≡ 7

@@ -1,6 +1,7 @@
 -- An agent for worked examples: two fluents into `bool`, a level from 0 to 3, and a lamp on each level.
 use Rattle.std.specs.Prelude.{pos, List, [], ◌∷◌, codes}
 use Rattle.golog_tree.specs.declared.agent.Agent.{Agent}
+use Rattle.golog_tree.specs.declared.agent.Firsts.{Firsts}
 use Rattle.golog_tree.specs.declared.agent.FluentItem.{FluentItem}
 use Rattle.golog_tree.specs.declared.agent.SortItem.{SortItem}
 use Rattle.golog_tree.specs.declared.agent.SortItem.TheVariants.{Range}
@@ -17,11 +18,15 @@ lamp_fluents =
     record { name = codes "floor"; args = []; sort = 1 } ∷
     record { name = codes "lit"; args = 1 ∷ []; sort = 0 } ∷ []
 
+abbrev pub lamp_firsts : Firsts
+lamp_firsts = record { fluents = 0 ∷ 1 ∷ 2 ∷ 3 ∷ []; actions = [] }
+
 unfoldable pub lamps : Agent
 lamps = record {
   sorts = lamp_sorts;
   fluents = lamp_fluents;
   actions = [];
+  firsts = lamp_firsts;
   devices = [];
   poss = [];
   causes = [];

@@ -2,11 +2,11 @@ ghost use Rattle.std.specs.Prelude.{◌≡◌, ◌<◌, [], ◌∷◌, IfOk, IsT
 ghost use Rattle.golog_base.specs.Names.{IsWord};
 ghost use Rattle.golog_semantics.specs.BuiltIn.{bool_item};
 ghost use Rattle.golog_semantics.specs.Fits.{bound, nothing_bound, cond_fits, term_fits};
-ghost use Rattle.golog_known.specs.Examples.{lamps, lamp_sorts, lamp_fluents};
+ghost use Rattle.golog_known.specs.Examples.{lamps, lamp_sorts, lamp_fluents, lamp_firsts};
 
 use crate::{Env, term, value};
 use golog_base::{Boxed, List, NoMemory, Word};
-use golog_tree::{Agent, Arg, Cond, FluentItem, Prog, SortItem, Term, Truth};
+use golog_tree::{Agent, Arg, Cond, Firsts, FluentItem, Prog, SortItem, Term, Truth};
 use std::alloc::Global;
 
 /// The sort from 0 to 3.
@@ -89,17 +89,35 @@ fn fluents(alloc: Global) -> Result<List<FluentItem>, NoMemory>
     Ok(fluents)
 }
 
+/// The numbers of the first ground fluents of `lamps`.
+fn firsts(alloc: Global) -> Result<Firsts, NoMemory>
+    ensures { IfOk result (λ firsts. firsts ≡ lamp_firsts) }
+{
+    let fluents = List::copy_of(alloc, &[0, 1, 2, 3])?;
+    Ok(Firsts {
+        fluents,
+        actions: List::new(alloc),
+    })
+}
+
 /// An agent of these sorts and fluents alone.
 #[tactic(auto, unfolding(crate::specs::Examples::lamps))]
-fn agent_of(alloc: Global, sorts: List<SortItem>, fluents: List<FluentItem>) -> Agent
+fn agent_of(
+    alloc: Global,
+    sorts: List<SortItem>,
+    fluents: List<FluentItem>,
+    firsts: Firsts,
+) -> Agent
     requires sorts { sorts ≡ lamp_sorts }
     requires fluents { fluents ≡ lamp_fluents }
+    requires firsts { firsts ≡ lamp_firsts }
     ensures { result ≡ lamps }
 {
     Agent {
         sorts,
         fluents,
         actions: List::new(alloc),
+        firsts,
         devices: List::new(alloc),
         poss: List::new(alloc),
         causes: List::new(alloc),
@@ -114,8 +132,8 @@ fn agent_of(alloc: Global, sorts: List<SortItem>, fluents: List<FluentItem>) -> 
 fn lamps(alloc: Global) -> Result<Agent, NoMemory>
     ensures { IfOk result (λ agent. agent ≡ lamps) }
 {
-    match (sorts(alloc), fluents(alloc)) {
-        (Ok(sorts), Ok(fluents)) => Ok(agent_of(alloc, sorts, fluents)),
+    match (sorts(alloc), fluents(alloc), firsts(alloc)) {
+        (Ok(sorts), Ok(fluents), Ok(firsts)) => Ok(agent_of(alloc, sorts, fluents, firsts)),
         _ => Err(NoMemory),
     }
 }

@@ -80,7 +80,7 @@ pub fn value(agent: &Agent, cond: &Cond, env: &Env, values: &[u8]) -> Truth
     }
 }
 
-/// Whether all of the conditions are true.
+/// Whether all of the conditions are true. Behind one that is false, none is looked at.
 #[cycle(value)]
 fn all_of(agent: &Agent, conds: &[Cond], env: &Env, values: &[u8]) -> Truth
     requires countable { IsCountable agent.now }
@@ -91,11 +91,14 @@ fn all_of(agent: &Agent, conds: &[Cond], env: &Env, values: &[u8]) -> Truth
     let mut all = Truth::Yes;
     for cond in conds {
         all = both(all, value(agent, cond, env, values));
+        if all == Truth::No {
+            return all;
+        }
     }
     all
 }
 
-/// Whether one of the conditions is true.
+/// Whether one of the conditions is true. Behind one that is true, none is looked at.
 #[cycle(value)]
 fn any_of(agent: &Agent, conds: &[Cond], env: &Env, values: &[u8]) -> Truth
     requires countable { IsCountable agent.now }
@@ -106,11 +109,14 @@ fn any_of(agent: &Agent, conds: &[Cond], env: &Env, values: &[u8]) -> Truth
     let mut any = Truth::No;
     for cond in conds {
         any = either(any, value(agent, cond, env, values));
+        if any == Truth::Yes {
+            return any;
+        }
     }
     any
 }
 
-/// Whether the condition is true with some constant of the sort for the variable.
+/// Whether the condition is true with some constant of the sort for the variable, up to the first such one.
 #[cycle(value)]
 fn for_some(agent: &Agent, var: u8, sort: u32, body: &Cond, env: &Env, values: &[u8]) -> Truth
     requires countable { IsCountable agent.now }
@@ -118,17 +124,21 @@ fn for_some(agent: &Agent, var: u8, sort: u32, body: &Cond, env: &Env, values: &
     requires whole { length values.now ≡ length (ground_fluents agent.now) }
     ensures { result ≡ truth_of agent.now values.now (Cond.ForSome var sort body.now) env.now }
 {
-    let mut any = Truth::No;
+    let mut some = Truth::No;
     for witness in 0..sort_size(agent, sort) {
-        any = either(
-            any,
+        some = either(
+            some,
             value(agent, body, &env.with(var, witness as u8), values),
         );
+        if some == Truth::Yes {
+            return some;
+        }
     }
-    any
+    some
 }
 
-/// Whether the condition is true with each constant of the sort for the variable.
+/// Whether the condition is true with each constant of the sort for the variable, up to the first with which
+/// it is false.
 #[cycle(value)]
 fn for_all(agent: &Agent, var: u8, sort: u32, body: &Cond, env: &Env, values: &[u8]) -> Truth
     requires countable { IsCountable agent.now }
@@ -142,6 +152,9 @@ fn for_all(agent: &Agent, var: u8, sort: u32, body: &Cond, env: &Env, values: &[
             all,
             value(agent, body, &env.with(var, constant as u8), values),
         );
+        if all == Truth::No {
+            return all;
+        }
     }
     all
 }

@@ -25,7 +25,7 @@ use Rattle.golog_semantics.proofs.ActionNames.{args_at-map}
 use Rattle.golog_semantics.proofs.GroundNumbers.{some-same, stands}
 use Rattle.golog_semantics.proofs.CausesKeep.{Has, has, chosen-some}
 use Rattle.golog_progress.specs.Effects.{HeadFits, IsSpread, ArePlaces, IsAffected}
-use Rattle.golog_progress.proofs.Heads.{within-length}
+use Rattle.golog_semantics.proofs.CausesKeep.{within-length}
 use Rattle.golog_progress.proofs.Placed.{args-of-item, fluent_of}
 use Rattle.golog_progress.proofs.Bound.{matched-split, bind}
 

@@ -12,17 +12,12 @@ use Rattle.golog_semantics.specs.Truth.{env_of, arg_value}
 use Rattle.golog_semantics.specs.WellFormed.{head_sorts}
 use Rattle.golog_semantics.proofs.GroundNumbers.{some-same}
 use Rattle.golog_semantics.proofs.CausesKeep.{chosen-some, chosen-true}
+use Rattle.golog_semantics.proofs.CausesKeep.{within-length}
 use Rattle.golog_known.specs.Fits.{CondFitsAt, TermFitsAt}
 use Rattle.golog_known.proofs.Arguments.{conditions_fit, terms_fit}
 use Rattle.golog_progress.specs.Effects.{is_next, HeadFits}
 
 module _ (agent : Agent) where
-  pub within-length : (ss xs : List ℕ) → AreWithin (sizes agent ss) xs → length ss ≡ length xs
-  within-length [] [] w = refl
-  within-length [] (x ∷ xs) w = elim w [ ]
-  within-length (s ∷ ss) [] w = elim w [ ]
-  within-length (s ∷ ss) (x ∷ xs) w = ap suc (within-length ss xs w.1)
-
   within-push : (ss xs : List ℕ) (s x : ℕ) → AreWithin (sizes agent ss) xs → x < sort_size agent s → AreWithin (sizes agent (ss ++ s ∷ [])) (xs ++ x ∷ [])
   within-push [] [] s x w h = (h, tt)
   within-push [] (y ∷ xs) s x w h = elim w [ ]
@@ -58,7 +53,7 @@ module _ (agent : Agent) where
     }
     fixed sort sorts (Var x) args found k h =
         let bound = h.bound in
-        let old : (x == length bound) ≡ false = ap (λ n. x == n) (within-length bound found h.within) ∙ k in
+        let old : (x == length bound) ≡ false = ap (λ n. x == n) (within-length agent bound found h.within) ∙ k in
         let test = option_map_or (λ own. own == sort) (slice_get bound x) false in
         let head : (if test then head_sorts agent sorts args bound else None) ≡ Some h.all =
         sym (ap (λ (b : Bool). if b then head_sorts agent sorts args (bound ++ sort ∷ []) else (if test then head_sorts agent sorts args bound else None)) old) ∙ h.head in
@@ -81,7 +76,7 @@ module _ (agent : Agent) where
     next sort sorts (Const d) args found c k below h = absurd (cc)
     next sort sorts (Var x) args found c k below h =
         let bound = h.bound in
-        let new : (x == length bound) ≡ true = ap (λ n. x == n) (within-length bound found h.within) ∙ k in
+        let new : (x == length bound) ≡ true = ap (λ n. x == n) (within-length agent bound found h.within) ∙ k in
         let test = option_map_or (λ own. own == sort) (slice_get bound x) false in
         record {
           sort = h.sort;

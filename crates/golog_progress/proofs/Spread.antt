@@ -2,7 +2,7 @@
 use Rattle.std.proofs.Common.{◌≡◌, ℕ, suc, ◌+◌, ◌-◌, ◌*◌, ◌/◌, ◌%◌, ◌<◌, ◌≤◌, ◌⊎◌, inl, inr, Bool, true, false, ◌==◌, if◌then◌else◌, Option, Some, None, List, [], ◌∷◌, ◌++◌, length, refl, sym, ap, ◌∙◌, subst, arith, add-zero, slice_set, get_or-set_same, get_or-set_other}
 use Rattle.std.specs.Prelude.{slice_index}
 use Rattle.std.proofs.Math.Arith.{digits_lt, digits_div}
-use Rattle.std.proofs.Math.Nat.{mod-lt, mod-eq_of_lt, mul_assoc, add_assoc, add_comm, add-mul-div_right, mul-add-mod_self_right, div-lt_iff_lt-mul, mul_comm, suc-mul}
+use Rattle.std.proofs.Math.Nat.{mod-lt, mod-eq_of_lt, add_assoc, div-lt_iff_lt-mul, mul_comm, suc-mul}
 use Rattle.std.proofs.lemmas.Bool.{cases_lt, eqb-true, eqb-false}
 use Rattle.golog_tree.specs.declared.agent.Agent.{Agent}
 use Rattle.golog_tree.specs.declared.agent.CauseItem.{CauseItem}
@@ -11,21 +11,8 @@ use Rattle.golog_tree.specs.declared.cond.Arg.TheVariants.{Const, Var}
 use Rattle.golog_tree.specs.Ground.{args_of, product}
 use Rattle.golog_semantics.specs.Truth.{Values, arg_value}
 use Rattle.golog_semantics.specs.Values.{matched, caused}
-use Rattle.golog_semantics.proofs.GroundNumbers.{factors}
+use Rattle.golog_semantics.proofs.NumbersStand.{args-shift}
 use Rattle.golog_progress.specs.Effects.{is_next, IsSpread, IsRanged}
-
--- the arguments at a place don't depend on whole products before it
-args-shift : (ns : List ℕ) (q p : ℕ) → 0 < product ns → args_of ns (q * product ns + p) ≡ args_of ns p
-args-shift [] q p h = refl
-args-shift (n ∷ ns) q p h =
-    let both : (0 < n) × (0 < product ns) = factors n (product ns) h in
-    let regroup : q * (n * product ns) + p ≡ q * n * product ns + p = ap (λ x. x + p) (sym (mul_assoc q n (product ns))) in
-    let quotient : (q * n * product ns + p) / product ns ≡ q * n + p / product ns =
-    ap (λ x. x / product ns) (add_comm (q * n * product ns) p) ∙ add-mul-div_right p (q * n) both.1 ∙ add_comm (p / product ns) (q * n) in
-    let first : (q * (n * product ns) + p) / product ns % n ≡ p / product ns % n =
-    ap (λ x. x / product ns % n) regroup ∙ ap (λ x. x % n) quotient ∙ mul-add-mod_self_right q n (p / product ns) in
-    let rest : args_of ns (q * (n * product ns) + p) ≡ args_of ns p = ap (args_of ns) regroup ∙ args-shift ns (q * n) p both.1 in
-    (λ i. first i ∷ rest i)
 
 -- the arguments at a place of a part
 args-at : (n : ℕ) (ns : List ℕ) (a q : ℕ) → a < n → q < product ns → args_of (n ∷ ns) (a * product ns + q) ≡ a ∷ args_of ns q

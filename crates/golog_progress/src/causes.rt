@@ -235,8 +235,8 @@ fn rule(
     requires room { length next.old ≡ length (ground_fluents agent.now) }
     ensures { AreRuled agent.now values.now causes.now (action, args.now) next.old next.new }
 {
-    if let Some((cause, later)) = causes.split_first() {
-        rule(agent, later, action, args, values, next);
+    for index in (0..causes.len()).rev() {
+        let cause = &causes[index];
         if cause.action == action {
             affect(agent, cause, args, values, next);
         }

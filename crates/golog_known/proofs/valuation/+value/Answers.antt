@@ -1,12 +1,14 @@
-use Rattle.std.proofs.Common.{ℕ, ◌<◌, length, subst, sym, rules, arith}
+use Rattle.std.proofs.Common.{◌≡◌, ℕ, ◌+◌, ◌<◌, length, map, take, subst, sym, ◌∙◌, rules, arith}
+use Rattle.std.specs.List.{range_with_len}
 use Rattle.std.specs.Prelude.{slice_set}
 use Rattle.golog_tree.specs.declared.cond.Cond.{Cond}
+use Rattle.golog_tree.specs.declared.cond.Truth.TheVariants.{Yes, No}
 use Rattle.golog_tree.proofs.cond.Cond.TheLaws.{the_size}
 use Rattle.golog_tree.specs.Ground.{sort_size}
-use Rattle.golog_semantics.specs.Truth.{truth_of}
+use Rattle.golog_semantics.specs.Truth.{and_of, or_of, truth_of}
 use Rattle.golog_known.specs.Fits.{CondFitsAt}
 use Rattle.golog_known.proofs.Evaluated.{parts-And, parts-Or, body-ForSome, body-ForAll}
-use Rattle.golog_known.proofs.Folds.{item_smaller, all-And, all-Or, and_of-take, or_of-take, and_of-range, or_of-range}
+use Rattle.golog_known.proofs.Folds.{item_smaller, all-And, all-Or, and_of-take, or_of-take, and_of-range, or_of-range, some-And, some-Or, some-ForAll, some-ForSome}
 use Rattle.golog_known.proofs.valuation.+value.Goals as goal
 
 pub all_of-loop-cond-preserved : goal.all_of-loop-cond-preserved
@@ -28,6 +30,36 @@ pub for_some-loop-witness-preserved : goal.for_some-loop-witness-preserved
 for_some-loop-witness-preserved t c =
     let e = or_of-range (λ (k : ℕ). truth_of c.args.agent.now c.args.values.now c.args.body.now (slice_set c.args.env.now c.args.var k)) c.loop-witness.witness in
     cc
+
+pub all_of-returns-then-eq : goal.all_of-returns-then-eq
+all_of-returns-then-eq t c =
+    let settled : c.both-all.result ≡ No = search rules in
+    let e = and_of-take (λ (d : Cond). truth_of c.args.agent.now c.args.values.now d c.args.env.now) c.args.conds.now c.loop-cond.cond-index c.cond-item.result (omega arith) in
+    let none : and_of (map (λ (d : Cond). truth_of c.args.agent.now c.args.values.now d c.args.env.now) (take (c.loop-cond.cond-index + 1) c.args.conds.now)) ≡ No = cc in
+    settled ∙ some-And c.args.agent.now c.args.values.now c.args.conds.now c.args.env.now (c.loop-cond.cond-index + 1) none
+
+pub any_of-returns-then-eq : goal.any_of-returns-then-eq
+any_of-returns-then-eq t c =
+    let settled : c.either-any.result ≡ Yes = search rules in
+    let e = or_of-take (λ (d : Cond). truth_of c.args.agent.now c.args.values.now d c.args.env.now) c.args.conds.now c.loop-cond.cond-index c.cond-item.result (omega arith) in
+    let some : or_of (map (λ (d : Cond). truth_of c.args.agent.now c.args.values.now d c.args.env.now) (take (c.loop-cond.cond-index + 1) c.args.conds.now)) ≡ Yes = cc in
+    settled ∙ some-Or c.args.agent.now c.args.values.now c.args.conds.now c.args.env.now (c.loop-cond.cond-index + 1) some
+
+pub for_all-returns-then-eq : goal.for_all-returns-then-eq
+for_all-returns-then-eq t c =
+    let settled : c.both-all.result ≡ No = search rules in
+    let k = c.loop-constant.constant in
+    let e = and_of-range (λ (d : ℕ). truth_of c.args.agent.now c.args.values.now c.args.body.now (slice_set c.args.env.now c.args.var d)) k in
+    let none : and_of (map (λ (d : ℕ). truth_of c.args.agent.now c.args.values.now c.args.body.now (slice_set c.args.env.now c.args.var d)) (range_with_len 0 (k + 1))) ≡ No = cc in
+    settled ∙ some-ForAll c.args.agent.now c.args.values.now c.args.var c.args.sort c.args.body.now c.args.env.now (k + 1) (omega arith) none
+
+pub for_some-returns-then-eq : goal.for_some-returns-then-eq
+for_some-returns-then-eq t c =
+    let settled : c.either-some.result ≡ Yes = search rules in
+    let k = c.loop-witness.witness in
+    let e = or_of-range (λ (d : ℕ). truth_of c.args.agent.now c.args.values.now c.args.body.now (slice_set c.args.env.now c.args.var d)) k in
+    let some : or_of (map (λ (d : ℕ). truth_of c.args.agent.now c.args.values.now c.args.body.now (slice_set c.args.env.now c.args.var d)) (range_with_len 0 (k + 1))) ≡ Yes = cc in
+    settled ∙ some-ForSome c.args.agent.now c.args.values.now c.args.var c.args.sort c.args.body.now c.args.env.now (k + 1) (omega arith) some
 
 pub all_of-returns : goal.all_of-returns
 all_of-returns t c =

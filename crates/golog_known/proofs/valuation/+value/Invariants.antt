@@ -14,7 +14,7 @@ invariant-any_of-loop-cond l =
 
 abbrev pub invariant-for_some-loop-witness : goal.invariant-for_some-loop-witness
 invariant-for_some-loop-witness l =
-    l.any ≡ or_of (map (λ c. truth_of l.agent l.values l.body (slice_set l.env l.var c)) (range_with_len 0 l.witness))
+    l.some ≡ or_of (map (λ c. truth_of l.agent l.values l.body (slice_set l.env l.var c)) (range_with_len 0 l.witness))
 
 abbrev pub invariant-for_all-loop-constant : goal.invariant-for_all-loop-constant
 invariant-for_all-loop-constant l =

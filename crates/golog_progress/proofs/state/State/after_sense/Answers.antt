@@ -1,6 +1,6 @@
 use Rattle.std.proofs.Common.{subst, sym}
 use Rattle.golog_semantics.specs.SortLaws.{AreInSorts}
-use Rattle.golog_progress.proofs.Ruled.{set-sorts}
+use Rattle.golog_semantics.proofs.SortsStay.{set-sorts}
 use Rattle.golog_progress.proofs.state.State.after_sense.Goals as goal
 
 pub returns-clause-sorts : goal.returns-clause-sorts
