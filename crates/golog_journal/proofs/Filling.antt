@@ -8,6 +8,7 @@ use Rattle.std.proofs.lemmas.List.{length-map}
 use Rattle.golog_tree.specs.declared.agent.Agent.{Agent}
 use Rattle.golog_tree.specs.Ground.{AreWithin, sizes, args_at, fluent_args, IsCountable}
 use Rattle.golog_tree.proofs.Decoded.{args_at-get_or}
+use Rattle.golog_semantics.proofs.CausesKeep.{within-length}
 
 or-false : (b : Bool) → (b || false) ≡ b
 or-false true = refl
@@ -39,12 +40,6 @@ fill-more array xs i x room inside is so_far =
     let next : i + 1 ≡ suc i = omega arith in
     ap (λ n. take n (set array i x)) next ∙ take-suc-set array i x room ∙ ap (λ front. front ++ x ∷ []) so_far
     ∙ ap (λ y. take i xs ++ y ∷ []) is ∙ sym (take-suc xs i 0 inside) ∙ ap (λ n. take n xs) (sym next)
-
-within-length : (agent : Agent) (sorts xs : List ℕ) → AreWithin (sizes agent sorts) xs → length sorts ≡ length xs
-within-length agent [] [] w = refl
-within-length agent [] (x ∷ xs) w = absurd w
-within-length agent (s ∷ sorts) [] w = absurd w
-within-length agent (s ∷ sorts) (x ∷ xs) w = let l = within-length agent sorts xs w.1 in omega (arith, l)
 
 -- a fluent has three arguments at most
 pub args-few : (agent : Agent) (fluent : ℕ) (xs : List ℕ) → IsCountable agent → fluent < length agent.fluents

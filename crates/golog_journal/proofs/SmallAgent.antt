@@ -22,23 +22,24 @@ use Rattle.golog_journal.specs.declared.board.Posted.{Posted}
 use Rattle.golog_journal.specs.declared.board.Commit.{Commit}
 use Rattle.golog_journal.specs.declared.board.Commit.TheVariants.{Taken, Moved}
 use Rattle.golog_journal.specs.Agents.{ServesDevices}
-use Rattle.golog_journal.specs.Examples.{one_sort, one_fluent, two_actions, one_sense}
+use Rattle.golog_journal.specs.Examples.{one_sort, one_fluent, two_actions, three_firsts, one_sense}
 use Rattle.golog_journal.specs.Posting.{IsItsTime, MayPost, PostIs}
 use Rattle.golog_journal.specs.Commits.{MayCommit, CommitIs}
 use Rattle.golog_journal.specs.Growing.{Sight, Called}
 use Rattle.golog_journal.proofs.Beginning.{posted-by}
 
 pub small-serves : (agent : Agent) (name : List ℕ) → agent.sorts ≡ one_sort name → agent.fluents ≡ one_fluent name → agent.actions ≡ two_actions name
-    → agent.devices ≡ name ∷ name ∷ [] → agent.senses ≡ one_sense → ServesDevices agent
-small-serves agent name s f a d n =
+    → agent.firsts ≡ three_firsts → agent.devices ≡ name ∷ name ∷ [] → agent.senses ≡ one_sense → ServesDevices agent
+small-serves agent name s f a i d n =
     subst (λ l. ServesDevices (record agent { sorts = l })) (sym s)
     (subst (λ l. ServesDevices (record agent { sorts = one_sort name; fluents = l })) (sym f)
     (subst (λ l. ServesDevices (record agent { sorts = one_sort name; fluents = one_fluent name; actions = l })) (sym a)
-    (subst (λ l. ServesDevices (record agent { sorts = one_sort name; fluents = one_fluent name; actions = two_actions name; devices = l })) (sym d)
-    (subst (λ l. ServesDevices (record agent { sorts = one_sort name; fluents = one_fluent name; actions = two_actions name; devices = name ∷ name ∷ []; senses = l })) (sym n)
-    whole))))
+    (subst (λ l. ServesDevices (record agent { sorts = one_sort name; fluents = one_fluent name; actions = two_actions name; firsts = l })) (sym i)
+    (subst (λ l. ServesDevices (record agent { sorts = one_sort name; fluents = one_fluent name; actions = two_actions name; firsts = three_firsts; devices = l })) (sym d)
+    (subst (λ l. ServesDevices (record agent { sorts = one_sort name; fluents = one_fluent name; actions = two_actions name; firsts = three_firsts; devices = name ∷ name ∷ []; senses = l })) (sym n)
+    whole)))))
   where
-    whole : ServesDevices (record agent { sorts = one_sort name; fluents = one_fluent name; actions = two_actions name; devices = name ∷ name ∷ []; senses = one_sense })
+    whole : ServesDevices (record agent { sorts = one_sort name; fluents = one_fluent name; actions = two_actions name; firsts = three_firsts; devices = name ∷ name ∷ []; senses = one_sense })
     whole = record {
       countable = record {
         sorts = All-cons (λ item. item_size item ≤ 255) (Listed name (name ∷ name ∷ [])) [] (omega arith) (All-nil (λ item. item_size item ≤ 255));
@@ -49,6 +50,8 @@ small-serves agent name s f a d n =
         actions = omega arith;
         ground_fluents = omega arith;
         ground_actions = omega arith;
+        first_fluents = refl;
+        first_actions = refl;
       };
       few = omega arith;
       actions = refl;

@@ -4,6 +4,7 @@ use Rattle.golog_tree.specs.declared.agent.SortItem.{SortItem}
 use Rattle.golog_tree.specs.declared.agent.SortItem.TheVariants.{Listed}
 use Rattle.golog_tree.specs.declared.agent.FluentItem.{FluentItem}
 use Rattle.golog_tree.specs.declared.agent.ActionItem.{ActionItem}
+use Rattle.golog_tree.specs.declared.agent.Firsts.{Firsts}
 use Rattle.golog_tree.specs.declared.agent.SenseItem.{SenseItem}
 
 -- two constants
@@ -18,6 +19,10 @@ abbrev pub two_actions : List ℕ → List ActionItem
 two_actions name =
     record { name = name; args = []; device = None; posters = 0 ∷ [] }
     ∷ record { name = name; args = []; device = Some 1; posters = [] } ∷ []
+
+-- the number of the first ground thing of the fluent, and of each action
+abbrev pub three_firsts : Firsts
+three_firsts = record { fluents = 0 ∷ []; actions = 0 ∷ 1 ∷ [] }
 
 -- the second senses the fluent
 abbrev pub one_sense : List SenseItem

@@ -4,12 +4,12 @@ use Rattle.std.specs.List.{list_any}
 use Rattle.std.specs.Option.{option_map_or}
 use Rattle.golog_tree.specs.declared.agent.Agent.{Agent}
 use Rattle.golog_semantics.specs.declared.journal.Entry.{Entry}
-use Rattle.golog_semantics.specs.Journal.{Journal, poster_of}
+use Rattle.golog_semantics.specs.Journal.{Journal, poster_of, device_limit, longest}
 use Rattle.golog_journal.specs.Boards.{IsBoardList}
 
--- the party of the program, after those of 16 devices
+-- the party of the program, after those of the devices
 abbrev pub program : ℕ
-program = 16
+program = device_limit
 
 -- whose an entry is: its device's, or else the program's
 abbrev pub party_of : Entry → ℕ
@@ -29,8 +29,7 @@ pub record AreOthers (sight : Sight) (others : Journal) : Type 0 where
   pub none : sight.alone ≡ true → others ≡ []
 
 -- A call of a board. Others may have added entries before it; at the list then there it is answered, and
--- what it adds stands at the end. The list then keeps the rules, and has no more entries than the counted
--- ones, one end, and a Close of each of 16 devices.
+-- what it adds stands at the end. The list then keeps the rules, and is no longer than a journal may be.
 pub record Called (answers : Journal → Journal → Type 0) (old new : Sight) : Type 0 where
   pub agent : new.agent ≡ old.agent
   pub alone : new.alone ≡ old.alone
@@ -41,4 +40,4 @@ pub record Called (answers : Journal → Journal → Type 0) (old new : Sight) :
   pub grows : new.seen ≡ (old.seen ++ others) ++ added
   pub answered : answers (old.seen ++ others) added
   pub lawful : IsBoardList new.agent new.seen
-  pub short : length new.seen ≤ 65553
+  pub short : length new.seen ≤ longest

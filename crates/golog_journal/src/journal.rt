@@ -1,7 +1,7 @@
 //! The journal of one owner.
 ghost use Rattle.std.specs.Prelude.{◌≡◌, ◌<◌, ◌≤◌, [], ◌∷◌, ◌++◌, length, min, take, drop, ◌-◌, Some, None, IfOk, IfSome, MatchOption, if◌then◌else◌, option_map, slice_get};
 ghost use Rattle.std.specs.Option.{option_map_or};
-ghost use Rattle.golog_semantics.specs.Journal.{poster_of, device_of, commands, is_open as is_open_in, is_full as is_full_in, is_quiet as is_quiet_in};
+ghost use Rattle.golog_semantics.specs.Journal.{poster_of, device_of, commands, is_open as is_open_in, is_full as is_full_in, is_quiet as is_quiet_in, longest};
 ghost use Rattle.golog_journal.specs.Quiet.{asked_of as asked_of_device};
 ghost use Rattle.golog_semantics.specs.Posts.{awaited as awaited_in, is_bad as is_bad_in, later_reason as later_reason_in, closing as closing_in, entry_of as entry_in};
 ghost use Rattle.golog_semantics.specs.declared.journal.Entry.TheVariants.{Do, Close};
@@ -75,7 +75,7 @@ impl Journal {
     /// The number of entries.
     pub fn len(&self) -> u32
         ensures number { result ≡ length self.now.entries }
-        ensures most { length self.now.entries ≤ 65553 }
+        ensures most { length self.now.entries ≤ longest }
     {
         self.ledger.len()
     }
@@ -128,7 +128,7 @@ impl Journal {
         requires step { IsStep self.old.agent entry }
         requires lawful { IsBoardList self.old.agent (self.old.entries ++ entry ∷ []) }
         ensures more { self.new ≡ record { agent = self.old.agent; entries = self.old.entries ++ entry ∷ [] } }
-        ensures short { length self.new.entries ≤ 65553 }
+        ensures short { length self.new.entries ≤ longest }
     {
         self.ledger.push(entry);
     }
@@ -137,7 +137,7 @@ impl Journal {
     fn push_do(&mut self, action: u32)
         requires { IsBoardList self.old.agent (self.old.entries ++ Do action ∷ []) }
         ensures more { self.new ≡ record { agent = self.old.agent; entries = self.old.entries ++ Do action ∷ [] } }
-        ensures short { length self.new.entries ≤ 65553 }
+        ensures short { length self.new.entries ≤ longest }
     {
         match self.facts.device_of(action) {
             Some(device) => self.push_command(device, action),
@@ -150,7 +150,7 @@ impl Journal {
         requires device { device_of self.old.agent action ≡ Some device }
         requires lawful { IsBoardList self.old.agent (self.old.entries ++ Do action ∷ []) }
         ensures more { self.new ≡ record { agent = self.old.agent; entries = self.old.entries ++ Do action ∷ [] } }
-        ensures short { length self.new.entries ≤ 65553 }
+        ensures short { length self.new.entries ≤ longest }
     {
         let place = self.ledger.len();
         self.tallies[device as usize].add(Kept { place, action });
@@ -162,7 +162,7 @@ impl Journal {
         requires program { poster_of entry ≡ None }
         requires lawful { IsBoardList self.old.agent (self.old.entries ++ entry ∷ []) }
         ensures more { self.new ≡ record { agent = self.old.agent; entries = self.old.entries ++ entry ∷ [] } }
-        ensures short { length self.new.entries ≤ 65553 }
+        ensures short { length self.new.entries ≤ longest }
     {
         match entry {
             Entry::Do { action } => self.push_do(action),
@@ -175,7 +175,7 @@ impl Journal {
         requires poster { poster_of entry ≡ Some poster }
         requires lawful { IsBoardList self.old.agent (self.old.entries ++ entry ∷ []) }
         ensures more { self.new ≡ record { agent = self.old.agent; entries = self.old.entries ++ entry ∷ [] } }
-        ensures short { length self.new.entries ≤ 65553 }
+        ensures short { length self.new.entries ≤ longest }
     {
         self.tallies[poster as usize].note(entry);
         self.ledger.push(entry);
@@ -240,7 +240,7 @@ impl Journal {
     fn keeps_rules(&self)
         ensures serves { ServesDevices self.now.agent }
         ensures lawful { IsBoardList self.now.agent self.now.entries }
-        ensures short { length self.now.entries ≤ 65553 }
+        ensures short { length self.now.entries ≤ longest }
     {
         let _entries = &self.ledger;
     }

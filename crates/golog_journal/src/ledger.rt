@@ -1,7 +1,7 @@
 //! The entries of a journal, in room that was reserved for them.
 ghost use Rattle.std.specs.Prelude.{◌≡◌, ◌≤◌, ◌<◌, ◌||◌, ℕ, [], ◌∷◌, ◌++◌, length, drop, true, false, IfOk, slice_index_or};
 ghost use Rattle.std.specs.List.{list_any};
-ghost use Rattle.golog_semantics.specs.Journal.{is_result_of, is_counted as counts, is_end as ends, count as count_of, has_end as has_ended};
+ghost use Rattle.golog_semantics.specs.Journal.{is_result_of, is_counted as counts, is_end as ends, count as count_of, has_end as has_ended, longest};
 
 use crate::LONGEST;
 use golog_base::{List, NoMemory};
@@ -24,7 +24,7 @@ impl Model for Ledger {
     ghost use Rattle.std.specs.Prelude.{List, ℕ, ◌≡◌, ◌≤◌, ◌<◌, false, length, vec_capacity, slice_index_or};
     ghost use Rattle.std.specs.List.{list_any};
     ghost use Rattle.golog_semantics.specs.declared.journal.Entry.{Entry};
-    ghost use Rattle.golog_semantics.specs.Journal.{is_result_of, count, has_end};
+    ghost use Rattle.golog_semantics.specs.Journal.{is_result_of, count, has_end, longest};
     ghost use Rattle.golog_journal.specs.Ledgers.{AreAnswered};
 
     ghost Value = { List Entry };
@@ -32,12 +32,12 @@ impl Model for Ledger {
     ghost view = { λ ledger. ledger.entries.items };
 
     ghost invariant = { λ ledger.
-        (65553 ≤ vec_capacity ledger.entries)
-        × (65553 ≤ vec_capacity ledger.answered)
+        (longest ≤ vec_capacity ledger.entries)
+        × (longest ≤ vec_capacity ledger.answered)
         × AreAnswered ledger.entries.items ledger.answered.items
         × (ledger.counted ≡ count ledger.entries.items)
         × (ledger.ended ≡ has_end ledger.entries.items)
-        × (length ledger.entries.items ≤ 65553) };
+        × (length ledger.entries.items ≤ longest) };
 }
 
 /// Whether the entry counts.
@@ -97,7 +97,7 @@ impl Ledger {
     /// The number of entries.
     pub(crate) fn len(&self) -> u32
         ensures number { result ≡ length self.now }
-        ensures most { length self.now ≤ 65553 }
+        ensures most { length self.now ≤ longest }
     {
         self.entries.len() as u32
     }
@@ -141,7 +141,7 @@ impl Ledger {
 
     /// Adds an entry. A result is of an earlier entry.
     pub(crate) fn push(&mut self, entry: Entry)
-        requires room { length self.old < 65553 }
+        requires room { length self.old < longest }
         requires earlier { (place : ℕ) → is_result_of place entry ≡ true → place < length self.old }
         ensures { self.new ≡ self.old ++ entry ∷ [] }
     {

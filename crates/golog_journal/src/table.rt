@@ -6,7 +6,7 @@ ghost use Rattle.golog_tree.specs.Ground.{IsCountable, AreWithin, sizes, product
 ghost use Rattle.golog_tree.specs.Numbered.{args as args_of_ground, IsGround};
 ghost use Rattle.golog_semantics.specs.Truth.{env_of, arg_value};
 ghost use Rattle.golog_semantics.specs.Values.{fluent_sort};
-ghost use Rattle.golog_semantics.specs.Journal.{sensed_by as fluent_sensed_by};
+ghost use Rattle.golog_semantics.specs.Journal.{sensed_by as fluent_sensed_by, device_limit};
 ghost use Rattle.golog_journal.specs.Agents.{ServesDevices};
 ghost use Rattle.golog_journal.specs.Facts.{IsFactOf, AreAllFacts};
 
@@ -88,7 +88,7 @@ fn item_at(items: &[ActionItem], number: u32) -> &ActionItem
 
 /// The device of an action.
 fn device_in(item: &ActionItem) -> Option<u8>
-    requires { IfSome item.now.device (λ device. device < 16) }
+    requires { IfSome item.now.device (λ device. device < device_limit) }
     ensures { result ≡ item.now.device }
 {
     match item.device {
@@ -99,8 +99,8 @@ fn device_in(item: &ActionItem) -> Option<u8>
 
 /// Whether each device may post an action.
 fn posters_in(item: &ActionItem) -> [bool; DEVICES]
-    requires { All (λ poster. poster < 16) item.now.posters }
-    ensures { (device : ℕ) → device < 16 → slice_index_or result device false ≡ list_any (λ poster. poster == device) item.now.posters }
+    requires { All (λ poster. poster < device_limit) item.now.posters }
+    ensures { (device : ℕ) → device < device_limit → slice_index_or result device false ≡ list_any (λ poster. poster == device) item.now.posters }
 {
     let mut posters = [false; DEVICES];
     for poster in item.posters.as_slice() {

@@ -1,6 +1,6 @@
 ghost use Rattle.std.specs.Prelude.{◌≡◌, ◌≤◌, ◌<◌, [], ◌∷◌, ◌++◌, length, not, ◌&&◌, Some, None, vec_capacity, IfOk, All, true, false, ◌==◌};
 ghost use Rattle.std.specs.Option.{option_map_or};
-ghost use Rattle.golog_semantics.specs.Journal.{is_close as closes};
+ghost use Rattle.golog_semantics.specs.Journal.{is_close as closes, limit};
 
 use crate::LIMIT;
 use golog_base::NoMemory;
@@ -22,7 +22,7 @@ pub(crate) struct DeviceTally {
     /// How many commands it had taken at its last entry, where that is a Rest.
     pub(crate) rested: Option<u32>,
     pub(crate) is_open: bool,
-    ghost reserved: { 65536 ≤ vec_capacity commands },
+    ghost reserved: { limit ≤ vec_capacity commands },
 }
 
 impl DeviceTally {
@@ -44,7 +44,7 @@ impl DeviceTally {
 
     /// One more command.
     pub(crate) fn add(&mut self, command: Kept)
-        requires { length self.old.commands.items < 65536 }
+        requires { length self.old.commands.items < limit }
         ensures commands { self.new.commands.items ≡ self.old.commands.items ++ command ∷ [] }
         ensures rested { self.new.rested ≡ self.old.rested }
         ensures is_open { self.new.is_open ≡ self.old.is_open }

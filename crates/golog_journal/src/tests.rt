@@ -2,11 +2,11 @@
 ghost use Rattle.std.specs.Prelude.{◌≡◌, ◌≢◌, ◌<◌, ◌≤◌, ◌+◌, [], ◌∷◌, false, length, IfOk, Some, None};
 ghost use Rattle.golog_semantics.specs.Journal.{has_end};
 ghost use Rattle.golog_journal.specs.Agents.{ServesDevices};
-ghost use Rattle.golog_journal.specs.Examples.{one_sort, one_fluent, two_actions, one_sense};
+ghost use Rattle.golog_journal.specs.Examples.{one_sort, one_fluent, two_actions, three_firsts, one_sense};
 
 use crate::{Answer, Board, Commit, Entry, Item, Journal, Posted, Reason};
 use golog_base::{List, NoMemory, Word};
-use golog_tree::{ActionItem, Agent, FluentItem, Prog, SenseItem, SortItem};
+use golog_tree::{ActionItem, Agent, Firsts, FluentItem, Prog, SenseItem, SortItem};
 use std::alloc::Global;
 
 const PANEL: u8 = 0;
@@ -55,6 +55,14 @@ fn actions_of(alloc: Global, name: Word) -> Result<List<ActionItem>, NoMemory>
     Ok(actions)
 }
 
+fn firsts_of(alloc: Global) -> Result<Firsts, NoMemory>
+    ensures { IfOk result (λ firsts. firsts ≡ three_firsts) }
+{
+    let fluents = List::copy_of(alloc, &[0])?;
+    let actions = List::copy_of(alloc, &[0, 1])?;
+    Ok(Firsts { fluents, actions })
+}
+
 fn senses_of(alloc: Global) -> Result<List<SenseItem>, NoMemory>
     ensures { IfOk result (λ senses. senses ≡ one_sense) }
 {
@@ -78,11 +86,13 @@ fn small_agent(alloc: Global, name: Word) -> Result<Agent, NoMemory>
     let fluents = fluents_of(alloc, name)?;
     let actions = actions_of(alloc, name)?;
     let devices = List::copy_of(alloc, &[name, name])?;
+    let firsts = firsts_of(alloc)?;
     let senses = senses_of(alloc)?;
     Ok(Agent {
         sorts,
         fluents,
         actions,
+        firsts,
         devices,
         poss: List::new(alloc),
         causes: List::new(alloc),
