@@ -1,10 +1,7 @@
 -- What a step leaves of a program without search blocks has none.
-use Rattle.std.proofs.Common.{◌≡◌, ℕ, ◌+◌, Bool, true, false, if◌then◌else◌, List, [], ◌∷◌, Option, Some, None, refl, sym, ◌∙◌, subst}
-use Rattle.std.specs.Prelude.{not, ◌||◌, slice_get}
+use Rattle.std.proofs.Common.{◌≡◌, Bool, true, false, if◌then◌else◌, refl, sym, ◌∙◌, subst}
+use Rattle.std.specs.Prelude.{◌||◌, slice_get}
 use Rattle.golog_tree.specs.declared.agent.Agent.{Agent}
-use Rattle.golog_tree.specs.declared.agent.ProcItem.{ProcItem}
-use Rattle.golog_tree.specs.declared.cond.Arg.{Arg}
-use Rattle.golog_tree.specs.declared.cond.Arg.TheVariants.{Const, Var}
 use Rattle.golog_tree.specs.declared.prog.Prog.{Prog}
 use Rattle.golog_tree.specs.declared.prog.Prog.TheOpen.{Nil, Act, Test, Seq, Choice, Pick, Star, If, While, Conc, Prio, Cstar, Call, Search, Follow}
 use Rattle.golog_tree.specs.declared.prog.Prog.TheVariants as prog
@@ -14,53 +11,21 @@ use Rattle.golog_tree.specs.declared.prog.Way.{Way}
 use Rattle.golog_tree.specs.Tidy.{Layer, tidy_pair, tidy_right, tidy_seq}
 use Rattle.golog_semantics.specs.declared.Mode.{Mode}
 use Rattle.golog_semantics.specs.Truth.{Values}
-use Rattle.golog_semantics.specs.Program.{put_arg, put_args, body_with}
 use Rattle.golog_semantics.specs.Blocks.{block_moves, moves}
 use Rattle.golog_semantics.specs.Guarded.{front}
-use Rattle.golog_semantics.specs.BlockFree.{block_at, has_block, has_block_step, proc_blocks}
-use Rattle.golog_semantics.proofs.BlockRounds.{block_in_body}
+use Rattle.golog_semantics.specs.BlockFree.{has_block, has_block_step, proc_blocks}
 use Rattle.golog_semantics.proofs.ByParts as parts
-use Rattle.golog_semantics.proofs.FrontParts.{Claim}
+use Rattle.golog_semantics.proofs.NoBlocks.{blockless, body_block, put_block}
 use Rattle.golog_semantics.proofs.PlainLaws.{is_nil, left_by_nil, right_by_nil}
-use Rattle.golog_semantics.proofs.PutByParts.{IgnoresPut, fold-put}
 use Rattle.golog_semantics.proofs.StepsKeep.{InParts, Keeps, OfLefts, moves_keep}
 use Rattle.golog_semantics.proofs.Tests.{neither_first, neither_second}
 
 pub neither : (a b : Bool) → a ≡ false → b ≡ false → (a || b) ≡ false
 neither a b e h = subst (λ c. (c || b) ≡ false) (sym e) h
 
-pub not_so : (b : Bool) → not b ≡ true → b ≡ false
-not_so true e = sym e
-not_so false e = refl
-
 module _ (agent : Agent) where
   abbrev pub P : Prog → Type 0
   P p = has_block agent p ≡ false
-
-  -- no block stands in the program, so none is met
-  abbrev pub blockless : Claim
-  blockless = record { of_prog = P; of_block = λ depth fuel p rest. ⊥ }
-
-  ignores : IgnoresPut Bool Bool (has_block_step (proc_blocks agent)) (λ w. false)
-  ignores = record {
-    act_same = λ action args put. refl;
-    test_same = λ c put. refl;
-    if_same = λ c put a b. refl;
-    while_same = λ c put a. refl;
-    call_same = λ item args put. refl;
-  }
-
-  put_block : (p : Prog) (x c : ℕ) → has_block agent (put_arg p x c) ≡ has_block agent p
-  put_block p x c = fold-put Bool Bool (has_block_step (proc_blocks agent)) (λ w. false) ignores p (Some (x, c))
-
-  puts_block : (args : List Arg) (p : Prog) (x : ℕ) → has_block agent (put_args p x args) ≡ has_block agent p
-  puts_block [] p x = refl
-  puts_block (Const c ∷ args) p x = puts_block args (put_arg p x c) (x + 1) ∙ put_block p x c
-  puts_block (Var y ∷ args) p x = puts_block args p (x + 1)
-
-  body_block : (item : ℕ) (args : List Arg) (o : Option ProcItem) → slice_get agent.procs item ≡ o → block_at (proc_blocks agent) item ≡ false → P (body_with o args)
-  body_block item args None e h = parts.fold-nil Bool Bool (has_block_step (proc_blocks agent)) (λ w. false)
-  body_block item args (Some proc) e h = puts_block args proc.body 0 ∙ sym (block_in_body agent item proc e) ∙ h
 
   if_block : (b : Bool) (p q : Prog) → P p → P q → P (if b then p else q)
   if_block true p q h k = h
@@ -82,27 +47,27 @@ module _ (agent : Agent) where
   both_parts : (p q : Prog) → (has_block agent p || has_block agent q) ≡ false → P p × P q
   both_parts p q h = (neither_first (has_block agent p) (has_block agent q) h, neither_second (has_block agent p) (has_block agent q) h)
 
-  in_parts : (l : Layer) → has_block_step (proc_blocks agent) (map-Prog Prog Way Bool Bool (has_block agent) (fold-Way Bool Bool (has_block_step (proc_blocks agent)) (λ w. false)) l) ≡ false → InParts agent blockless l
+  in_parts : (l : Layer) → has_block_step (proc_blocks agent) (map-Prog Prog Way Bool Bool (has_block agent) (fold-Way Bool Bool (has_block_step (proc_blocks agent)) (λ w. false)) l) ≡ false → InParts agent (blockless agent) l
   in_parts Nil h = tt
   in_parts (Act action args) h = tt
   in_parts (Test c) h = tt
   in_parts (Seq p q) h = both_parts p q h
   in_parts (Choice p q) h = both_parts p q h
-  in_parts (Pick x sort p) h = λ c l. put_block p x c ∙ h
+  in_parts (Pick x sort p) h = λ c l. put_block agent p x c ∙ h
   in_parts (Star p) h = (h, parts.fold-star Bool Bool (has_block_step (proc_blocks agent)) (λ w. false) p ∙ h)
   in_parts (If c p q) h = both_parts p q h
   in_parts (While c p) h = (h, parts.fold-while Bool Bool (has_block_step (proc_blocks agent)) (λ w. false) c p ∙ h)
   in_parts (Conc p q) h = both_parts p q h
   in_parts (Prio p q) h = both_parts p q h
   in_parts (Cstar p) h = (h, parts.fold-cstar Bool Bool (has_block_step (proc_blocks agent)) (λ w. false) p ∙ h)
-  in_parts (Call item args) h = body_block item args (slice_get agent.procs item) refl h
+  in_parts (Call item args) h = body_block agent item args (slice_get agent.procs item) refl h
   in_parts (Search depth fuel p) h = absurd (cc)
   in_parts (Follow depth fuel p rest) h = absurd (cc)
 
-  pub blockless_parts : (p : Prog) → P p → InParts agent blockless (out-Prog p)
+  pub blockless_parts : (p : Prog) → P p → InParts agent (blockless agent) (out-Prog p)
   blockless_parts p h = in_parts (out-Prog p) (sym (fold_out-Prog Bool Bool (has_block_step (proc_blocks agent)) (λ w. false) p) ∙ h)
 
-  keeps : Keeps agent blockless
+  keeps : Keeps agent (blockless agent)
   keeps = record {
     of_nil = parts.fold-nil Bool Bool (has_block_step (proc_blocks agent)) (λ w. false);
     of_seq = seq_block;
@@ -111,6 +76,6 @@ module _ (agent : Agent) where
     parts = blockless_parts;
   }
 
-  pub lefts_blockless : (values : Values) (m : Mode) (p : Prog) → P p → OfLefts agent blockless (moves agent values m p)
+  pub lefts_blockless : (values : Values) (m : Mode) (p : Prog) → P p → OfLefts agent (blockless agent) (moves agent values m p)
   unfolding moves
-  lefts_blockless values m p h = moves_keep agent blockless keeps values (block_moves agent values) (λ k depth fuel q rest x. absurd x) (front agent p).height m p h
+  lefts_blockless values m p h = moves_keep agent (blockless agent) keeps values (block_moves agent values) (λ k depth fuel q rest x. absurd x) (front agent p).height m p h

@@ -14,12 +14,11 @@ use Rattle.golog_semantics.specs.Search.{final, plain_ways}
 use Rattle.golog_semantics.specs.Moves.{plain_moves}
 use Rattle.golog_semantics.specs.Blocks.{moves}
 use Rattle.golog_semantics.specs.BlockFree.{has_block}
-use Rattle.golog_semantics.proofs.NoBlocks.{blockless_steps}
+use Rattle.golog_semantics.proofs.NoBlocks.{blockless_steps, not_so}
 use Rattle.golog_ways.specs.First.{head_of, first_way, has_way}
 use Rattle.golog_search.specs.declared.decision.Blocked.TheVariants.{Unknown, Depth, Stuck}
 use Rattle.golog_search.specs.declared.decision.Decision.TheVariants.{Final, Blocked as Blocking}
 use Rattle.golog_search.specs.Decided.{decision, blocked, along, stepping}
-use Rattle.golog_search.proofs.Blockless.{not_so}
 use Rattle.golog_search.proofs.Runless.{Runless, steps_runless}
 
 module _ (agent : Agent) (values : Values) (p : Prog) where

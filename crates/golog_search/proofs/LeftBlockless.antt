@@ -15,8 +15,9 @@ use Rattle.golog_semantics.specs.Journal.{Journal}
 use Rattle.golog_semantics.specs.Progress.{after_entry, left_after, left_at, left_by, left_from}
 use Rattle.golog_semantics.proofs.BlocksFit.{each-contains}
 use Rattle.golog_semantics.proofs.StepsKeep.{OfLefts}
+use Rattle.golog_semantics.proofs.NoBlocks.{blockless, not_so}
 use Rattle.golog_search.specs.Laws.{IsBlocklessStep}
-use Rattle.golog_search.proofs.Blockless.{P, blockless, lefts_blockless, not_so}
+use Rattle.golog_search.proofs.Blockless.{P, lefts_blockless}
 use Rattle.golog_search.proofs.Runless.{BeginsNone, steps_runless}
 
 module _ (agent : Agent) where

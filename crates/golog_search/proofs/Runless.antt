@@ -20,7 +20,8 @@ use Rattle.golog_semantics.specs.Guarded.{front}
 use Rattle.golog_semantics.proofs.ByParts.{OfEach}
 use Rattle.golog_semantics.proofs.StepsFit.{each-append, each-flat}
 use Rattle.golog_semantics.proofs.StepsKeep.{InParts}
-use Rattle.golog_search.proofs.Blockless.{P, blockless, blockless_parts}
+use Rattle.golog_semantics.proofs.NoBlocks.{blockless}
+use Rattle.golog_search.proofs.Blockless.{P, blockless_parts}
 
 abbrev pub BeginsNone : Move → Type 0
 BeginsNone move = move.run ≡ None

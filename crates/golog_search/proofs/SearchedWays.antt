@@ -19,14 +19,14 @@ use Rattle.golog_semantics.specs.WellFormed.{WellFormed}
 use Rattle.golog_semantics.proofs.BlocksFit.{moves-fit}
 use Rattle.golog_semantics.proofs.ByParts.{OfEach}
 use Rattle.golog_semantics.proofs.LeftFits.{procs_fit}
-use Rattle.golog_semantics.proofs.NoBlocks.{blockless_steps}
+use Rattle.golog_semantics.proofs.NoBlocks.{blockless_steps, blockless, not_so}
 use Rattle.golog_semantics.proofs.StepsFit.{AllFit}
 use Rattle.golog_semantics.proofs.StepsKeep.{OfLefts}
 use Rattle.golog_semantics.proofs.Tests.{and_both}
 use Rattle.golog_ways.specs.FrontBlock.{has_front_block}
 use Rattle.golog_ways.proofs.FrontBlocks.{block-held}
 use Rattle.golog_search.specs.Levels.{IsSearched}
-use Rattle.golog_search.proofs.Blockless.{blockless, lefts_blockless, not_so}
+use Rattle.golog_search.proofs.Blockless.{lefts_blockless}
 
 -- no block stands at the front of a program without blocks
 pub free-of : (agent : Agent) (p : Prog) (values : Values) → IsSearched agent p values → has_front_block agent p ≡ false
