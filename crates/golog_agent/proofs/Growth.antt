@@ -27,6 +27,7 @@ use Rattle.golog_semantics.specs.Reports.{fits_entry, is_device, is_exogenous, i
 use Rattle.golog_semantics.specs.SortLaws.{AreInSorts}
 use Rattle.golog_semantics.specs.Blocks.{moves}
 use Rattle.golog_semantics.proofs.Grown.{entries_grow, progress_grows, report_grows}
+use Rattle.golog_semantics.proofs.NoFaults.{so_far-no-fault}
 use Rattle.golog_semantics.proofs.OnlineSorts.{online_stays}
 use Rattle.golog_progress.specs.Entries.{EntryFits, EntriesFit}
 use Rattle.golog_journal.specs.Boards.{IsBoardList}
@@ -146,8 +147,8 @@ first-rules : (agent : Agent) → IsBoardList agent []
 first-rules agent = record { lawful = refl; room = omega arith }
 
 first-online : (agent : Agent) → IsOnlineSoFar agent (with_runs [] [])
-unfolding IsOnlineSoFar first_fault
-first-online agent = refl
+unfolding first_fault
+first-online agent = so_far-no-fault agent (with_runs [] []) refl
 
 pub kept-first : (agent : Agent) (list : Journal) (values : List ℕ) (left : Prog) → WellFormed agent → not (has_block agent agent.main) ≡ true
     → list ≡ [] → values ≡ values_after agent [] → left ≡ agent.main → KeepsUp agent list values left None None

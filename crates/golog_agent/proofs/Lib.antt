@@ -1,7 +1,3 @@
-pub mod Unblocked
-pub mod Answers
-pub mod Excluded
-mod Asked
 mod Kept
 mod Awaiting
 mod Growth

@@ -45,7 +45,7 @@ module _ (agent : Agent) where
   none-open journal from zero shut = refl
   none-open journal from (suc n) shut = or_from _ _ (shut from (omega arith)) (none-open journal (from + 1) n (λ d l. shut d (omega (arith, l))))
 
-  pub whole_is : (journal : Journal) → IsOverAll journal (length agent.devices) → is_whole agent None journal ≡ true
+  pub whole_is : (journal : Journal) → IsOverAll journal (length agent.devices) → is_whole agent journal ≡ true
   whole_is journal over =
       and_from (has_end journal) (not (list_any (λ d. is_open d journal) (devices agent))) over.ended
       (ap not (none-open journal 0 (length agent.devices) (λ d l. over.shut d (omega (arith, l)))))
@@ -66,7 +66,7 @@ module _ (agent : Agent) where
       go (inl less) parts others = others parts.1 less
       go (inr most) parts others = subst (λ x. is_open x journal ≡ false) (let same : from ≡ d = omega (arith, low, most) in same) parts.0
 
-  pub over_is : (journal : Journal) → is_whole agent None journal ≡ true → IsOverAll journal (length agent.devices)
+  pub over_is : (journal : Journal) → is_whole agent journal ≡ true → IsOverAll journal (length agent.devices)
   over_is journal h =
       let parts = and_parts (has_end journal) (not (list_any (λ d. is_open d journal) (devices agent))) h in
       record {

@@ -42,16 +42,16 @@ all-range p from (suc n) holds = and_from _ _ (holds from (omega arith)) (all-ra
 
 module _ (agent : Agent) where
   -- while a device is open a run is not over
-  pub open-goes : (journal : Journal) (device : ℕ) → device < length agent.devices → is_open device journal ≡ true → is_whole agent None journal ≡ false
+  pub open-goes : (journal : Journal) (device : ℕ) → device < length agent.devices → is_open device journal ≡ true → is_whole agent journal ≡ false
   open-goes journal device below opened =
-      false_from_ne_true (is_whole agent None journal) (λ whole. let k = sym opened ∙ (over_is agent journal whole).shut device below in absurd (cc))
+      false_from_ne_true (is_whole agent journal) (λ whole. let k = sym opened ∙ (over_is agent journal whole).shut device below in absurd (cc))
 
   -- where none is, it is over exactly where the program has ended
   pub shut-whole : (journal : Journal) → ((device : ℕ) → device < length agent.devices → is_open device journal ≡ false)
-      → has_end journal ≡ is_whole agent None journal
+      → has_end journal ≡ is_whole agent journal
   shut-whole journal shut = by (has_end journal) refl
     where
-      by : (b : Bool) → has_end journal ≡ b → has_end journal ≡ is_whole agent None journal
+      by : (b : Bool) → has_end journal ≡ b → has_end journal ≡ is_whole agent journal
       by true ended = ended ∙ sym (whole_is agent journal (record { ended = ended; shut = shut }))
       by false goes = goes ∙ sym (and_left (has_end journal) (not (list_any (λ d. is_open d journal) (devices agent))) goes)
 
@@ -219,7 +219,7 @@ module _ (agent : Agent) where
 
   -- where all devices are closed or rest, and the program does nothing, the run is over
   goes-none : (journal : Journal) → ((device : ℕ) → device < length agent.devices → is_open device journal ≡ true → RestsAt agent journal device)
-      → (has_end journal ≡ true) ⊎ (waits agent journal ≡ true) → is_whole agent None journal ≡ true
+      → (has_end journal ≡ true) ⊎ (waits agent journal ≡ true) → is_whole agent journal ≡ true
   goes-none journal rest (inl ended) =
       whole_is agent journal (record {
         ended = ended;
@@ -237,7 +237,7 @@ module _ (agent : Agent) where
 
   -- a round is made of the devices' turns and the program's
   pub round-made : (old mid new : Moment) → new.taken ≡ mid.taken → new.standings ≡ mid.standings → IsBoardList agent mid.journal
-      → is_whole agent None old.journal ≡ false → TurnsMade agent (length agent.devices) old mid → ProgramMade mid.journal new.journal
+      → is_whole agent old.journal ≡ false → TurnsMade agent (length agent.devices) old mid → ProgramMade mid.journal new.journal
       → (new.journal ≡ lead agent mid.journal) ⊎ (new.journal ≡ mid.journal ++ End Memory ∷ []) → RoundMade agent old new
   round-made old mid new same_taken same_standings list goes_on made turn leads = record {
     since = made.since ++ turn.since;

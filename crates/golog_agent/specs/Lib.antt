@@ -1,8 +1,5 @@
-pub mod Built
 pub mod Run
 pub mod UnderWay
-pub mod Faults
-pub mod Spelled
 pub mod Laws
 pub mod Waiting
 pub mod Turns

@@ -5,7 +5,7 @@ use Rattle.golog_semantics.specs.declared.journal.Entry.{Entry}
 use Rattle.golog_semantics.specs.declared.journal.Entry.TheVariants.{End}
 use Rattle.golog_semantics.specs.declared.journal.Answer.{Answer}
 use Rattle.golog_semantics.specs.declared.journal.Answer.TheVariants.{Memory}
-use Rattle.golog_semantics.specs.Journal.{Journal, has_end}
+use Rattle.golog_semantics.specs.Journal.{Journal, has_end, longest}
 use Rattle.golog_semantics.specs.Answer.{answer_after}
 use Rattle.golog_journal.specs.Growing.{Sight, AreOthers, program}
 use Rattle.golog_journal.specs.Leading.{IsBehind}
@@ -81,7 +81,7 @@ TurnIs old new (Ended answer) = HasEnded answer old new
 pub record IsOvertaken (old new : Sight) : Type 0 where
   pub follows : Follows old new []
   pub longer : length old.seen < length new.seen
-  pub short : length new.seen ≤ 65553
+  pub short : length new.seen ≤ longest
 
 -- the entry was committed right behind what was seen
 pub record IsCommitted (e : Entry) (old new : Sight) : Type 0 where

@@ -1,6 +1,6 @@
 //! A run without threads.
 ghost use Rattle.std.specs.Prelude.{◌≡◌, ◌≤◌, ◌<◌, None, true, false, length, slice_get};
-ghost use Rattle.golog_semantics.specs.Journal.{is_open};
+ghost use Rattle.golog_semantics.specs.Journal.{is_open, longest};
 ghost use Rattle.golog_semantics.specs.Online.{is_whole};
 ghost use Rattle.golog_semantics.specs.WellFormed.{WellFormed};
 ghost use Rattle.golog_journal.specs.Boards.{IsBoardList};
@@ -57,7 +57,7 @@ pub fn run_inline<D: Device, B: Board>(
 fn is_over(runner: &Runner<'_>, agent: &Agent) -> bool
     requires well_formed { WellFormed agent.now }
     requires agent { runner.now.agent ≡ agent.now }
-    ensures { result ≡ is_whole agent.now None runner.now.list }
+    ensures { result ≡ is_whole agent.now runner.now.list }
 {
     for device in 0..agent.devices.len() {
         if runner.is_open(device as u8) {
@@ -83,12 +83,12 @@ fn round<D: Device, B: Board>(
     requires whole { runner.old.list ≡ (B.sight board.old).seen }
     requires boxes { length agent.now.devices ≤ length devices.old }
     requires on { MayGoOn agent.now (B.sight board.old).seen taken.old }
-    requires over { is_whole agent.now None (B.sight board.old).seen ≡ false }
+    requires over { is_whole agent.now (B.sight board.old).seen ≡ false }
     ensures same { runner.new.agent ≡ agent.now }
     ensures same_board { SameBoard (B.sight board.old) (B.sight board.new) }
     ensures lawful { IsBoardList agent.now (B.sight board.new).seen }
     ensures whole { runner.new.list ≡ (B.sight board.new).seen }
-    ensures short { length runner.new.list ≤ 65553 }
+    ensures short { length runner.new.list ≤ longest }
     ensures made { RoundMade agent.now
         (moment (B.sight board.old).seen taken.old (standings D.fresh D.meaning devices.old))
         (moment (B.sight board.new).seen taken.new (standings D.fresh D.meaning devices.new)) }

@@ -2,7 +2,7 @@
 ghost use Rattle.std.specs.Prelude.{◌≡◌, ◌≢◌, ◌<◌, ◌≤◌, ◌⊎◌, ℕ, IfOk, IfSome, IsTrue, true, false, not, None, Some, [], ◌∷◌, ◌++◌, length, unwrap_or};
 ghost use Rattle.std.specs.List.{list_any};
 ghost use Rattle.golog_semantics.specs.BlockFree.{has_block};
-ghost use Rattle.golog_semantics.specs.Journal.{has_end, is_open, count, limit, is_counted, is_full, is_settled};
+ghost use Rattle.golog_semantics.specs.Journal.{has_end, is_open, count, limit, is_counted, is_full, is_settled, longest};
 ghost use Rattle.golog_semantics.specs.Answer.{is_unanswered};
 ghost use Rattle.golog_semantics.specs.OneMore.{with_runs};
 ghost use Rattle.golog_semantics.specs.Online.{IsOnlineSoFar, fault_at};
@@ -162,7 +162,7 @@ impl<'a> Runner<'a> {
     // What is so of the entries.
     pub(crate) fn keeps_rules(&self)
         ensures under_way { IsUnderWay self.now.agent self.now.list }
-        ensures short { length self.now.list ≤ 65553 }
+        ensures short { length self.now.list ≤ longest }
     {
         let _length = self.journal.len();
     }
@@ -170,7 +170,7 @@ impl<'a> Runner<'a> {
     // The number of entries.
     fn len(&self) -> u32
         ensures number { result ≡ length self.now.list }
-        ensures most { length self.now.list ≤ 65553 }
+        ensures most { length self.now.list ≤ longest }
     {
         self.journal.len()
     }

@@ -10,8 +10,8 @@ use Rattle.golog_semantics.specs.declared.journal.Answer.TheVariants.{Done, Stuc
 use Rattle.golog_semantics.specs.Execution.{status_of as answer_status}
 use Rattle.golog_device.specs.Slots.{Standing}
 use Rattle.golog_script.specs.declared.scripts.Script.{Script}
-use Rattle.golog_agent.specs.Spelled.{SpellsAgent, IsFirstRefusal}
-use Rattle.golog_agent.proofs.Excluded.{excluded, one-agent}
+use Rattle.golog_file.specs.Spelled.{SpellsAgent, IsFirstRefusal}
+use Rattle.golog_file.proofs.Excluded.{excluded, one-agent}
 use Rattle.golog_main.specs.declared.outcome.Input.TheVariants.{Agent as AgentFile, Devices as DevicesFile}
 use Rattle.golog_main.specs.declared.outcome.Outcome.{Outcome}
 use Rattle.golog_main.specs.declared.outcome.Outcome.TheVariants.{WordsRefused, ReadFault, Refused, Ran}

@@ -22,7 +22,7 @@ use Rattle.golog_semantics.specs.InlineText.{begun_runs, inline_text, placed, ru
 use Rattle.golog_semantics.specs.Dealt.{Script}
 use Rattle.golog_semantics.specs.Text.{Text, at_each, line_text, report_text, with_line_feed}
 use Rattle.golog_semantics.specs.Execution.{Ends}
-use Rattle.golog_search.proofs.Blockless.{not_so}
+use Rattle.golog_semantics.proofs.NoBlocks.{not_so}
 use Rattle.golog_search.proofs.LeftBlockless.{left_blockless}
 use Rattle.golog_search.proofs.Runless.{Runless, steps_runless}
 use Rattle.golog_main.specs.Runs.{IsInline, IsCutShort}

@@ -8,7 +8,7 @@ use Rattle.golog_device.specs.Slots.{Standing}
 use Rattle.golog_script.specs.declared.scripts.Script.{Script}
 use Rattle.golog_script.specs.Reading.{first}
 use Rattle.golog_script.specs.DevicesFile.{scripts_of}
-use Rattle.golog_agent.specs.Spelled.{SpellsAgent, IsFirstRefusal, of_bytes}
+use Rattle.golog_file.specs.Spelled.{SpellsAgent, IsFirstRefusal, of_bytes}
 use Rattle.golog_main.specs.declared.outcome.Input.{Input}
 use Rattle.golog_main.specs.declared.outcome.Input.TheVariants.{Agent as AgentFile, Devices as DevicesFile}
 use Rattle.golog_main.specs.declared.outcome.Outcome.{Outcome}

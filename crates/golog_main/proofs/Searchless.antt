@@ -16,7 +16,6 @@ use Rattle.golog_semantics.specs.declared.journal.Entry.{Entry}
 use Rattle.golog_semantics.specs.declared.journal.Entry.TheVariants.{End}
 use Rattle.golog_semantics.specs.declared.journal.PlacedRun.{PlacedRun}
 use Rattle.golog_semantics.specs.declared.journal.Report.{Report}
-use Rattle.golog_semantics.specs.declared.journal.Why.{Why}
 use Rattle.golog_semantics.specs.Truth.{Values}
 use Rattle.golog_semantics.specs.Program.{put_arg, body_of}
 use Rattle.golog_semantics.specs.Ways.{is_empty}
@@ -28,19 +27,19 @@ use Rattle.golog_semantics.specs.Heavy.{Reached, blocks_step, blocks_to, front_b
 use Rattle.golog_semantics.specs.Journal.{Journal, is_full, is_quiet, is_settled}
 use Rattle.golog_semantics.specs.Progress.{values_after, left_after}
 use Rattle.golog_semantics.specs.Answer.{answer_at, first_that_fits, is_deep, is_unanswered}
-use Rattle.golog_semantics.specs.Online.{Fault, IsOnline, fault_among, fault_at, fault_of, first_fault, first_some, keeps_answer, may_end, rules_at, same_answer, too_short}
+use Rattle.golog_semantics.specs.Online.{Fault, IsOnline, fault_at, first_fault, first_some, keeps_answer, may_end, same_answer}
 use Rattle.golog_semantics.specs.Text.{Text, at_each}
 use Rattle.golog_semantics.specs.Execution.{IsOnlineRun, status_of}
 use Rattle.golog_semantics.proofs.Among.{Among, among-contains}
-use Rattle.golog_semantics.proofs.ByParts.{OfEach}
-use Rattle.golog_semantics.proofs.NoBlocks.{blockless_steps}
+use Rattle.golog_semantics.proofs.NoBlocks.{blockless_steps, blockless, not_so}
+use Rattle.golog_semantics.proofs.NoFaults.{faults_tell, no-fault-so_far}
 use Rattle.golog_semantics.proofs.StepsInModes.{plain_steps-ordered}
 use Rattle.golog_semantics.proofs.StepsKeep.{InParts}
 use Rattle.golog_semantics.proofs.Tests.{and_cases}
-use Rattle.golog_search.proofs.Blockless.{P, blockless, blockless_parts, not_so}
+use Rattle.golog_search.proofs.Blockless.{P, blockless_parts}
 use Rattle.golog_search.proofs.LeftBlockless.{left_blockless}
-use Rattle.golog_agent.proofs.Unblocked.{built}
-use Rattle.golog_agent.specs.Spelled.{SpellsAgent}
+use Rattle.golog_file.proofs.Unblocked.{built}
+use Rattle.golog_file.specs.Spelled.{SpellsAgent}
 
 -- ---- no block is at the front
 
@@ -147,29 +146,14 @@ module _ (agent : Agent) where
 
 -- ---- an end that stands in an execution was allowed at its place
 
-first-rule : (n : ℕ) (w : Why) (b : Bool) (rules : List (Why × Bool)) → fault_among n ((w, b) ∷ rules) ≡ None
-    → (b ≡ true) × (fault_among n rules ≡ None)
-first-rule n w true rules h = (refl, h)
-first-rule n w false rules h = absurd (cc)
-
 first-none : {A : Type 0} (o : Option A) (os : List (Option A)) → option_or o (first_some os) ≡ None → (o ≡ None) × (first_some os ≡ None)
 first-none None os h = (refl, h)
 first-none (Some x) os h = absurd (cc)
 
-either-none : {A : Type 0} (o q : Option A) → option_or o q ≡ None → o ≡ None
-either-none None q h = refl
-either-none (Some x) q h = absurd (cc)
-
-rules-kept : (place : ℕ) (rules : List (Why × Bool)) → fault_among place rules ≡ None → OfEach (λ (r : Why × Bool). r.1 ≡ true) rules
-rules-kept place [] h = tt
-rules-kept place ((w, true) ∷ rules) h = (refl, rules-kept place rules h)
-rules-kept place ((w, false) ∷ rules) h = absurd (cc)
-
 module _ (agent : Agent) (runs : List PlacedRun) where
   answer-kept : (before : Journal) (e : Entry) → fault_at agent None runs before e ≡ None
       → keeps_answer agent before (values_after agent before) (left_after agent before) e ≡ true
-  answer-kept before e h =
-      (rules-kept (length before) (rules_at agent before runs None (values_after agent before) (left_after agent before) e) h).1.1.1.1.1.1.0
+  answer-kept before e h = ((faults_tell agent None runs before e).kept h).answer
 
   abbrev faults : Journal → Journal → List (Option Fault)
   faults before entries = at_each (fault_at agent None runs) before entries
@@ -187,8 +171,8 @@ module _ (agent : Agent) (runs : List PlacedRun) where
       kept-somewhere a (before ++ e ∷ []) entries here.1 c
 
 no-fault : (agent : Agent) (report : Report) → IsOnline agent report → first_some (faults agent report.runs [] report.entries) ≡ None
-unfolding IsOnline fault_of first_fault
-no-fault agent report h = either-none (first_some (faults agent report.runs [] report.entries)) (too_short agent None report.entries) h
+unfolding first_fault
+no-fault agent report h = no-fault-so_far agent report (record { entries = h.entries })
 
 -- ---- the status
 

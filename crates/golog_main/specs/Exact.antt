@@ -7,7 +7,7 @@ use Rattle.golog_base.specs.declared.mem_files.HeldFile.{HeldFile}
 use Rattle.golog_tree.specs.declared.agent.Agent.{Agent}
 use Rattle.golog_semantics.specs.Text.{Text}
 use Rattle.golog_script.specs.declared.scripts.Script.{Script}
-use Rattle.golog_agent.specs.Spelled.{SpellsAgent, IsFirstRefusal}
+use Rattle.golog_file.specs.Spelled.{SpellsAgent, IsFirstRefusal}
 use Rattle.golog_main.specs.declared.outcome.Input.TheVariants.{Agent as AgentFile, Devices as DevicesFile}
 use Rattle.golog_main.specs.Words.{Names}
 use Rattle.golog_main.specs.Inputs.{SpellsScripts, RefusesScripts, ReadsAgent, Tells, IsUnread, fault_text, scripts_for}

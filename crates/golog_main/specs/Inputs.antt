@@ -1,8 +1,8 @@
 -- What the files of a run hold: an agent, and the scripts of its devices.
-use Rattle.std.specs.Prelude.{◌≡◌, ◌⊎◌, ℕ, ◌<◌, ◌≤◌, ◌^◌, List, [], ◌∷◌, ◌++◌, Option, None, Some, Ok, Err, length, map, find, codes, decimal}
+use Rattle.std.specs.Prelude.{◌≡◌, ◌⊎◌, ℕ, ◌<◌, ◌≤◌, List, [], ◌∷◌, ◌++◌, Option, None, Some, Ok, Err, length, map, find, codes, decimal}
 use Rattle.std.specs.Option.{option_map_or}
 use Rattle.golog_base.specs.Faults.{Rose}
-use Rattle.golog_base.specs.Files.{HasNone, FileHas}
+use Rattle.golog_base.specs.Files.{HasNone, FileHas, file_limit}
 use Rattle.golog_base.specs.declared.mem_files.HeldFile.{HeldFile}
 use Rattle.golog_tree.specs.declared.agent.Agent.{Agent}
 use Rattle.golog_semantics.specs.Text.{Text}
@@ -12,7 +12,7 @@ use Rattle.golog_script.specs.declared.scripts.Script.{Script as Named}
 use Rattle.golog_script.specs.Reading.{first}
 use Rattle.golog_script.specs.DevicesFile.{scripts_of}
 use Rattle.golog_script.specs.ScriptTexts.{script_of_named}
-use Rattle.golog_agent.specs.Spelled.{SpellsAgent}
+use Rattle.golog_file.specs.Spelled.{SpellsAgent}
 use Rattle.golog_main.specs.declared.outcome.Input.{Input}
 use Rattle.golog_main.specs.declared.outcome.Input.TheVariants.{Agent as AgentFile, Devices as DevicesFile}
 
@@ -33,14 +33,14 @@ scripts_for agent listed = map (script_under listed) agent.devices
 
 -- the bytes of a devices file are within the limit and spell these scripts
 pub record SpellsScripts (agent : Agent) (bytes : Text) (listed : List Named) : Type 0 where
-  pub small : length bytes ≤ 2 ^ 20
+  pub small : length bytes ≤ file_limit
   pub spelled : (scripts_of agent.devices bytes).outcome ≡ Ok listed
 
 -- the first refusal of the bytes of a devices file: they are above the limit, or the first row fits of
 -- those that refuse scripts
 pub data RefusesScripts (agent : Agent) (bytes : Text) : ℕ → ℕ → Type 0 where
-  too_long : 2 ^ 20 < length bytes → RefusesScripts agent bytes 5 1048576
-  of_row : (code at : ℕ) → length bytes ≤ 2 ^ 20 → (scripts_of agent.devices bytes).outcome ≡ Err (code, at)
+  too_long : file_limit < length bytes → RefusesScripts agent bytes 5 file_limit
+  of_row : (code at : ℕ) → length bytes ≤ file_limit → (scripts_of agent.devices bytes).outcome ≡ Err (code, at)
       → first (scripts_of agent.devices bytes).rows ≡ Some (code, at) → RefusesScripts agent bytes code at
 
 -- ---- files

@@ -5,7 +5,7 @@ use Rattle.golog_tree.specs.declared.agent.Agent.{Agent}
 use Rattle.golog_semantics.specs.declared.journal.Entry.TheVariants.{Close}
 use Rattle.golog_semantics.specs.declared.journal.Reason.TheVariants.{Refused}
 use Rattle.golog_semantics.specs.declared.journal.Report.{Report}
-use Rattle.golog_semantics.specs.Journal.{Journal}
+use Rattle.golog_semantics.specs.Journal.{Journal, longest}
 use Rattle.golog_semantics.specs.Text.{Text, with_line_feed}
 use Rattle.golog_semantics.specs.Reports.{IsReport}
 use Rattle.golog_semantics.specs.Online.{IsOnline}
@@ -94,5 +94,5 @@ pub record RunsOn (agent : Agent) (before : Journal) (olds news : List Standing)
   pub journal : Journal
   pub is : report ≡ with_runs [] journal
   pub lawful : IsBoardList agent journal
-  pub short : length journal ≤ 65553
+  pub short : length journal ≤ longest
   pub ran : RunsToEnd agent before journal olds news

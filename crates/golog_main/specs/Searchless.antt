@@ -3,7 +3,7 @@ use Rattle.std.specs.Prelude.{◌≡◌, ℕ}
 use Rattle.golog_tree.specs.declared.agent.Agent.{Agent}
 use Rattle.golog_semantics.specs.Text.{Text}
 use Rattle.golog_semantics.specs.Execution.{IsOnlineRun}
-use Rattle.golog_agent.specs.Spelled.{SpellsAgent}
+use Rattle.golog_file.specs.Spelled.{SpellsAgent}
 
 -- it ends neither for the depth of a search nor for its fuel
 abbrev pub SearchlessEnds : Type 0

@@ -12,10 +12,3 @@ pub use devices::script_devices;
 pub use laws::{each_status_where_its_cause_is, searchless_runs_end_plainly};
 pub use outcome::{Input, Outcome};
 pub use top::{NO_MEMORY, golog};
-
-#[cfg(test)]
-mod construct_tests;
-#[cfg(test)]
-mod device_tests;
-#[cfg(test)]
-mod tests;

@@ -11,9 +11,9 @@ ghost use Rattle.golog_main.specs.declared.outcome.Outcome.TheVariants.{Refused}
 use crate::outcome::{Input, Outcome};
 use crate::run::run_program;
 use crate::words::names_in;
-use golog_agent::{AgentFault, read_agent};
 use golog_base::{Bytes, Files, NoMemory, ReadFault, Sink, read_all, write_all};
 use golog_device::Device;
+use golog_file::{AgentFault, read_agent};
 use golog_script::{ScriptFault, scripts_of};
 use golog_tree::Agent;
 use std::alloc::Global;
@@ -40,7 +40,7 @@ pub const NO_MEMORY: u8 = 6;
 /// - 2, `words refused`: the words are anything else.
 /// - 4, `read fault agent`: the agent file is not there, or a call of `files` failed.
 /// - 3, `refused agent CODE at PLACE`: the file spells no agent; the code and the place are those of its
-///   first refusal, in the order of the stages of `golog_agent::read_agent`.
+///   first refusal, in the order of the stages of `golog_file::read_agent`.
 /// - 4, `read fault devices`: the devices file, where one is named, is not there, or a call of `files`
 ///   failed.
 /// - 3, `refused devices CODE at POSITION`: it spells no scripts for the agent's devices; the code and the

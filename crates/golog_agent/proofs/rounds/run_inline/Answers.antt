@@ -53,7 +53,7 @@ round-requires g c =
       whole = now.whole;
       boxes = omega (arith, boxes, kept);
       on = now.made.on;
-      over = ap (is_whole c.args.agent.now None) (sym now.whole) ∙ sym c.is_over.ensures ∙ c.loop-taken-test.true;
+      over = ap (is_whole c.args.agent.now) (sym now.whole) ∙ sym c.is_over.ensures ∙ c.loop-taken-test.true;
     }
 
 pub loop-taken-preserved : goal.loop-taken-preserved
@@ -94,7 +94,7 @@ returns g c =
     let online : IsOnlineSoFar agent (with_runs [] last.seen) =
     subst (λ a. IsOnlineSoFar a (with_runs [] last.seen)) now.same_agent
     (subst (λ j. IsOnlineSoFar c.loop-taken.runner.agent (with_runs [] j)) now.whole c.keeps_rules-2.ensures.under_way.online) in
-    let whole : is_whole agent None last.seen ≡ true = ap (is_whole agent None) (sym now.whole) ∙ sym c.is_over.ensures ∙ c.loop-taken-test.false in
+    let whole : is_whole agent last.seen ≡ true = ap (is_whole agent) (sym now.whole) ∙ sym c.is_over.ensures ∙ c.loop-taken-test.false in
     record {
       same = now.same_agent;
       same_board = record {

@@ -1,7 +1,7 @@
 use Rattle.std.proofs.Common.{Err, refl, subst}
 use Rattle.std.specs.Prelude.{option_map}
 use Rattle.golog_device.specs.Slots.{standings}
-use Rattle.golog_agent.specs.Spelled.{Reads}
+use Rattle.golog_file.specs.Spelled.{Reads}
 use Rattle.golog_main.proofs.OutcomeLemmas.{agent-comes, agent-refused}
 use Rattle.golog_main.proofs.top.over_agent.Goals as goal
 

@@ -1,5 +1,0 @@
-use Rattle.golog_agent.proofs.Asked.{asked}
-use Rattle.golog_agent.proofs.laws.read_conditions_stay_kept.Goals as goal
-
-pub returns : goal.returns
-returns c = asked

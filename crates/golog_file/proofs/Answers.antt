@@ -1,0 +1,58 @@
+-- What a reader of files answers, stage by stage.
+use Rattle.std.proofs.Common.{◌≡◌, ℕ, true, false, List, sym, ap, ◌∙◌, Result, Ok, Err}
+use Rattle.golog_form.specs.declared.form.Form.{Form}
+use Rattle.golog_form.specs.declared.fault.FormFault.{FormFault}
+use Rattle.golog_form.specs.declared.fault.FormFault.TheVariants as form
+use Rattle.golog_form.specs.Spelling.{Spells}
+use Rattle.golog_form.specs.Faults.{IsAnswer}
+use Rattle.golog_tree.specs.declared.agent.Agent.{Agent}
+use Rattle.golog_tree.specs.declared.draft.DraftTheory.{DraftTheory}
+use Rattle.golog_tree.specs.declared.draft.DraftProgram.{DraftProgram}
+use Rattle.golog_theory.specs.declared.fault.TheoryFault.{TheoryFault}
+use Rattle.golog_theory.specs.declared.fault.TheoryFault.TheVariants as reading
+use Rattle.golog_theory.specs.Items.{theory_of}
+use Rattle.golog_theory.specs.Order.{IsLeastRow}
+use Rattle.golog_prog.specs.Items.{program_of}
+use Rattle.golog_check.specs.declared.fault.CheckFault.{CheckFault}
+use Rattle.golog_check.specs.declared.fault.CheckFault.TheVariants as check
+use Rattle.golog_check.specs.Check.{Checks}
+use Rattle.golog_check.specs.Order.{all_rows, IsLeastRow as IsLeastChecked}
+use Rattle.golog_file.specs.declared.fault.AgentFault.{AgentFault}
+use Rattle.golog_file.specs.declared.fault.AgentFault.TheVariants.{Refused, Memory}
+use Rattle.golog_file.specs.declared.fault.TheConstants.{UNBUILT}
+use Rattle.golog_file.specs.Faults.{fault_of_form, fault_of_theory, fault_of_check}
+use Rattle.golog_file.specs.Built.{is_unbuilt}
+use Rattle.golog_file.specs.Spelled.{DraftSpells, DraftRefuses, DraftAnswers, of_check, of_stage, SpellsDraft, of_theory, of_program, of_draft, FormAnswers, of_bytes, of_form, Reads}
+
+module _ (theory : DraftTheory) (program : DraftProgram) where
+  pub spells : (agent : Agent) → Checks (Ok agent) theory program → IsLeastChecked {A = Agent} (Ok agent) (all_rows theory program) → is_unbuilt agent ≡ false → DraftSpells theory program agent
+  spells agent c l f = record { unrefused = l; built = f; is = c.1 }
+
+  pub later : (agent : Agent) → Checks (Ok agent) theory program → IsLeastChecked {A = Agent} (Ok agent) (all_rows theory program) → is_unbuilt agent ≡ true → DraftRefuses theory program UNBUILT 0
+  later agent c l f = of_stage l (ap is_unbuilt (sym c.1) ∙ f)
+
+  pub refused : (fault : CheckFault) → IsLeastChecked {A = Agent} (Err fault) (all_rows theory program) → DraftAnswers theory program (Err (fault_of_check fault))
+  refused (check.Refused code at) l = of_check code at l
+  refused check.Memory l = tt
+
+pub draft-read : (form : Form) (theory : DraftTheory) (program : DraftProgram) (result : Result Agent AgentFault) → SpellsDraft form theory program → DraftAnswers theory program result → FormAnswers result form
+draft-read form theory program (Ok agent) s a = record { theory = theory; program = program; read = s; draft = a }
+draft-read form theory program (Err (Refused code at)) s a = of_draft code at theory program s a
+draft-read form theory program (Err Memory) s a = tt
+
+pub program-refused : (form : Form) (theory : DraftTheory) (fault : TheoryFault) → (theory_of form).outcome ≡ Ok theory → IsLeastRow {A = DraftProgram} (Err fault) (program_of theory form).rows → FormAnswers (Err (fault_of_theory fault)) form
+program-refused form theory (reading.Refused code at) e l = of_program code at theory e l
+program-refused form theory reading.Memory e l = tt
+
+pub theory-refused : (form : Form) (fault : TheoryFault) → IsLeastRow {A = DraftTheory} (Err fault) (theory_of form).rows → FormAnswers (Err (fault_of_theory fault)) form
+theory-refused form (reading.Refused code at) l = of_theory code at l
+theory-refused form reading.Memory l = tt
+
+pub bytes-read : (bytes : List ℕ) (form : Form) (result : Result Agent AgentFault) → Spells bytes form → IsAnswer bytes (Ok form) → FormAnswers result form → Reads result bytes
+bytes-read bytes form (Ok agent) s c a = record { form = form; bytes_spell = record { small = c.0; spelled = s }; form_spells = a }
+bytes-read bytes form (Err (Refused code at)) s c a = of_form code at form (record { small = c.0; spelled = s }) a
+bytes-read bytes form (Err Memory) s c a = tt
+
+pub form-refused : (bytes : List ℕ) (fault : FormFault) → IsAnswer {A = Form} bytes (Err fault) → Reads (Err (fault_of_form fault)) bytes
+form-refused bytes (form.Refused code at) c = of_bytes code at c
+form-refused bytes form.Memory c = tt

@@ -1,0 +1,4 @@
+pub mod Unblocked
+pub mod Answers
+pub mod Excluded
+mod Asked

@@ -1,0 +1,4 @@
+pub mod Built
+pub mod Faults
+pub mod Spelled
+pub mod Laws

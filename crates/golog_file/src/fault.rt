@@ -1,0 +1,64 @@
+ghost use Rattle.std.specs.Prelude.{◌≡◌};
+ghost use Rattle.golog_file.specs.declared.fault.AgentFault.TheVariants.{Refused, Memory};
+ghost use Rattle.golog_file.specs.Faults.{fault_of_form, fault_of_theory, fault_of_check};
+
+use golog_base::NoMemory;
+use golog_check::CheckFault;
+use golog_form::FormFault;
+use golog_theory::TheoryFault;
+use thiserror::Error;
+
+/// The code of a file that spells an agent of which a part is not built yet.
+pub const UNBUILT: u8 = 29;
+
+/// Why the bytes of a file were not read as an agent.
+#[derive(Debug, Drop, Error)]
+pub enum AgentFault {
+    /// The file is refused, with the code and its place.
+    #[error("refused agent {code} at {at}")]
+    Refused { code: u8, at: u32 },
+    /// Memory ran out.
+    #[error("out of memory")]
+    Memory,
+}
+
+impl From<NoMemory> for AgentFault {
+    ghost from_gives = { λ _ e. e ≡ Memory };
+
+    fn from(_error: NoMemory) -> AgentFault {
+        AgentFault::Memory
+    }
+}
+
+impl From<FormFault> for AgentFault {
+    ghost from_gives = { λ fault e. e ≡ fault_of_form fault };
+
+    fn from(fault: FormFault) -> AgentFault {
+        match fault {
+            FormFault::Refused { why, at } => AgentFault::Refused { code: why, at },
+            FormFault::Memory => AgentFault::Memory,
+        }
+    }
+}
+
+impl From<TheoryFault> for AgentFault {
+    ghost from_gives = { λ fault e. e ≡ fault_of_theory fault };
+
+    fn from(fault: TheoryFault) -> AgentFault {
+        match fault {
+            TheoryFault::Refused { code, at } => AgentFault::Refused { code, at },
+            TheoryFault::Memory => AgentFault::Memory,
+        }
+    }
+}
+
+impl From<CheckFault> for AgentFault {
+    ghost from_gives = { λ fault e. e ≡ fault_of_check fault };
+
+    fn from(fault: CheckFault) -> AgentFault {
+        match fault {
+            CheckFault::Refused { code, at } => AgentFault::Refused { code, at },
+            CheckFault::Memory => AgentFault::Memory,
+        }
+    }
+}
