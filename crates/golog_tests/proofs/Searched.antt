@@ -6,7 +6,7 @@ use Rattle.golog_tree.specs.declared.prog.Prog.{Prog}
 use Rattle.golog_semantics.specs.BlockFree.{has_block}
 use Rattle.golog_semantics.specs.ProgFits.{fits}
 use Rattle.golog_semantics.specs.WellFormed.{WellFormed}
-use Rattle.golog_agent.specs.Built.{IsBuilt}
+use Rattle.golog_file.specs.Built.{IsBuilt}
 
 -- its body fits the agent
 pub body_fits : (agent : Agent) (body : Prog) → WellFormed agent → body ≡ agent.main → IsTrue (fits agent body)

@@ -1,8 +1,8 @@
 ghost use Rattle.golog_semantics.specs.WellFormed.{WellFormed};
 
 use crate::agents::BELL;
-use golog_agent::read_agent;
 use golog_base::{Boxed, NoMemory};
+use golog_file::read_agent;
 use golog_tree::{Agent, Prog};
 use golog_ways::has_front_block;
 use std::alloc::Global;

@@ -1,8 +1,8 @@
 ghost use Rattle.golog_semantics.specs.WellFormed.{WellFormed};
 
 use crate::agents::LAMP;
-use golog_agent::read_agent;
 use golog_check::{CheckFault, SORT_CLASH, check_condition};
+use golog_file::read_agent;
 use golog_tree::{Agent, Cond, DraftArg, DraftCond, DraftTerm};
 use std::alloc::Global;
 

@@ -1,7 +1,7 @@
 ghost use Rattle.golog_semantics.specs.WellFormed.{WellFormed};
 
 use crate::agents::{BELL, is_first_fluent};
-use golog_agent::read_agent;
+use golog_file::read_agent;
 use golog_tree::{Agent, Cond};
 use golog_ways::end_cond;
 use std::alloc::Global;

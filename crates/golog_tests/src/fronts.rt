@@ -3,7 +3,7 @@ ghost use Rattle.golog_semantics.specs.WellFormed.{WellFormed};
 ghost use Rattle.golog_ways.specs.FrontBlock.{has_front_block as block_in_front};
 
 use crate::agents::{LAMP, is_first_fluent};
-use golog_agent::read_agent;
+use golog_file::read_agent;
 use golog_tree::{Agent, Cond, Label, Prog};
 use golog_ways::{Front, fronts, has_front_block};
 use std::alloc::Global;

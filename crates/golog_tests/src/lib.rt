@@ -12,6 +12,8 @@ mod ends;
 #[cfg(test)]
 mod fronts;
 #[cfg(test)]
+mod limits;
+#[cfg(test)]
 mod modes;
 #[cfg(test)]
 mod numbers;
@@ -25,6 +27,8 @@ mod searches;
 mod steps;
 #[cfg(test)]
 mod texts;
+#[cfg(test)]
+mod trees;
 #[cfg(test)]
 mod truths;
 #[cfg(test)]

@@ -1,8 +1,8 @@
 ghost use Rattle.golog_semantics.specs.WellFormed.{WellFormed};
 
 use crate::agents::BELL;
-use golog_agent::read_agent;
 use golog_base::NoMemory;
+use golog_file::read_agent;
 use golog_progress::start;
 use golog_semantics::Mode;
 use golog_tree::{Agent, Truth};

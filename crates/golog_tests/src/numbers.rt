@@ -3,7 +3,7 @@ ghost use Rattle.golog_tree.specs.Ground.{action_args, ground_count};
 ghost use Rattle.golog_semantics.specs.WellFormed.{WellFormed};
 
 use crate::agents::LIFT;
-use golog_agent::read_agent;
+use golog_file::read_agent;
 use golog_ground::read_action;
 use golog_tree::{Agent, Ground, action_no, action_of, fluent_no, fluent_of};
 use std::alloc::Global;

@@ -1,6 +1,6 @@
 use crate::agents::{BELL, LIFT};
-use golog_agent::read_agent;
 use golog_base::NoMemory;
+use golog_file::read_agent;
 use golog_prog::print_prog;
 use golog_tree::Agent;
 use std::alloc::Global;

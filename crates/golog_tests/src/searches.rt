@@ -1,10 +1,10 @@
 ghost use Rattle.std.specs.Prelude.{◌≡◌, IfOk};
 ghost use Rattle.golog_semantics.specs.WellFormed.{WellFormed};
-ghost use Rattle.golog_agent.specs.Built.{IsBuilt};
+ghost use Rattle.golog_file.specs.Built.{IsBuilt};
 
 use crate::agents::{BRANCHES, DOOR, ROADS, STAIRS};
-use golog_agent::read_agent;
 use golog_base::NoMemory;
+use golog_file::read_agent;
 use golog_progress::start;
 use golog_search::{Block, Found, find};
 use golog_tree::{Agent, Label, Way, copy_prog};

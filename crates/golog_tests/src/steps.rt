@@ -2,8 +2,8 @@ ghost use Rattle.golog_semantics.specs.SortLaws.{AreInSorts};
 ghost use Rattle.golog_semantics.specs.WellFormed.{WellFormed};
 
 use crate::agents::LAMP;
-use golog_agent::read_agent;
 use golog_base::NoMemory;
+use golog_file::read_agent;
 use golog_progress::{State, start};
 use golog_tree::{Agent, Label, Prog, Way};
 use golog_ways::first;

@@ -1,7 +1,7 @@
 ghost use Rattle.golog_semantics.specs.WellFormed.{WellFormed};
 
 use crate::agents::LIFT;
-use golog_agent::read_agent;
+use golog_file::read_agent;
 use golog_ground::{action_text, constant_text, read_action, read_constant};
 use golog_tree::{Agent, sort_size};
 use std::alloc::Global;

@@ -1,16 +1,16 @@
 ghost use Rattle.std.specs.Prelude.{◌≡◌, IsTrue, Ok};
 ghost use Rattle.golog_tree.specs.declared.draft.DraftTheory.{DraftTheory};
 ghost use Rattle.golog_tree.specs.declared.draft_cond.DraftCond.{DraftCond};
-ghost use Rattle.golog_semantics.specs.Drafts.{AgentCondKeeps, CondKeeps};
+ghost use Rattle.golog_draft.specs.Drafts.{AgentCondKeeps, CondKeeps};
 ghost use Rattle.golog_semantics.specs.Fits.{cond_fits, nothing_bound};
 ghost use Rattle.golog_semantics.specs.WellFormed.{WellFormed};
 ghost use Rattle.golog_theory.specs.Items.{theory_of as theory_in};
-ghost use Rattle.golog_agent.specs.Spelled.{SpellsAgent};
+ghost use Rattle.golog_file.specs.Spelled.{SpellsAgent};
 
 use crate::agents::LAMPS;
-use golog_agent::{read_agent, read_conditions_stay_kept};
 use golog_base::NoMemory;
 use golog_check::check_condition;
+use golog_file::{read_agent, read_conditions_stay_kept};
 use golog_form::{Form, read_form};
 use golog_known::{Env, value};
 use golog_progress::start;

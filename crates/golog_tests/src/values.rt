@@ -3,8 +3,8 @@ ghost use Rattle.golog_tree.specs.Ground.{ground_actions};
 ghost use Rattle.golog_semantics.specs.WellFormed.{WellFormed};
 
 use crate::agents::LAMP;
-use golog_agent::read_agent;
 use golog_base::NoMemory;
+use golog_file::read_agent;
 use golog_ground::read_action;
 use golog_progress::{Entry, State, start};
 use golog_tree::Agent;

@@ -1,7 +1,7 @@
 -- A condition that was read over the theory keeps the rules over it.
 use Rattle.std.proofs.Common.{IfOk, Result, subst}
 use Rattle.golog_tree.specs.declared.draft_cond.DraftCond.{DraftCond}
-use Rattle.golog_semantics.specs.Drafts.{CondKeeps}
+use Rattle.golog_draft.specs.Drafts.{CondKeeps}
 use Rattle.golog_theory.specs.declared.fault.TheoryFault.{TheoryFault}
 use Rattle.golog_tests.proofs.truths.truth_of_form.Goals as goal
 

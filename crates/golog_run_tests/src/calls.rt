@@ -1,0 +1,95 @@
+use golog_base::{Bytes, HeldFile, List, MemFiles, MemSink, NoMemory, Text};
+use golog_main::{golog, script_devices};
+use std::alloc::Global;
+
+/// The words of a run of `x.agent`.
+pub const RUN: [&str; 3] = ["run", "x.agent", "--inline"];
+
+/// The words of a run of `x.agent` with the scripts of `x.devices`.
+pub const RUN_BOTH: [&str; 4] = ["run", "x.agent", "x.devices", "--inline"];
+
+/// What a call answered and wrote.
+#[derive(Drop)]
+pub struct Call {
+    pub status: u8,
+    pub out: MemSink,
+}
+
+impl Call {
+    /// The status and what was written.
+    pub fn said(&self) -> (u8, &str) {
+        let text = std::str::from_utf8(self.out.bytes());
+        (self.status, text.unwrap_or("no text"))
+    }
+}
+
+/// Files in memory, of these names and bytes. The calls of these numbers fail.
+pub fn files_of(
+    alloc: Global,
+    files: &[(&str, &[u8])],
+    fails: &[u32],
+) -> Result<MemFiles, NoMemory> {
+    let mut held = List::new(alloc);
+    for (name, bytes) in files {
+        held.push(HeldFile {
+            name: Text::of(alloc, name)?,
+            bytes: Bytes::copy_of(alloc, bytes)?,
+        })?;
+    }
+    Ok(MemFiles::new(held, List::copy_of(alloc, fails)?))
+}
+
+pub fn words_of(alloc: Global, of: &[&str]) -> Result<Vec<String>, NoMemory> {
+    let mut words = Vec::new(alloc);
+    for word in of {
+        words.push(String::from_str(alloc, word)?)?;
+    }
+    Ok(words)
+}
+
+/// Calls the program with these words, over these files, this sink and devices that follow scripts.
+pub fn called_over(
+    alloc: Global,
+    words: &[&str],
+    mut files: MemFiles,
+    mut out: MemSink,
+) -> Result<Call, NoMemory> {
+    let words = words_of(alloc, words)?;
+    let mut devices = script_devices(alloc)?;
+    let status = golog(
+        alloc,
+        words.as_slice(),
+        &mut files,
+        &mut out,
+        devices.as_mut_slice(),
+    );
+    Ok(Call { status, out })
+}
+
+/// The same over a sink with ample room.
+pub fn called(alloc: Global, words: &[&str], files: MemFiles) -> Result<Call, NoMemory> {
+    let out = MemSink::new(alloc, 1000, List::new(alloc))?;
+    called_over(alloc, words, files, out)
+}
+
+/// Runs an agent file of these bytes.
+pub fn ran(alloc: Global, agent: &[u8]) -> Result<Call, NoMemory> {
+    let files = files_of(alloc, &[("x.agent", agent)], &[])?;
+    called(alloc, &RUN, files)
+}
+
+/// Runs it with a devices file of these bytes.
+pub fn ran_with(alloc: Global, agent: &[u8], devices: &[u8]) -> Result<Call, NoMemory> {
+    let files = files_of(alloc, &[("x.agent", agent), ("x.devices", devices)], &[])?;
+    called(alloc, &RUN_BOTH, files)
+}
+
+/// An agent file of these items and this program.
+pub fn file_of(alloc: Global, items: &str, program: &str) -> Result<Bytes, NoMemory> {
+    let mut file = Bytes::copy_of(alloc, b"(agent ")?;
+    file.extend(items.as_bytes())?;
+    file.extend(b"(main ")?;
+    file.extend(program.as_bytes())?;
+    file.extend(b"))")?;
+    Ok(file)
+}
