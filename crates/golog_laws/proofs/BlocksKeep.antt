@@ -18,7 +18,7 @@ use Rattle.golog_semantics.specs.Guarded.{front}
 use Rattle.golog_semantics.proofs.BlocksFit.{each-filter, each-map}
 use Rattle.golog_semantics.proofs.ByParts.{OfEach}
 use Rattle.golog_semantics.proofs.BestRuns.{longer}
-use Rattle.golog_laws.proofs.CertainRuns.{found}
+use Rattle.golog_certain.proofs.CertainRuns.{found}
 use Rattle.golog_semantics.proofs.FrontParts.{Claim}
 use Rattle.golog_semantics.proofs.Among.{Among}
 use Rattle.golog_semantics.proofs.StepsKeep.{Keeps, OfLefts, moves_keep}

@@ -13,11 +13,11 @@ use Rattle.golog_semantics.specs.Ways.{is_empty, moves_to}
 use Rattle.golog_semantics.specs.Search.{Run, best, best_from, plain_ways, runs}
 use Rattle.golog_semantics.specs.Blocks.{beginning, begins_run, block_moves, first_step, goes_through, is_kept, moves}
 use Rattle.golog_semantics.specs.Guarded.{front}
-use Rattle.golog_laws.specs.FollowedRuns.{runs_within}
+use Rattle.golog_certain.specs.FollowedRuns.{runs_within}
 use Rattle.golog_semantics.proofs.BestRuns.{longer}
-use Rattle.golog_laws.proofs.CertainRuns.{begins, found, goes-runs, ways-must_near}
+use Rattle.golog_certain.proofs.CertainRuns.{begins, found, goes-runs, ways-must_near}
 use Rattle.golog_laws.proofs.FollowedRunsLaws.{RestWithin, ran_within, within_goes}
-use Rattle.golog_laws.proofs.Members.{not_empty}
+use Rattle.golog_certain.proofs.Members.{not_empty}
 use Rattle.golog_semantics.proofs.Among.{filter-among, Among}
 use Rattle.golog_semantics.proofs.StepsInModes.{steps-near_may}
 use Rattle.golog_semantics.proofs.StepsOrdered.{Order, must_near_more}

@@ -16,7 +16,7 @@ use Rattle.golog_tree.specs.Nest.{nest, nest_step}
 use Rattle.golog_tree.specs.Tidy.{Layer}
 use Rattle.golog_semantics.specs.Program.{put_arg, put_args, body_with}
 use Rattle.golog_semantics.specs.Search.{is_followed, nest_limit}
-use Rattle.golog_laws.specs.FollowedRuns.{Ran, found_step, ran, ran_step, run_within, runs_within}
+use Rattle.golog_certain.specs.FollowedRuns.{Ran, found_step, ran, ran_step, run_within, runs_within}
 use Rattle.golog_semantics.proofs.ByParts as parts
 use Rattle.golog_semantics.proofs.ByParts.{OfEach}
 use Rattle.golog_semantics.proofs.FoldsRelated.{Leaf, free, Answers, WayAnswers, folds_related, ones, twos}

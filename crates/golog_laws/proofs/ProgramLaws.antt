@@ -10,7 +10,7 @@ use Rattle.golog_semantics.specs.WellFormed.{WellFormed}
 use Rattle.golog_semantics.proofs.PlainLaws.{front_plain, plain_conc, plain_prio, plain_put, plain_seq, put_conc, put_prio, put_seq}
 use Rattle.golog_semantics.proofs.FrontPut.{front-put}
 use Rattle.golog_semantics.proofs.PutByParts.{IgnoresPut, fold-put}
-use Rattle.golog_laws.proofs.WrittenLaws.{main_within, well_formed_plain, well_formed_within}
+use Rattle.golog_certain.proofs.WrittenLaws.{main_within, well_formed_plain, well_formed_within}
 
 nest_ignores : IgnoresPut ℕ ℕ nest_step (λ w. 0)
 nest_ignores = record {

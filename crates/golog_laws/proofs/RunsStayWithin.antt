@@ -22,12 +22,12 @@ use Rattle.golog_semantics.specs.Ways.{plain_move, way_of}
 use Rattle.golog_semantics.specs.Search.{Run, best, best_from, is_followed, moves_with, nest_limit, no_blocks, plain_ways, runs}
 use Rattle.golog_semantics.specs.Blocks.{beginning, begins_run, block_moves, first_step, is_kept, labels_of, may_succeed, moves, searching}
 use Rattle.golog_semantics.specs.Guarded.{front}
-use Rattle.golog_laws.specs.FollowedRuns.{Ran, found_step, ran, ran_step, run_within, runs_within}
+use Rattle.golog_certain.specs.FollowedRuns.{Ran, found_step, ran, ran_step, run_within, runs_within}
 use Rattle.golog_semantics.proofs.BlocksFit.{each-contains, each-filter, each-map}
 use Rattle.golog_semantics.proofs.ByParts as parts
 use Rattle.golog_semantics.proofs.ByParts.{OfEach}
 use Rattle.golog_semantics.proofs.BestRuns.{longer}
-use Rattle.golog_laws.proofs.CertainRuns.{found}
+use Rattle.golog_certain.proofs.CertainRuns.{found}
 use Rattle.golog_laws.proofs.FollowedRunsLaws.{RestWithin, no_rest, ran-nest, ran_way, rest_within, way_ran, within_body-of, within_put}
 use Rattle.golog_semantics.proofs.FrontParts.{Claim}
 use Rattle.golog_semantics.proofs.Among.{Among}

@@ -1,8 +1,5 @@
-pub mod FollowedRuns
 pub mod ProgLaws
 pub mod Tidied
-pub mod WorldLaws
-pub mod KnowledgeLaws
 pub mod Theories
 pub mod Examples
 pub mod WrongExamples

@@ -8,7 +8,7 @@ use Rattle.golog_tree.specs.Substitute.{Put, prog_put}
 use Rattle.golog_tree.specs.Tidy.{tidy_seq, tidy_conc, tidy_prio}
 use Rattle.golog_semantics.specs.Guarded.{front}
 use Rattle.golog_semantics.specs.Plain.{plain, IsPlain}
-use Rattle.golog_laws.specs.FollowedRuns.{runs_within}
+use Rattle.golog_certain.specs.FollowedRuns.{runs_within}
 use Rattle.golog_semantics.specs.WellFormed.{WellFormed}
 
 -- a constant that is put in goes into the parts of a tidy program, and changes neither nest nor front

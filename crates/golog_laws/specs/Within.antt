@@ -8,7 +8,7 @@ use Rattle.golog_semantics.specs.declared.Mode.TheVariants.{Must, Near}
 use Rattle.golog_semantics.specs.declared.search.Move.{Move}
 use Rattle.golog_semantics.specs.Truth.{Values}
 use Rattle.golog_semantics.specs.Ways.{is_empty}
-use Rattle.golog_laws.specs.FollowedRuns.{runs_within}
+use Rattle.golog_certain.specs.FollowedRuns.{runs_within}
 use Rattle.golog_semantics.specs.Blocks.{moves}
 
 -- where no step is near, none is certain, search blocks and runs under way included

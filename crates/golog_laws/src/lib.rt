@@ -2,16 +2,12 @@
 #![tactic(auto)]
 
 mod examples;
-mod knowledge;
 mod programs;
 mod texts;
-mod worlds;
 
 pub use examples::{scripted_turns, steps_in_worlds, worked_examples, wrong_journals};
-pub use knowledge::{known_stays, runs_stay, steps_keep_knowledge, ways_settle};
 pub use programs::{
     constants_put_in, lefts_are_tidy, no_near_no_certain, plainly_written, runs_stay_within,
     well_formed_has_no_runs,
 };
 pub use texts::{one_report_is_spelled, results_of_reports_fit, text_tells_reports};
-pub use worlds::{certain_blocks_are_so, plain_steps_are_so, runs_lead};

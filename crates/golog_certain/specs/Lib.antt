@@ -1,0 +1,5 @@
+pub mod FollowedRuns
+pub mod WorldLaws
+pub mod SearchLaws
+pub mod CertainLaws
+pub mod KnowledgeLaws

@@ -1,5 +1,0 @@
-use Rattle.golog_laws.proofs.RunsStay.{runs_stay}
-use Rattle.golog_laws.proofs.knowledge.runs_stay.Goals as goal
-
-pub returns : goal.returns
-returns c = runs_stay

@@ -1,5 +1,0 @@
-use Rattle.golog_laws.proofs.WorldSteps.{plain_steps_so}
-use Rattle.golog_laws.proofs.worlds.plain_steps_are_so.Goals as goal
-
-pub returns : goal.returns
-returns c = plain_steps_so
