@@ -1,4 +1,5 @@
 pub mod Arguments
 pub mod Evaluated
 pub mod Folds
+pub mod InWorlds
 pub mod Lamps

@@ -1,3 +1,4 @@
 pub mod Fits
+pub mod InWorlds
 pub mod Laws
 pub mod Examples
