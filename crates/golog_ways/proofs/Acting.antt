@@ -24,7 +24,7 @@ use Rattle.golog_known.specs.Fits.{CondFitsAt, Sets}
 use Rattle.golog_known.proofs.Arguments.{conditions_fit}
 use Rattle.golog_known.proofs.Evaluated.{args-within}
 use Rattle.golog_ways.specs.Closed.{IsFit}
-use Rattle.golog_ways.specs.Outlook.{precondition, precondition_by}
+use Rattle.golog_ways.specs.Precondition.{precondition, precondition_by}
 use Rattle.golog_ways.specs.Puts.{cond_put_args}
 use Rattle.golog_ways.proofs.ClosedConds.{fits, fits-puts}
 

@@ -1,5 +1,5 @@
 -- The parts of a closed program are closed, and lead less deep.
-use Rattle.std.proofs.Common.{◌≡◌, ℕ, zero, suc, ◌+◌, ◌<◌, ◌≤◌, max, Bool, true, false, ◌&&◌, if◌then◌else◌, List, [], ◌∷◌, length, refl, sym, ap, ◌∙◌, subst, arith}
+use Rattle.std.proofs.Common.{◌≡◌, ℕ, zero, suc, ◌+◌, ◌*◌, ◌<◌, ◌≤◌, max, Bool, true, false, ◌&&◌, if◌then◌else◌, List, [], ◌∷◌, length, refl, sym, ap, ◌∙◌, subst, arith}
 use Rattle.std.specs.Prelude.{nat_le, slice_get}
 use Rattle.std.specs.List.{list_all}
 use Rattle.std.specs.Option.{option_map_or}
@@ -104,6 +104,36 @@ module _ (agent : Agent) where
         other_closed = closed c.in_block q k.1;
         other_lower = λ s. let d : height r ≡ 1 + max (height p) (height q) = h ∙ (rw s refl) in omega arith;
       }
+
+  -- how deep two parts lead of which the second may stand at the front only where the first may be skipped
+  abbrev pub both_height : Prog → Prog → ℕ
+  both_height p q = max (height p) (if (front agent p).skip then height q else 0)
+
+  pub both_one_lower : (p q : Prog) → 1 + 3 * height p < 2 + 3 * both_height p q
+  both_one_lower p q = go (if (front agent p).skip then height q else 0)
+    where
+      go : (n : ℕ) → 1 + 3 * height p < 2 + 3 * max (height p) n
+      go n = omega arith
+
+  pub both_other_lower : (p q : Prog) → (front agent p).skip ≡ true → 1 + 3 * height q < 2 + 3 * both_height p q
+  both_other_lower p q s = go (front agent p).skip s
+    where
+      go : (b : Bool) → b ≡ true → 1 + 3 * height q < 2 + 3 * max (height p) (if b then height q else 0)
+      go true e = omega arith
+      go false e = absurd (cc)
+
+  both_under : (r p q : Prog) → height p < height r → ((front agent p).skip ≡ true → height q < height r) → 2 + 3 * both_height p q < 1 + 3 * height r
+  both_under r p q l h = go (front agent p).skip h
+    where
+      go : (b : Bool) → (b ≡ true → height q < height r) → 2 + 3 * max (height p) (if b then height q else 0) < 1 + 3 * height r
+      go true k = let j = k refl in omega arith
+      go false k = omega arith
+
+  pub seq_lower : (r p q : Prog) → SeqParts r p q → 2 + 3 * both_height p q < 1 + 3 * height r
+  seq_lower r p q parts = both_under r p q parts.one.lower parts.other_lower
+
+  pub parts_lower : (r p q : Prog) → PartsOf r p q → 2 + 3 * both_height p q < 1 + 3 * height r
+  parts_lower r p q parts = both_under r p q parts.one.lower (λ s. parts.other.lower)
 
   pub star_part : (r p : Prog) → IsClosed agent r → r ≡ prog.Star p → PartOf r p
   star_part r p c e =

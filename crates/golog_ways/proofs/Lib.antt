@@ -3,8 +3,8 @@ pub mod AllFronts
 pub mod BlockParts
 pub mod ClosedConds
 pub mod Closing
+pub mod EndSteps
 pub mod Ends
-pub mod Firsts
 pub mod FirstsGiven
 pub mod Fores
 pub mod FrontBlocks
@@ -12,12 +12,12 @@ pub mod FrontLefts
 pub mod FrontSteps
 pub mod FrontsGiven
 pub mod Holding
+pub mod InWorlds
 pub mod Lackings
 pub mod LeftsClosed
 pub mod MoveSteps
 pub mod Moved
 pub mod Opened
-pub mod Outlooks
 pub mod PlainSteps
 pub mod Preconditions
 pub mod PutTruth

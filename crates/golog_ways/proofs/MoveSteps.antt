@@ -8,7 +8,6 @@ use Rattle.golog_tree.specs.declared.cond.Arg.{Arg}
 use Rattle.golog_tree.specs.declared.cond.Cond.{Cond}
 use Rattle.golog_tree.specs.declared.cond.Truth.{Truth}
 use Rattle.golog_tree.specs.declared.cond.Truth.TheVariants.{Yes, No, Unknown}
-use Rattle.golog_tree.specs.declared.prog.Label.{Label}
 use Rattle.golog_tree.specs.declared.prog.Label.TheVariants.{Quiet, Do}
 use Rattle.golog_tree.specs.declared.prog.Prog.{Prog}
 use Rattle.golog_tree.specs.declared.prog.Way.{Way}
@@ -28,11 +27,12 @@ use Rattle.golog_semantics.specs.Ways.{Blocks, moves_step, left_in, only_if, is_
 use Rattle.golog_semantics.specs.Search.{final, moves_with}
 use Rattle.golog_semantics.specs.Guarded.{IsGuarded}
 use Rattle.golog_semantics.proofs.Unfolded.{moves_with-out}
-use Rattle.golog_ways.specs.First.{head_of, first_way}
-use Rattle.golog_ways.specs.FirstMove.{first_move, moved_in, plain}
+use Rattle.golog_ways.specs.First.{head_of}
+use Rattle.golog_ways.specs.FirstMove.{first_move, moved_in}
+use Rattle.golog_ways.specs.Precondition.{precondition}
 use Rattle.golog_ways.specs.Reach.{has_move}
+use Rattle.golog_ways.proofs.Acting.{holds-precondition}
 use Rattle.golog_ways.proofs.ReachSteps.{any_of}
-use Rattle.golog_ways.proofs.Steps.{first-by}
 
 -- the first that is there for these constants
 abbrev pub move_among : (ℕ → Option Move) → List ℕ → Option Move
@@ -58,11 +58,6 @@ head-unless (x ∷ xs) ys = refl
 head-flat : (f : ℕ → List Move) (cs : List ℕ) → head_of (flat_map f cs) ≡ move_among (λ c. head_of (f c)) cs
 head-flat f [] = refl
 head-flat f (c ∷ cs) = let e = head-append (f c) (flat_map f cs) in let k = head-flat f cs in cc
-
--- a step where a test holds begins no run
-plain-if : (b : Bool) (l : Label) (p : Prog) → (if b then Some (plain_move l p) else None) ≡ plain (if b then Some (record { label = l; left = p }) else None)
-plain-if true l p = refl
-plain-if false l p = refl
 
 pub move_as : {E : Type 0} (result : Result (Option Move) E) (x y : Option Move) → x ≡ y → IfOk result (λ w. w ≡ x) → IfOk result (λ w. w ≡ y)
 move_as result x y e h = subst (λ (z : Option Move). IfOk result (λ w. w ≡ z)) e h
@@ -133,19 +128,28 @@ module _ (agent : Agent) (blocks : Blocks) (values : Values) (g : IsGuarded agen
   pub follow_first : (depth fuel : ℕ) (p : Prog) (rest : List Way) → F (prog.Follow depth fuel p rest) ≡ head_of (blocks Must depth fuel p rest)
   follow_first depth fuel p rest = move-by agent blocks values g (prog.Follow depth fuel p rest) (Follow depth fuel p rest) (prog.outs-Follow depth fuel p rest)
 
-  -- an action and a test begin no run
-  pub act_plain : (action : ℕ) (args : List Arg) → F (prog.Act action args) ≡ plain (first_way agent values (prog.Act action args))
-  act_plain action args =
-      let at = map (arg_value (env_of [])) args in
-      move-by agent blocks values g (prog.Act action args) (Act action args) (prog.outs-Act action args)
-      ∙ plain-if (is_possible agent values Must action at) (Do (action_no agent action at)) prog.Nil
-      ∙ ap plain (sym (first-by agent values g (prog.Act action args) (Act action args) (prog.outs-Act action args)))
+  -- an action steps where its precondition holds
+  act_first : (action : ℕ) (args : List Arg) (t : Truth) → t ≡ precondition agent values action (map (arg_value (env_of [])) args)
+      → F (prog.Act action args) ≡ (if holds Must t then Some (plain_move (Do (action_no agent action (map (arg_value (env_of [])) args))) prog.Nil) else None)
+  act_first action args t e =
+      let b = ap (holds Must) e ∙ holds-precondition agent values action (map (arg_value (env_of [])) args) Must in
+      move-by agent blocks values g (prog.Act action args) (Act action args) (prog.outs-Act action args) ∙ (rw b refl)
 
-  pub test_plain : (c : Cond) → F (prog.Test c) ≡ plain (first_way agent values (prog.Test c))
-  test_plain c =
-      move-by agent blocks values g (prog.Test c) (Test c) (prog.outs-Test c)
-      ∙ plain-if (is_so agent values Must c) Quiet prog.Nil
-      ∙ ap plain (sym (first-by agent values g (prog.Test c) (Test c) (prog.outs-Test c)))
+  test_first : (c : Cond) (t : Truth) → t ≡ truth_of agent values c (env_of []) → F (prog.Test c) ≡ (if holds Must t then Some (plain_move Quiet prog.Nil) else None)
+  test_first c t e = move-by agent blocks values g (prog.Test c) (Test c) (prog.outs-Test c) ∙ (rw e refl)
+
+  pub act_taken : (action : ℕ) (args : List Arg) (t : Truth) → t ≡ precondition agent values action (map (arg_value (env_of [])) args) → holds Must t ≡ true
+      → (n : ℕ) → n ≡ action_no agent action (map (arg_value (env_of [])) args) → Some (plain_move (Do n) prog.Nil) ≡ F (prog.Act action args)
+  act_taken action args t e b n is = ap (λ (k : ℕ). Some (plain_move (Do k) prog.Nil)) is ∙ sym (act_first action args t e ∙ (rw b refl))
+
+  pub act_barred : (action : ℕ) (args : List Arg) (t : Truth) → t ≡ precondition agent values action (map (arg_value (env_of [])) args) → holds Must t ≡ false → None ≡ F (prog.Act action args)
+  act_barred action args t e b = sym (act_first action args t e ∙ (rw b refl))
+
+  pub test_taken : (c : Cond) (t : Truth) → t ≡ truth_of agent values c (env_of []) → holds Must t ≡ true → Some (plain_move Quiet prog.Nil) ≡ F (prog.Test c)
+  test_taken c t e b = sym (test_first c t e ∙ (rw b refl))
+
+  pub test_barred : (c : Cond) (t : Truth) → t ≡ truth_of agent values c (env_of []) → holds Must t ≡ false → None ≡ F (prog.Test c)
+  test_barred c t e b = sym (test_first c t e ∙ (rw b refl))
 
   module _ (p q : Prog) where
     seq_by : (w : Option Move) → w ≡ F p → F (prog.Seq p q) ≡ option_or (moved_in (λ l. tidy_seq l q) w) (if final agent values Must p then F q else None)

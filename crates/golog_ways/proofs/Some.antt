@@ -1,24 +1,23 @@
 -- A program for some constant of a sort, the constants being tried one by one.
-use Rattle.std.proofs.Common.{◌≡◌, ℕ, suc, ◌+◌, ◌-◌, ◌<◌, ◌≤◌, Bool, true, false, ◌||◌, refl, sym, ap, ◌∙◌, arith}
+use Rattle.std.proofs.Common.{◌≡◌, ℕ, suc, ◌+◌, ◌-◌, ◌<◌, ◌≤◌, Bool, true, false, ◌||◌, refl, sym, ap, ◌∙◌, subst, arith}
 use Rattle.std.specs.List.{list_any, range_with_len}
 use Rattle.golog_tree.specs.declared.agent.Agent.{Agent}
 use Rattle.golog_tree.specs.declared.cond.Truth.{Truth}
-use Rattle.golog_tree.specs.declared.cond.Truth.TheVariants.{No}
+use Rattle.golog_tree.specs.declared.cond.Truth.TheVariants.{Yes, No, Unknown}
 use Rattle.golog_tree.specs.declared.prog.Prog.{Prog}
 use Rattle.golog_tree.specs.declared.prog.Prog.TheOpen.{Pick}
 use Rattle.golog_tree.specs.declared.prog.Prog.TheVariants as prog
 use Rattle.golog_tree.specs.Ground.{sort_size}
 use Rattle.golog_semantics.specs.declared.Mode.{Mode}
+use Rattle.golog_semantics.specs.declared.Mode.TheVariants.{Must}
 use Rattle.golog_semantics.specs.Modes.{holds}
 use Rattle.golog_semantics.specs.Truth.{Values, either}
 use Rattle.golog_semantics.specs.Program.{put_arg}
 use Rattle.golog_semantics.specs.Search.{final}
 use Rattle.golog_semantics.specs.Guarded.{IsGuarded}
-use Rattle.golog_ways.specs.declared.outlook.Outlook.{Outlook}
-use Rattle.golog_ways.specs.First.{has_way}
-use Rattle.golog_ways.specs.Outlook.{IsOutlook, choice_of}
-use Rattle.golog_ways.proofs.Steps.{final-by, any-by}
-use Rattle.golog_semantics.proofs.FrontLaws.{holds-either, holds-no}
+use Rattle.golog_ways.specs.Ends.{EndsAs}
+use Rattle.golog_ways.proofs.Steps.{final-by}
+use Rattle.golog_semantics.proofs.FrontLaws.{holds-either, holds-no, holds-yes}
 
 -- one of the constants from this one on
 abbrev pub from : (ℕ → Bool) → ℕ → ℕ → Bool
@@ -57,29 +56,38 @@ one-more f i n m a b l e h =
 pub at-end : (f : ℕ → Bool) (i n : ℕ) (found : Bool) → n ≤ i → SoFar f i n found → found ≡ list_any f (range_with_len 0 n)
 at-end f i n found l h = sym (h ∙ or_none found (from f i n) (from-end f i n l))
 
+-- what is found already is found whatever is still to be tried
+pub at-found : (f : ℕ → Bool) (i n : ℕ) (found : Bool) → found ≡ true → SoFar f i n found → found ≡ list_any f (range_with_len 0 n)
+at-found f i n found e h = e ∙ sym (h ∙ ap (λ z. z || from f i n) e)
+
 module _ (agent : Agent) (values : Values) (x sort : ℕ) (p : Prog) where
   abbrev may_end : Mode → ℕ → Bool
   may_end m c = final agent values m (put_arg p x c)
 
-  abbrev may_step : Mode → ℕ → Bool
-  may_step m c = has_way agent values m (put_arg p x c)
+  -- how sure an end is for the constants before this one
+  pub record EndsSoFar (i : ℕ) (t : Truth) : Type 0 where
+    pub ends : (m : Mode) → SoFar (may_end m) i (sort_size agent sort) (holds m t)
 
-  -- the outlook for the constants before this one
-  pub record SomeSoFar (i : ℕ) (o : Outlook) : Type 0 where
-    pub ends : (m : Mode) → SoFar (may_end m) i (sort_size agent sort) (holds m o.ends)
-    pub steps : (m : Mode) → SoFar (may_step m) i (sort_size agent sort) (holds m o.steps)
+  pub none_ends : EndsSoFar 0 No
+  none_ends = record { ends = λ m. none-yet (may_end m) (sort_size agent sort) m }
 
-  pub some_none : SomeSoFar 0 (record { ends = No; steps = No })
-  some_none = record { ends = λ m. none-yet (may_end m) (sort_size agent sort) m; steps = λ m. none-yet (may_step m) (sort_size agent sort) m }
+  pub more_ends : (i : ℕ) (t u r : Truth) → i < sort_size agent sort → r ≡ either t u → EndsAs agent values (put_arg p x i) u → EndsSoFar i t → EndsSoFar (i + 1) r
+  more_ends i t u r l is h s =
+      subst (λ (z : Truth). EndsSoFar (i + 1) z) (sym is) (record { ends = λ m. one-more (may_end m) i (sort_size agent sort) m t u l (h.ends m) (s.ends m) })
 
-  pub some_more : (i : ℕ) (o k : Outlook) → i < sort_size agent sort → IsOutlook agent values (put_arg p x i) k → SomeSoFar i o → SomeSoFar (i + 1) (choice_of o k)
-  some_more i o k l h s = record {
-    ends = λ m. one-more (may_end m) i (sort_size agent sort) m o.ends k.ends l (h.ends m) (s.ends m);
-    steps = λ m. one-more (may_step m) i (sort_size agent sort) m o.steps k.steps l (h.steps m) (s.steps m);
+  pub pick_ends : IsGuarded agent → (i : ℕ) (t : Truth) → sort_size agent sort ≤ i → EndsSoFar i t → EndsAs agent values (prog.Pick x sort p) t
+  pick_ends g i t l s = record {
+    ends = λ m. at-end (may_end m) i (sort_size agent sort) (holds m t) l (s.ends m) ∙ sym (final-by agent values g m (prog.Pick x sort p) (Pick x sort p) (prog.outs-Pick x sort p));
   }
 
-  pub pick_is : IsGuarded agent → (i : ℕ) (o : Outlook) → sort_size agent sort ≤ i → SomeSoFar i o → IsOutlook agent values (prog.Pick x sort p) o
-  pick_is g i o l s = record {
-    ends = λ m. at-end (may_end m) i (sort_size agent sort) (holds m o.ends) l (s.ends m) ∙ sym (final-by agent values g m (prog.Pick x sort p) (Pick x sort p) (prog.outs-Pick x sort p));
-    steps = λ m. at-end (may_step m) i (sort_size agent sort) (holds m o.steps) l (s.steps m) ∙ sym (any-by agent values g m (prog.Pick x sort p) (Pick x sort p) (prog.outs-Pick x sort p));
+  pub pick_settled : IsGuarded agent → (i : ℕ) (t : Truth) → holds Must t ≡ true → EndsSoFar i t → EndsAs agent values (prog.Pick x sort p) t
+  pick_settled g i t e s = record {
+    ends = λ m.
+        at-found (may_end m) i (sort_size agent sort) (holds m t) (certain m t e) (s.ends m)
+        ∙ sym (final-by agent values g m (prog.Pick x sort p) (Pick x sort p) (prog.outs-Pick x sort p));
   }
+    where
+      certain : (m : Mode) (t : Truth) → holds Must t ≡ true → holds m t ≡ true
+      certain m Yes e = holds-yes m
+      certain m No e = absurd (cc)
+      certain m Unknown e = absurd (cc)

@@ -1,6 +1,5 @@
 -- The first certain step of a program, and whether it has a step in a mode.
-use Rattle.std.specs.Prelude.{ℕ, Bool, not, Option, Some, None, List, [], ◌∷◌}
-use Rattle.std.specs.Option.{option_or, option_map}
+use Rattle.std.specs.Prelude.{Bool, not, Option, Some, None, List, [], ◌∷◌}
 use Rattle.golog_tree.specs.declared.agent.Agent.{Agent}
 use Rattle.golog_tree.specs.declared.prog.Prog.{Prog}
 use Rattle.golog_tree.specs.declared.prog.Way.{Way}
@@ -26,12 +25,3 @@ has_way agent values m p = not (is_empty (plain_ways agent values m p))
 -- a step with its left put into a context
 abbrev pub way_in : (Prog → Prog) → Way → Way
 way_in context w = record { label = w.label; left = context w.left }
-
--- the same, where there is a step
-abbrev pub first_in : (Prog → Prog) → Option Way → Option Way
-first_in context w = option_map (way_in context) w
-
--- the first that is there for these constants
-abbrev pub first_among : (ℕ → Option Way) → List ℕ → Option Way
-first_among f [] = None
-first_among f (c ∷ cs) = option_or (f c) (first_among f cs)

@@ -3,11 +3,10 @@ use Rattle.std.specs.Prelude.{◌≡◌, Option}
 use Rattle.std.specs.Option.{option_map}
 use Rattle.golog_tree.specs.declared.agent.Agent.{Agent}
 use Rattle.golog_tree.specs.declared.prog.Prog.{Prog}
-use Rattle.golog_tree.specs.declared.prog.Way.{Way}
 use Rattle.golog_semantics.specs.declared.Mode.TheVariants.{Must}
 use Rattle.golog_semantics.specs.declared.search.Move.{Move}
 use Rattle.golog_semantics.specs.Truth.{Values}
-use Rattle.golog_semantics.specs.Ways.{Blocks, plain_move}
+use Rattle.golog_semantics.specs.Ways.{Blocks}
 use Rattle.golog_semantics.specs.Search.{moves_with}
 use Rattle.golog_ways.specs.First.{head_of}
 
@@ -26,7 +25,3 @@ move_in context m = record { label = m.label; left = context m.left; run = m.run
 -- the same, where there is a step
 abbrev pub moved_in : (Prog → Prog) → Option Move → Option Move
 moved_in context m = option_map (move_in context) m
-
--- a step that begins no run, where there is one
-abbrev pub plain : Option Way → Option Move
-plain way = option_map (λ (w : Way). plain_move w.label w.left) way

@@ -19,43 +19,45 @@ use Rattle.golog_ways.specs.declared.answering.Stop.TheVariants.{Fuel}
 abbrev pub Wants : Type 0
 Wants = ℕ → ℕ → Prog → List Way → Bool
 
--- a block that wants more in Must or in Near
-abbrev pub wants_any : (Mode → Wants) → Wants
-wants_any wants depth fuel body rest = wants Must depth fuel body rest || wants Near depth fuel body rest
+-- A block that wants more in Must, or in Near where it stands in the higher part of a `prio`, which is asked for
+-- a step in either mode.
+abbrev pub wants_at : (Mode → Wants) → Bool → Wants
+wants_at wants higher depth fuel body rest = wants Must depth fuel body rest || (higher && wants Near depth fuel body rest)
 
-module _ (agent : Agent) (wants : Wants) where
-  -- some block at the front wants more, given this of smaller programs
-  abbrev pub lacks_step : (Prog → Bool) → Layer → Bool
-  lacks_step lacks Nil = false
-  lacks_step lacks (Act action args) = false
-  lacks_step lacks (Test c) = false
-  lacks_step lacks (Seq p q) = lacks p || ((front agent p).skip && lacks q)
-  lacks_step lacks (Choice p q) = lacks p || lacks q
-  lacks_step lacks (Pick x sort p) = list_any (λ c. lacks (put_arg p x c)) (constants agent sort)
-  lacks_step lacks (Star p) = lacks p
-  lacks_step lacks (If c p q) = lacks p || lacks q
-  lacks_step lacks (While c p) = lacks p
-  lacks_step lacks (Conc p q) = lacks p || lacks q
-  lacks_step lacks (Prio p q) = lacks p || lacks q
-  lacks_step lacks (Cstar p) = lacks p
-  lacks_step lacks (Call item args) = lacks (body_of agent item args)
-  lacks_step lacks (Search depth fuel p) = wants depth fuel p []
-  lacks_step lacks (Follow depth fuel p rest) = wants depth fuel p rest
+module _ (agent : Agent) (wants : Mode → Wants) where
+  -- some block at the front of a program that stands there wants more, given this of smaller programs
+  abbrev pub lacks_step : (Bool → Prog → Bool) → Bool → Layer → Bool
+  lacks_step lacks higher Nil = false
+  lacks_step lacks higher (Act action args) = false
+  lacks_step lacks higher (Test c) = false
+  lacks_step lacks higher (Seq p q) = lacks higher p || ((front agent p).skip && lacks higher q)
+  lacks_step lacks higher (Choice p q) = lacks higher p || lacks higher q
+  lacks_step lacks higher (Pick x sort p) = list_any (λ c. lacks higher (put_arg p x c)) (constants agent sort)
+  lacks_step lacks higher (Star p) = lacks higher p
+  lacks_step lacks higher (If c p q) = lacks higher p || lacks higher q
+  lacks_step lacks higher (While c p) = lacks higher p
+  lacks_step lacks higher (Conc p q) = lacks higher p || lacks higher q
+  lacks_step lacks higher (Prio p q) = lacks true p || lacks higher q
+  lacks_step lacks higher (Cstar p) = lacks higher p
+  lacks_step lacks higher (Call item args) = lacks higher (body_of agent item args)
+  lacks_step lacks higher (Search depth fuel p) = wants_at wants higher depth fuel p []
+  lacks_step lacks higher (Follow depth fuel p rest) = wants_at wants higher depth fuel p rest
 
   -- the same, looking at most so deep into parts and calls
-  abbrev pub lacks_to : ℕ → Prog → Bool
-  lacks_to zero p = false
-  lacks_to (suc n) p = lacks_step (lacks_to n) (out-Prog p)
+  abbrev pub lacks_to : ℕ → Bool → Prog → Bool
+  lacks_to zero higher p = false
+  lacks_to (suc n) higher p = lacks_step (lacks_to n) higher (out-Prog p)
 
-  -- some block at the front wants more than its fuel
-  pub record Lacks (p : Prog) : Type 0 where
+  -- Some block at the front wants more than its fuel: in Must, or in Near where it or the whole program stands in
+  -- the higher part of a `prio`.
+  pub record Lacks (higher : Bool) (p : Prog) : Type 0 where
     pub deep : ℕ
-    pub lacks : lacks_to deep p ≡ true
+    pub lacks : lacks_to deep higher p ≡ true
 
   -- an answer that stopped for want of fuel tells that some block lacks it
-  pub record StopsAt (p : Prog) (stop : Stop) : Type 0 where
-    pub why : stop ≡ Fuel → Lacks p
+  pub record StopsAt (higher : Bool) (p : Prog) (stop : Stop) : Type 0 where
+    pub why : stop ≡ Fuel → Lacks higher p
 
   -- the same of one of two programs
-  pub record StopsAtEither (p q : Prog) (stop : Stop) : Type 0 where
-    pub why : stop ≡ Fuel → Lacks p ⊎ Lacks q
+  pub record StopsAtEither (higher : Bool) (p q : Prog) (stop : Stop) : Type 0 where
+    pub why : stop ≡ Fuel → Lacks higher p ⊎ Lacks higher q

@@ -6,8 +6,9 @@ pub mod FirstMove
 pub mod Fore
 pub mod FrontBlock
 pub mod FrontLists
+pub mod InWorlds
 pub mod Lacking
 pub mod Lefts
-pub mod Outlook
+pub mod Precondition
 pub mod Puts
 pub mod Reach

@@ -3,7 +3,7 @@ ghost use Rattle.golog_tree.specs.Ground.{IsCountable, ground_fluents};
 ghost use Rattle.golog_semantics.specs.Fits.{cond_fits, nothing_bound};
 ghost use Rattle.golog_semantics.specs.Truth.{truth_of, env_of, arg_value};
 ghost use Rattle.golog_ways.specs.Closed.{IsFit, IsClosed};
-ghost use Rattle.golog_ways.specs.Outlook.{precondition as precondition_of};
+ghost use Rattle.golog_ways.specs.Precondition.{precondition as precondition_of};
 
 use golog_known::{Env, value};
 use golog_tree::{Agent, Arg, Cond, Prog, Truth};

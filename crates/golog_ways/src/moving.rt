@@ -1,16 +1,17 @@
-ghost use Rattle.std.specs.Prelude.{◌≡◌, IfOk, length};
+ghost use Rattle.std.specs.Prelude.{◌≡◌, false, IfOk, IfErr, length};
 ghost use Rattle.golog_tree.specs.Ground.{ground_fluents};
 ghost use Rattle.golog_ways.specs.Closed.{IsFit, IsClosed};
 ghost use Rattle.golog_ways.specs.FirstMove.{IsFirst};
+ghost use Rattle.golog_ways.specs.Lacking.{StopsAt};
 
 use crate::answering::{Blocks, Stop};
 use crate::bodies::body_of;
 use crate::conditions::truth;
-use crate::looking::can_end;
+use crate::finality::can_end;
 use crate::modes::holds;
-use crate::placing::{before, beside, next_to, over, plain, under};
+use crate::placing::{before, beside, next_to, over, under};
 use crate::reaching::reach_of;
-use crate::single::{act_way, test_way};
+use crate::single::{act_move, test_move};
 use golog_semantics::{Mode, Move};
 use golog_tree::{Agent, Arg, Cond, Prog, Truth, put_arg, sort_size};
 use std::alloc::Global;
@@ -29,13 +30,15 @@ pub fn first_move<B: Blocks>(
     requires closed { IsClosed agent.now prog.now }
     requires whole { length values.now ≡ length (ground_fluents agent.now) }
     requires ready { B.ready blocks.now agent.now values.now }
-    ensures { IfOk result
+    ensures first { IfOk result
         (IsFirst agent.now (B.moves blocks.now agent.now values.now) values.now prog.now) }
+    ensures fuel { IfErr result
+        (StopsAt agent.now (B.wants blocks.now agent.now values.now) false prog.now) }
 {
     match prog {
         Prog::Nil => Ok(None),
-        Prog::Act { action, args } => Ok(plain(act_way(agent, *action, args.as_slice(), values))),
-        Prog::Test(cond) => Ok(plain(test_way(agent, cond, values))),
+        Prog::Act { action, args } => Ok(act_move(agent, *action, args.as_slice(), values)),
+        Prog::Test(cond) => Ok(test_move(agent, cond, values)),
         Prog::Seq(one, other) => first_of_seq(alloc, agent, blocks, one.get(), other.get(), values),
         Prog::Choice(one, other) => {
             first_of_choice(alloc, agent, blocks, one.get(), other.get(), values)
@@ -102,9 +105,11 @@ fn first_of_seq<B: Blocks>(
     requires closed { IsClosed agent.now (Prog.Seq one.now other.now) }
     requires whole { length values.now ≡ length (ground_fluents agent.now) }
     requires ready { B.ready blocks.now agent.now values.now }
-    ensures { IfOk result
+    ensures first { IfOk result
         (IsFirst agent.now (B.moves blocks.now agent.now values.now) values.now
         (Prog.Seq one.now other.now)) }
+    ensures fuel { IfErr result
+        (StopsAt agent.now (B.wants blocks.now agent.now values.now) false (Prog.Seq one.now other.now)) }
 {
     match first_move(alloc, agent, blocks, one, values)? {
         Some(found) => before(alloc, Some(found), other),
@@ -131,9 +136,11 @@ fn first_of_choice<B: Blocks>(
     requires closed { IsClosed agent.now (Prog.Choice one.now other.now) }
     requires whole { length values.now ≡ length (ground_fluents agent.now) }
     requires ready { B.ready blocks.now agent.now values.now }
-    ensures { IfOk result
+    ensures first { IfOk result
         (IsFirst agent.now (B.moves blocks.now agent.now values.now) values.now
         (Prog.Choice one.now other.now)) }
+    ensures fuel { IfErr result
+        (StopsAt agent.now (B.wants blocks.now agent.now values.now) false (Prog.Choice one.now other.now)) }
 {
     match first_move(alloc, agent, blocks, one, values)? {
         Some(found) => Ok(Some(found)),
@@ -154,9 +161,11 @@ fn first_of_conc<B: Blocks>(
     requires closed { IsClosed agent.now (Prog.Conc one.now other.now) }
     requires whole { length values.now ≡ length (ground_fluents agent.now) }
     requires ready { B.ready blocks.now agent.now values.now }
-    ensures { IfOk result
+    ensures first { IfOk result
         (IsFirst agent.now (B.moves blocks.now agent.now values.now) values.now
         (Prog.Conc one.now other.now)) }
+    ensures fuel { IfErr result
+        (StopsAt agent.now (B.wants blocks.now agent.now values.now) false (Prog.Conc one.now other.now)) }
 {
     match first_move(alloc, agent, blocks, one, values)? {
         Some(found) => beside(alloc, Some(found), other),
@@ -181,9 +190,11 @@ fn first_of_prio<B: Blocks>(
     requires closed { IsClosed agent.now (Prog.Prio high.now low.now) }
     requires whole { length values.now ≡ length (ground_fluents agent.now) }
     requires ready { B.ready blocks.now agent.now values.now }
-    ensures { IfOk result
+    ensures first { IfOk result
         (IsFirst agent.now (B.moves blocks.now agent.now values.now) values.now
         (Prog.Prio high.now low.now)) }
+    ensures fuel { IfErr result
+        (StopsAt agent.now (B.wants blocks.now agent.now values.now) false (Prog.Prio high.now low.now)) }
 {
     match first_move(alloc, agent, blocks, high, values)? {
         Some(found) => over(alloc, Some(found), low),
@@ -213,9 +224,11 @@ fn first_of_if<B: Blocks>(
     requires closed { IsClosed agent.now (Prog.If cond.now yes.now no.now) }
     requires whole { length values.now ≡ length (ground_fluents agent.now) }
     requires ready { B.ready blocks.now agent.now values.now }
-    ensures { IfOk result
+    ensures first { IfOk result
         (IsFirst agent.now (B.moves blocks.now agent.now values.now) values.now
         (Prog.If cond.now yes.now no.now)) }
+    ensures fuel { IfErr result
+        (StopsAt agent.now (B.wants blocks.now agent.now values.now) false (Prog.If cond.now yes.now no.now)) }
 {
     match truth(agent, cond, values) {
         Truth::Yes => first_move(alloc, agent, blocks, yes, values),
@@ -237,8 +250,10 @@ fn first_of<B: Blocks>(
     requires closed { IsClosed agent.now prog }
     requires whole { length values.now ≡ length (ground_fluents agent.now) }
     requires ready { B.ready blocks.now agent.now values.now }
-    ensures { IfOk result
+    ensures first { IfOk result
         (IsFirst agent.now (B.moves blocks.now agent.now values.now) values.now prog) }
+    ensures fuel { IfErr result
+        (StopsAt agent.now (B.wants blocks.now agent.now values.now) false prog) }
 {
     first_move(alloc, agent, blocks, &prog, values)
 }
@@ -257,9 +272,11 @@ fn first_of_pick<B: Blocks>(
     requires closed { IsClosed agent.now (Prog.Pick var sort body.now) }
     requires whole { length values.now ≡ length (ground_fluents agent.now) }
     requires ready { B.ready blocks.now agent.now values.now }
-    ensures { IfOk result
+    ensures first { IfOk result
         (IsFirst agent.now (B.moves blocks.now agent.now values.now) values.now
         (Prog.Pick var sort body.now)) }
+    ensures fuel { IfErr result
+        (StopsAt agent.now (B.wants blocks.now agent.now values.now) false (Prog.Pick var sort body.now)) }
 {
     for constant in 0..sort_size(agent, sort) {
         let put = put_arg(alloc, body, var, constant as u8)?;
@@ -284,8 +301,10 @@ fn first_of_call<B: Blocks>(
     requires closed { IsClosed agent.now (Prog.Call item args.now) }
     requires whole { length values.now ≡ length (ground_fluents agent.now) }
     requires ready { B.ready blocks.now agent.now values.now }
-    ensures { IfOk result
+    ensures first { IfOk result
         (IsFirst agent.now (B.moves blocks.now agent.now values.now) values.now (Prog.Call item args.now)) }
+    ensures fuel { IfErr result
+        (StopsAt agent.now (B.wants blocks.now agent.now values.now) false (Prog.Call item args.now)) }
 {
     let body = body_of(alloc, agent, item, args)?;
     first_of(alloc, agent, blocks, body, values)

@@ -1,27 +1,13 @@
 ghost use Rattle.std.specs.Prelude.{◌≡◌, IfOk, IfErr};
 ghost use Rattle.golog_tree.specs.Tidy.{tidy_seq, tidy_conc, tidy_prio};
 ghost use Rattle.golog_ways.specs.Context.{placed};
-ghost use Rattle.golog_ways.specs.FirstMove.{moved_in, plain};
+ghost use Rattle.golog_ways.specs.FirstMove.{moved_in};
 
 use crate::answering::Stop;
 use crate::context::{Place, put_at};
 use golog_semantics::Move;
-use golog_tree::{Prog, Way};
+use golog_tree::Prog;
 use std::alloc::Global;
-
-/// The step as one that begins no run of a block.
-pub fn plain(way: Option<Way>) -> Option<Move>
-    ensures { result ≡ plain way }
-{
-    match way {
-        None => None,
-        Some(Way { label, left }) => Some(Move {
-            label,
-            left,
-            run: None,
-        }),
-    }
-}
 
 /// The step, with what it leaves at its place beside the other program.
 fn at_place(

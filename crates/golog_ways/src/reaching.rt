@@ -1,15 +1,15 @@
-ghost use Rattle.std.specs.Prelude.{◌≡◌, IfOk, IfErr, length};
+ghost use Rattle.std.specs.Prelude.{◌≡◌, true, IfOk, IfErr, length};
 ghost use Rattle.golog_tree.specs.Ground.{ground_fluents};
 ghost use Rattle.golog_ways.specs.Closed.{IsFit, IsClosed};
-ghost use Rattle.golog_ways.specs.Lacking.{StopsAt, StopsAtEither, wants_any};
-ghost use Rattle.golog_ways.specs.Reach.{IsReach, IsReachWhere, AreReaches};
+ghost use Rattle.golog_ways.specs.Lacking.{StopsAt, StopsAtEither};
+ghost use Rattle.golog_ways.specs.Reach.{IsReach, IsReachOfEither, IsReachOr};
 
 use crate::answering::{Blocks, Stop};
 use crate::bodies::body_of;
 use crate::conditions::{precondition, truth};
-use crate::looking::outlook;
+use crate::finality::ends_of;
 use crate::modes::holds;
-use crate::reaches::Reach;
+use crate::reaches::{NOWHERE, Reach};
 use golog_known::negation;
 use golog_semantics::Mode;
 use golog_tree::{Agent, Arg, Cond, Prog, Truth, put_arg, sort_size};
@@ -32,10 +32,10 @@ pub fn reach_of<B: Blocks>(
     ensures reach { IfOk result
         (IsReach agent.now (B.moves blocks.now agent.now values.now) values.now prog.now) }
     ensures fuel { IfErr result
-        (StopsAt agent.now (wants_any (B.wants blocks.now agent.now values.now)) prog.now) }
+        (StopsAt agent.now (B.wants blocks.now agent.now values.now) true prog.now) }
 {
     match prog {
-        Prog::Nil => Ok(Reach::No),
+        Prog::Nil => Ok(NOWHERE),
         Prog::Act { action, args } => {
             Ok(Reach::of(precondition(agent, *action, args.as_slice(), values)))
         }
@@ -44,17 +44,12 @@ pub fn reach_of<B: Blocks>(
             reach_of_seq(alloc, agent, blocks, one.get(), other.get(), values)
         }
         Prog::Choice(one, other) => {
-            let (one, other) = both_reaches(alloc, agent, blocks, one.get(), other.get(), values)?;
-            Ok(one.or(other))
+            reach_of_either(alloc, agent, blocks, one.get(), other.get(), values)
         }
         Prog::Conc(one, other) => {
-            let (one, other) = both_reaches(alloc, agent, blocks, one.get(), other.get(), values)?;
-            Ok(one.or(other))
+            reach_of_either(alloc, agent, blocks, one.get(), other.get(), values)
         }
-        Prog::Prio(high, low) => {
-            let (high, low) = both_reaches(alloc, agent, blocks, high.get(), low.get(), values)?;
-            Ok(high.over(low))
-        }
+        Prog::Prio(high, low) => reach_of_prio(alloc, agent, blocks, high.get(), low.get(), values),
         Prog::Star(body) => reach_of(alloc, agent, blocks, body.get(), values),
         Prog::Cstar(body) => reach_of(alloc, agent, blocks, body.get(), values),
         Prog::If { cond, yes, no } => {
@@ -89,32 +84,60 @@ pub fn reach_of<B: Blocks>(
     }
 }
 
+/// In which modes one of two programs has a step. Where the first certainly has one, the second isn't asked.
 #[cycle(reach)]
-fn both_reaches<B: Blocks>(
+fn reach_of_either<B: Blocks>(
     alloc: Global,
     agent: &Agent,
     blocks: &B,
     one: &Prog,
     other: &Prog,
     values: &[u8],
-) -> Result<(Reach, Reach), Stop>
+) -> Result<Reach, Stop>
     requires fit { IsFit agent.now }
     requires one { IsClosed agent.now one.now }
     requires other { IsClosed agent.now other.now }
     requires whole { length values.now ≡ length (ground_fluents agent.now) }
     requires ready { B.ready blocks.now agent.now values.now }
     ensures reach { IfOk result
-        (λ pair. AreReaches agent.now (B.moves blocks.now agent.now values.now) values.now
-        one.now other.now pair.0 pair.1) }
+        (IsReachOfEither agent.now (B.moves blocks.now agent.now values.now) values.now one.now other.now) }
     ensures fuel { IfErr result
-        (StopsAtEither agent.now (wants_any (B.wants blocks.now agent.now values.now)) one.now other.now) }
+        (StopsAtEither agent.now (B.wants blocks.now agent.now values.now) true one.now other.now) }
 {
-    let one = reach_of(alloc, agent, blocks, one, values)?;
-    let other = reach_of(alloc, agent, blocks, other, values)?;
-    Ok((one, other))
+    let reach = reach_of(alloc, agent, blocks, one, values)?;
+    reach_or(alloc, agent, blocks, reach, Truth::Yes, other, values)
 }
 
-/// Where the first part can't end, the second isn't looked at.
+/// Where the higher part has a near step and a possible one, the lower part isn't asked.
+#[cycle(reach)]
+fn reach_of_prio<B: Blocks>(
+    alloc: Global,
+    agent: &Agent,
+    blocks: &B,
+    high: &Prog,
+    low: &Prog,
+    values: &[u8],
+) -> Result<Reach, Stop>
+    requires fit { IsFit agent.now }
+    requires closed { IsClosed agent.now (Prog.Prio high.now low.now) }
+    requires whole { length values.now ≡ length (ground_fluents agent.now) }
+    requires ready { B.ready blocks.now agent.now values.now }
+    ensures reach { IfOk result
+        (IsReach agent.now (B.moves blocks.now agent.now values.now) values.now
+        (Prog.Prio high.now low.now)) }
+    ensures fuel { IfErr result
+        (StopsAt agent.now (B.wants blocks.now agent.now values.now) true (Prog.Prio high.now low.now)) }
+{
+    let high = reach_of(alloc, agent, blocks, high, values)?;
+    if high.is_settled(Truth::Unknown) {
+        Ok(high)
+    } else {
+        let low = reach_of(alloc, agent, blocks, low, values)?;
+        Ok(high.over(low))
+    }
+}
+
+/// Where the first part can't end, or certainly has a step, the second isn't asked.
 #[cycle(reach)]
 fn reach_of_seq<B: Blocks>(
     alloc: Global,
@@ -132,25 +155,29 @@ fn reach_of_seq<B: Blocks>(
         (IsReach agent.now (B.moves blocks.now agent.now values.now) values.now
         (Prog.Seq one.now other.now)) }
     ensures fuel { IfErr result
-        (StopsAt agent.now (wants_any (B.wants blocks.now agent.now values.now))
+        (StopsAt agent.now (B.wants blocks.now agent.now values.now) true
         (Prog.Seq one.now other.now)) }
 {
-    let ends = outlook(alloc, agent, one, values)?.ends;
-    let one = reach_of(alloc, agent, blocks, one, values)?;
+    let reach = reach_of(alloc, agent, blocks, one, values)?;
+    if reach.is_settled(Truth::Yes) {
+        return Ok(reach);
+    }
+    let ends = ends_of(alloc, agent, one, values)?;
     if holds(Mode::May, ends) {
-        let other = reach_of(alloc, agent, blocks, other, values)?;
-        Ok(one.or(other.where_holds(ends)))
+        reach_or(alloc, agent, blocks, reach, ends, other, values)
     } else {
-        Ok(one)
+        Ok(reach)
     }
 }
 
-/// The reach of a program where a condition of this truth holds.
+/// The reach so far, together with that of a program where a condition of this truth holds. The program isn't
+/// asked where nothing comes of it.
 #[cycle(reach)]
-fn reach_where<B: Blocks>(
+fn reach_or<B: Blocks>(
     alloc: Global,
     agent: &Agent,
     blocks: &B,
+    so_far: Reach,
     truth: Truth,
     prog: &Prog,
     values: &[u8],
@@ -160,15 +187,15 @@ fn reach_where<B: Blocks>(
     requires whole { length values.now ≡ length (ground_fluents agent.now) }
     requires ready { B.ready blocks.now agent.now values.now }
     ensures reach { IfOk result
-        (IsReachWhere agent.now (B.moves blocks.now agent.now values.now) values.now truth prog.now) }
+        (IsReachOr agent.now (B.moves blocks.now agent.now values.now) values.now so_far truth prog.now) }
     ensures fuel { IfErr result
-        (StopsAt agent.now (wants_any (B.wants blocks.now agent.now values.now)) prog.now) }
+        (StopsAt agent.now (B.wants blocks.now agent.now values.now) true prog.now) }
 {
-    if holds(Mode::May, truth) {
-        let reach = reach_of(alloc, agent, blocks, prog, values)?;
-        Ok(reach.where_holds(truth))
+    if so_far.is_settled(truth) {
+        Ok(so_far)
     } else {
-        Ok(Reach::No)
+        let reach = reach_of(alloc, agent, blocks, prog, values)?;
+        Ok(so_far.or(reach.where_holds(truth)))
     }
 }
 
@@ -190,13 +217,12 @@ fn reach_of_if<B: Blocks>(
         (IsReach agent.now (B.moves blocks.now agent.now values.now) values.now
         (Prog.If cond.now yes.now no.now)) }
     ensures fuel { IfErr result
-        (StopsAt agent.now (wants_any (B.wants blocks.now agent.now values.now))
+        (StopsAt agent.now (B.wants blocks.now agent.now values.now) true
         (Prog.If cond.now yes.now no.now)) }
 {
     let is_so = truth(agent, cond, values);
-    let yes = reach_where(alloc, agent, blocks, is_so, yes, values)?;
-    let no = reach_where(alloc, agent, blocks, negation(is_so), no, values)?;
-    Ok(yes.or(no))
+    let yes = reach_or(alloc, agent, blocks, NOWHERE, is_so, yes, values)?;
+    reach_or(alloc, agent, blocks, yes, negation(is_so), no, values)
 }
 
 #[cycle(reach)]
@@ -216,11 +242,11 @@ fn reach_of_while<B: Blocks>(
         (IsReach agent.now (B.moves blocks.now agent.now values.now) values.now
         (Prog.While cond.now body.now)) }
     ensures fuel { IfErr result
-        (StopsAt agent.now (wants_any (B.wants blocks.now agent.now values.now))
+        (StopsAt agent.now (B.wants blocks.now agent.now values.now) true
         (Prog.While cond.now body.now)) }
 {
     let is_so = truth(agent, cond, values);
-    reach_where(alloc, agent, blocks, is_so, body, values)
+    reach_or(alloc, agent, blocks, NOWHERE, is_so, body, values)
 }
 
 /// The reach of a program that is not needed any more.
@@ -239,7 +265,7 @@ fn reach_of_put<B: Blocks>(
     ensures reach { IfOk result
         (IsReach agent.now (B.moves blocks.now agent.now values.now) values.now prog) }
     ensures fuel { IfErr result
-        (StopsAt agent.now (wants_any (B.wants blocks.now agent.now values.now)) prog) }
+        (StopsAt agent.now (B.wants blocks.now agent.now values.now) true prog) }
 {
     reach_of(alloc, agent, blocks, &prog, values)
 }
@@ -262,14 +288,17 @@ fn reach_of_pick<B: Blocks>(
         (IsReach agent.now (B.moves blocks.now agent.now values.now) values.now
         (Prog.Pick var sort body.now)) }
     ensures fuel { IfErr result
-        (StopsAt agent.now (wants_any (B.wants blocks.now agent.now values.now))
+        (StopsAt agent.now (B.wants blocks.now agent.now values.now) true
         (Prog.Pick var sort body.now)) }
 {
-    let mut some = Reach::No;
+    let mut some = NOWHERE;
     for constant in 0..sort_size(agent, sort) {
         let put = put_arg(alloc, body, var, constant as u8)?;
         let one = reach_of_put(alloc, agent, blocks, put, values)?;
         some = some.or(one);
+        if some.is_settled(Truth::Yes) {
+            return Ok(some);
+        }
     }
     Ok(some)
 }
@@ -290,7 +319,7 @@ fn reach_of_call<B: Blocks>(
     ensures reach { IfOk result
         (IsReach agent.now (B.moves blocks.now agent.now values.now) values.now (Prog.Call item args.now)) }
     ensures fuel { IfErr result
-        (StopsAt agent.now (wants_any (B.wants blocks.now agent.now values.now)) (Prog.Call item args.now)) }
+        (StopsAt agent.now (B.wants blocks.now agent.now values.now) true (Prog.Call item args.now)) }
 {
     let body = body_of(alloc, agent, item, args)?;
     reach_of_put(alloc, agent, blocks, body, values)

@@ -8,8 +8,9 @@ ghost use Rattle.golog_ways.specs.First.{first_way, has_way};
 
 use crate::answering::{Blocks, Stop};
 use crate::moving::first_move;
-use crate::reaches::Reach;
+use crate::reaches::{NOWHERE, Reach};
 use crate::reaching::reach_of;
+use golog_base::NoMemory;
 use golog_semantics::{Mode, Move};
 use golog_tree::{Agent, Prog, Way};
 use std::alloc::Global;
@@ -48,7 +49,14 @@ impl Blocks for NoBlocks {
         _body: &Prog,
         _rest: &[Way],
     ) -> Result<Reach, Stop> {
-        Ok(Reach::No)
+        Ok(NOWHERE)
+    }
+}
+
+/// What an answer wanted where no block wants fuel.
+fn wanted(stop: Stop) -> NoMemory {
+    match stop {
+        Stop::Memory | Stop::Fuel => NoMemory,
     }
 }
 
@@ -68,14 +76,16 @@ pub fn first_without(
     agent: &Agent,
     prog: &Prog,
     values: &[u8],
-) -> Result<Option<Way>, Stop>
+) -> Result<Option<Way>, NoMemory>
     requires fit { IsFit agent.now }
     requires closed { IsClosed agent.now prog.now }
     requires whole { length values.now ≡ length (ground_fluents agent.now) }
     ensures { IfOk result (λ w. w ≡ first_way agent.now values.now prog.now) }
 {
-    let found = first_move(alloc, agent, &NoBlocks, prog, values)?;
-    Ok(way(found))
+    match first_move(alloc, agent, &NoBlocks, prog, values) {
+        Ok(found) => Ok(way(found)),
+        Err(stop) => Err(wanted(stop)),
+    }
 }
 
 /// Whether a program has a step in the mode, where no block has one.
@@ -85,12 +95,14 @@ pub fn any_without(
     mode: Mode,
     prog: &Prog,
     values: &[u8],
-) -> Result<bool, Stop>
+) -> Result<bool, NoMemory>
     requires fit { IsFit agent.now }
     requires closed { IsClosed agent.now prog.now }
     requires whole { length values.now ≡ length (ground_fluents agent.now) }
     ensures { IfOk result (λ b. b ≡ has_way agent.now values.now mode prog.now) }
 {
-    let reach = reach_of(alloc, agent, &NoBlocks, prog, values)?;
-    Ok(reach.holds_in(mode))
+    match reach_of(alloc, agent, &NoBlocks, prog, values) {
+        Ok(reach) => Ok(reach.holds_in(mode)),
+        Err(stop) => Err(wanted(stop)),
+    }
 }

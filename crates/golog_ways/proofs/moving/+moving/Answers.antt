@@ -1,7 +1,9 @@
-use Rattle.std.proofs.Common.{◌≡◌, ◌+◌, ◌*◌, ◌<◌, Option, None, true, false, refl, sym, ap, ◌∙◌, rules, arith}
+use Rattle.std.proofs.Common.{◌≡◌, ◌+◌, ◌*◌, ◌<◌, Option, None, true, false, inl, inr, refl, sym, ap, ◌∙◌, subst, rules, arith}
 use Rattle.golog_tree.specs.declared.cond.Truth.TheVariants.{Yes, No, Unknown}
 use Rattle.golog_tree.specs.declared.prog.Prog.{Prog}
+use Rattle.golog_tree.specs.declared.prog.Prog.TheOpen.{Choice, Star, If, While, Conc, Cstar, Call, Search, Follow}
 use Rattle.golog_tree.specs.declared.prog.Prog.TheVariants as prog
+use Rattle.golog_tree.specs.declared.prog.Prog.TheViews.{out-Prog}
 use Rattle.golog_semantics.specs.declared.search.Move.{Move}
 use Rattle.golog_tree.specs.Ground.{sort_size}
 use Rattle.golog_tree.specs.Tidy.{tidy_seq, tidy_conc, tidy_prio}
@@ -10,25 +12,27 @@ use Rattle.golog_semantics.specs.Guarded.{front}
 use Rattle.golog_semantics.specs.Program.{put_arg, body_of}
 use Rattle.golog_semantics.specs.Search.{final}
 use Rattle.golog_semantics.proofs.Unfolded.{final-skips}
-use Rattle.golog_ways.specs.FirstMove.{first_move, moved_in, plain}
+use Rattle.golog_ways.specs.FirstMove.{first_move, moved_in}
 use Rattle.golog_ways.specs.Reach.{has_move}
+use Rattle.golog_ways.specs.Lacking.{Lacks}
+use Rattle.golog_ways.proofs.Lackings.{part_lacks, parts_lack, stops_as, stops_above, stops_from, memory_stops, must_stops, seq_one, seq_other, pick_lacks, prio_high, prio_low, lacks_higher}
 use Rattle.golog_ways.proofs.BlockParts.{search_begins}
 use Rattle.golog_ways.proofs.Closing.{choice_parts, conc_parts, prio_parts, seq_parts, star_part, cstar_part, if_parts, while_parts, pick_part, call_part, call_few}
-use Rattle.golog_ways.proofs.MoveSteps.{move_as, act_plain, test_plain, nil_first, search_first, follow_first, seq_first, seq_second, seq_neither, choice_first, choice_second, conc_first, conc_second, prio_first, prio_kept, prio_second, if_first, star_first, cstar_first, while_first, while_none, call_first, pick_from, pick_here, pick_next, pick_none}
+use Rattle.golog_ways.proofs.MoveSteps.{move_as, nil_first, search_first, follow_first, seq_first, seq_second, seq_neither, choice_first, choice_second, conc_first, conc_second, prio_first, prio_kept, prio_second, if_first, star_first, cstar_first, while_first, while_none, call_first, pick_from, pick_here, pick_next, pick_none}
 use Rattle.golog_ways.proofs.Moved.{one_same, two_same, closed_as}
 use Rattle.golog_ways.proofs.moving.+moving.Goals as goal
 
-pub first_move-act_way-requires-clause-closed : goal.first_move-act_way-requires-clause-closed
-first_move-act_way-requires-clause-closed g t c =
+pub first_move-act_move-requires-clause-closed : goal.first_move-act_move-requires-clause-closed
+first_move-act_move-requires-clause-closed g t c =
     let e = c.in-Act.is ∙ ap (prog.Act c.in-Act.action) (sym c.as_slice.ensures) in
     closed_as c.args.agent.now c.args.prog.now (prog.Act c.in-Act.action c.as_slice.result.now) e c.requires.closed
 
-pub first_move-test_way-requires-clause-closed : goal.first_move-test_way-requires-clause-closed
-first_move-test_way-requires-clause-closed g t c =
+pub first_move-test_move-requires-clause-closed : goal.first_move-test_move-requires-clause-closed
+first_move-test_move-requires-clause-closed g t c =
     closed_as c.args.agent.now c.args.prog.now (prog.Test c.in-Test.cond) c.in-Test.is c.requires.closed
 
-pub first_move-returns-in-Nil : goal.first_move-returns-in-Nil
-first_move-returns-in-Nil g t c =
+pub first_move-returns-in-Nil-clause-first : goal.first_move-returns-in-Nil-clause-first
+first_move-returns-in-Nil-clause-first g t c =
     sym (ap (first_move c.args.agent.now (g.B.Blocks.moves c.args.blocks.now c.args.agent.now c.args.values.now) c.args.values.now) c.in-Nil.is ∙ nil_first c.args.agent.now (g.B.Blocks.moves c.args.blocks.now c.args.agent.now c.args.values.now) c.args.values.now c.requires.fit.guarded)
 
 pub first_move-first_of_seq-requires : goal.first_move-first_of_seq-requires
@@ -41,12 +45,12 @@ first_move-first_of_seq-requires g t c κs within =
     let low : 3 * (front c.args.agent.now (prog.Seq a b)).height < 1 + 3 * (front c.args.agent.now c.args.prog.now).height = omega arith in
     search rules
 
-pub first_move-returns-in-Seq : goal.first_move-returns-in-Seq
-first_move-returns-in-Seq g t c =
+pub first_move-returns-in-Seq-clause-first : goal.first_move-returns-in-Seq-clause-first
+first_move-returns-in-Seq-clause-first g t c =
     let a = c.get.result.now in
     let b = c.get-in-Seq.result.now in
     let e = two_same (prog.Seq) c.args.prog.now c.in-Seq.one c.in-Seq.other a b c.in-Seq.is c.get.ensures c.get-in-Seq.ensures in
-    move_as c.first_of_seq.result (first_move c.args.agent.now (g.B.Blocks.moves c.args.blocks.now c.args.agent.now c.args.values.now) c.args.values.now (prog.Seq a b)) (first_move c.args.agent.now (g.B.Blocks.moves c.args.blocks.now c.args.agent.now c.args.values.now) c.args.values.now c.args.prog.now) (ap (first_move c.args.agent.now (g.B.Blocks.moves c.args.blocks.now c.args.agent.now c.args.values.now) c.args.values.now) (sym e)) c.first_of_seq.ensures
+    move_as c.first_of_seq.result (first_move c.args.agent.now (g.B.Blocks.moves c.args.blocks.now c.args.agent.now c.args.values.now) c.args.values.now (prog.Seq a b)) (first_move c.args.agent.now (g.B.Blocks.moves c.args.blocks.now c.args.agent.now c.args.values.now) c.args.values.now c.args.prog.now) (ap (first_move c.args.agent.now (g.B.Blocks.moves c.args.blocks.now c.args.agent.now c.args.values.now) c.args.values.now) (sym e)) c.first_of_seq.ensures.first
 
 pub first_move-first_of_choice-requires : goal.first_move-first_of_choice-requires
 first_move-first_of_choice-requires g t c κs within =
@@ -58,12 +62,12 @@ first_move-first_of_choice-requires g t c κs within =
     let low : 3 * (front c.args.agent.now (prog.Choice a b)).height < 1 + 3 * (front c.args.agent.now c.args.prog.now).height = omega arith in
     search rules
 
-pub first_move-returns-in-Choice : goal.first_move-returns-in-Choice
-first_move-returns-in-Choice g t c =
+pub first_move-returns-in-Choice-clause-first : goal.first_move-returns-in-Choice-clause-first
+first_move-returns-in-Choice-clause-first g t c =
     let a = c.get-in-Choice.result.now in
     let b = c.get-in-Choice-2.result.now in
     let e = two_same (prog.Choice) c.args.prog.now c.in-Choice.one c.in-Choice.other a b c.in-Choice.is c.get-in-Choice.ensures c.get-in-Choice-2.ensures in
-    move_as c.first_of_choice.result (first_move c.args.agent.now (g.B.Blocks.moves c.args.blocks.now c.args.agent.now c.args.values.now) c.args.values.now (prog.Choice a b)) (first_move c.args.agent.now (g.B.Blocks.moves c.args.blocks.now c.args.agent.now c.args.values.now) c.args.values.now c.args.prog.now) (ap (first_move c.args.agent.now (g.B.Blocks.moves c.args.blocks.now c.args.agent.now c.args.values.now) c.args.values.now) (sym e)) c.first_of_choice.ensures
+    move_as c.first_of_choice.result (first_move c.args.agent.now (g.B.Blocks.moves c.args.blocks.now c.args.agent.now c.args.values.now) c.args.values.now (prog.Choice a b)) (first_move c.args.agent.now (g.B.Blocks.moves c.args.blocks.now c.args.agent.now c.args.values.now) c.args.values.now c.args.prog.now) (ap (first_move c.args.agent.now (g.B.Blocks.moves c.args.blocks.now c.args.agent.now c.args.values.now) c.args.values.now) (sym e)) c.first_of_choice.ensures.first
 
 pub first_move-first_of_conc-requires : goal.first_move-first_of_conc-requires
 first_move-first_of_conc-requires g t c κs within =
@@ -75,12 +79,12 @@ first_move-first_of_conc-requires g t c κs within =
     let low : 3 * (front c.args.agent.now (prog.Conc a b)).height < 1 + 3 * (front c.args.agent.now c.args.prog.now).height = omega arith in
     search rules
 
-pub first_move-returns-in-Conc : goal.first_move-returns-in-Conc
-first_move-returns-in-Conc g t c =
+pub first_move-returns-in-Conc-clause-first : goal.first_move-returns-in-Conc-clause-first
+first_move-returns-in-Conc-clause-first g t c =
     let a = c.get-in-Conc.result.now in
     let b = c.get-in-Conc-2.result.now in
     let e = two_same (prog.Conc) c.args.prog.now c.in-Conc.one c.in-Conc.other a b c.in-Conc.is c.get-in-Conc.ensures c.get-in-Conc-2.ensures in
-    move_as c.first_of_conc.result (first_move c.args.agent.now (g.B.Blocks.moves c.args.blocks.now c.args.agent.now c.args.values.now) c.args.values.now (prog.Conc a b)) (first_move c.args.agent.now (g.B.Blocks.moves c.args.blocks.now c.args.agent.now c.args.values.now) c.args.values.now c.args.prog.now) (ap (first_move c.args.agent.now (g.B.Blocks.moves c.args.blocks.now c.args.agent.now c.args.values.now) c.args.values.now) (sym e)) c.first_of_conc.ensures
+    move_as c.first_of_conc.result (first_move c.args.agent.now (g.B.Blocks.moves c.args.blocks.now c.args.agent.now c.args.values.now) c.args.values.now (prog.Conc a b)) (first_move c.args.agent.now (g.B.Blocks.moves c.args.blocks.now c.args.agent.now c.args.values.now) c.args.values.now c.args.prog.now) (ap (first_move c.args.agent.now (g.B.Blocks.moves c.args.blocks.now c.args.agent.now c.args.values.now) c.args.values.now) (sym e)) c.first_of_conc.ensures.first
 
 pub first_move-first_of_prio-requires : goal.first_move-first_of_prio-requires
 first_move-first_of_prio-requires g t c κs within =
@@ -92,12 +96,12 @@ first_move-first_of_prio-requires g t c κs within =
     let low : 3 * (front c.args.agent.now (prog.Prio a b)).height < 1 + 3 * (front c.args.agent.now c.args.prog.now).height = omega arith in
     search rules
 
-pub first_move-returns-in-Prio : goal.first_move-returns-in-Prio
-first_move-returns-in-Prio g t c =
+pub first_move-returns-in-Prio-clause-first : goal.first_move-returns-in-Prio-clause-first
+first_move-returns-in-Prio-clause-first g t c =
     let a = c.get-in-Prio.result.now in
     let b = c.get-in-Prio-2.result.now in
     let e = two_same (prog.Prio) c.args.prog.now c.in-Prio.high c.in-Prio.low a b c.in-Prio.is c.get-in-Prio.ensures c.get-in-Prio-2.ensures in
-    move_as c.first_of_prio.result (first_move c.args.agent.now (g.B.Blocks.moves c.args.blocks.now c.args.agent.now c.args.values.now) c.args.values.now (prog.Prio a b)) (first_move c.args.agent.now (g.B.Blocks.moves c.args.blocks.now c.args.agent.now c.args.values.now) c.args.values.now c.args.prog.now) (ap (first_move c.args.agent.now (g.B.Blocks.moves c.args.blocks.now c.args.agent.now c.args.values.now) c.args.values.now) (sym e)) c.first_of_prio.ensures
+    move_as c.first_of_prio.result (first_move c.args.agent.now (g.B.Blocks.moves c.args.blocks.now c.args.agent.now c.args.values.now) c.args.values.now (prog.Prio a b)) (first_move c.args.agent.now (g.B.Blocks.moves c.args.blocks.now c.args.agent.now c.args.values.now) c.args.values.now c.args.prog.now) (ap (first_move c.args.agent.now (g.B.Blocks.moves c.args.blocks.now c.args.agent.now c.args.values.now) c.args.values.now) (sym e)) c.first_of_prio.ensures.first
 
 pub first_move-first_of_if-requires : goal.first_move-first_of_if-requires
 first_move-first_of_if-requires g t c κs within =
@@ -109,12 +113,12 @@ first_move-first_of_if-requires g t c κs within =
     let low : 3 * (front c.args.agent.now (prog.If c.in-If.cond a b)).height < 1 + 3 * (front c.args.agent.now c.args.prog.now).height = omega arith in
     search rules
 
-pub first_move-returns-in-If : goal.first_move-returns-in-If
-first_move-returns-in-If g t c =
+pub first_move-returns-in-If-clause-first : goal.first_move-returns-in-If-clause-first
+first_move-returns-in-If-clause-first g t c =
     let a = c.get-in-If.result.now in
     let b = c.get-in-If-2.result.now in
     let e = two_same (prog.If c.in-If.cond) c.args.prog.now c.in-If.yes c.in-If.no a b c.in-If.is c.get-in-If.ensures c.get-in-If-2.ensures in
-    move_as c.first_of_if.result (first_move c.args.agent.now (g.B.Blocks.moves c.args.blocks.now c.args.agent.now c.args.values.now) c.args.values.now (prog.If c.in-If.cond a b)) (first_move c.args.agent.now (g.B.Blocks.moves c.args.blocks.now c.args.agent.now c.args.values.now) c.args.values.now c.args.prog.now) (ap (first_move c.args.agent.now (g.B.Blocks.moves c.args.blocks.now c.args.agent.now c.args.values.now) c.args.values.now) (sym e)) c.first_of_if.ensures
+    move_as c.first_of_if.result (first_move c.args.agent.now (g.B.Blocks.moves c.args.blocks.now c.args.agent.now c.args.values.now) c.args.values.now (prog.If c.in-If.cond a b)) (first_move c.args.agent.now (g.B.Blocks.moves c.args.blocks.now c.args.agent.now c.args.values.now) c.args.values.now c.args.prog.now) (ap (first_move c.args.agent.now (g.B.Blocks.moves c.args.blocks.now c.args.agent.now c.args.values.now) c.args.values.now) (sym e)) c.first_of_if.ensures.first
 
 pub first_move-first_of_pick-requires : goal.first_move-first_of_pick-requires
 first_move-first_of_pick-requires g t c κs within =
@@ -125,11 +129,11 @@ first_move-first_of_pick-requires g t c κs within =
     let low : 3 * (front c.args.agent.now (prog.Pick c.in-Pick.var c.in-Pick.sort a)).height < 1 + 3 * (front c.args.agent.now c.args.prog.now).height = omega arith in
     search rules
 
-pub first_move-returns-in-Pick : goal.first_move-returns-in-Pick
-first_move-returns-in-Pick g t c =
+pub first_move-returns-in-Pick-clause-first : goal.first_move-returns-in-Pick-clause-first
+first_move-returns-in-Pick-clause-first g t c =
     let a = c.get-in-Pick.result.now in
     let e = one_same (prog.Pick c.in-Pick.var c.in-Pick.sort) c.args.prog.now c.in-Pick.body a c.in-Pick.is c.get-in-Pick.ensures in
-    move_as c.first_of_pick.result (first_move c.args.agent.now (g.B.Blocks.moves c.args.blocks.now c.args.agent.now c.args.values.now) c.args.values.now (prog.Pick c.in-Pick.var c.in-Pick.sort a)) (first_move c.args.agent.now (g.B.Blocks.moves c.args.blocks.now c.args.agent.now c.args.values.now) c.args.values.now c.args.prog.now) (ap (first_move c.args.agent.now (g.B.Blocks.moves c.args.blocks.now c.args.agent.now c.args.values.now) c.args.values.now) (sym e)) c.first_of_pick.ensures
+    move_as c.first_of_pick.result (first_move c.args.agent.now (g.B.Blocks.moves c.args.blocks.now c.args.agent.now c.args.values.now) c.args.values.now (prog.Pick c.in-Pick.var c.in-Pick.sort a)) (first_move c.args.agent.now (g.B.Blocks.moves c.args.blocks.now c.args.agent.now c.args.values.now) c.args.values.now c.args.prog.now) (ap (first_move c.args.agent.now (g.B.Blocks.moves c.args.blocks.now c.args.agent.now c.args.values.now) c.args.values.now) (sym e)) c.first_of_pick.ensures.first
 
 pub first_move-first_of_call-requires : goal.first_move-first_of_call-requires
 first_move-first_of_call-requires g t c κs within =
@@ -140,11 +144,11 @@ first_move-first_of_call-requires g t c κs within =
     let low : 3 * (front c.args.agent.now (prog.Call c.in-Call.item a)).height < 1 + 3 * (front c.args.agent.now c.args.prog.now).height = omega arith in
     search rules
 
-pub first_move-returns-in-Call : goal.first_move-returns-in-Call
-first_move-returns-in-Call g t c =
+pub first_move-returns-in-Call-clause-first : goal.first_move-returns-in-Call-clause-first
+first_move-returns-in-Call-clause-first g t c =
     let a = c.as_slice-in-Call.result.now in
     let e = c.in-Call.is ∙ ap (prog.Call c.in-Call.item) (sym c.as_slice-in-Call.ensures) in
-    move_as c.first_of_call.result (first_move c.args.agent.now (g.B.Blocks.moves c.args.blocks.now c.args.agent.now c.args.values.now) c.args.values.now (prog.Call c.in-Call.item a)) (first_move c.args.agent.now (g.B.Blocks.moves c.args.blocks.now c.args.agent.now c.args.values.now) c.args.values.now c.args.prog.now) (ap (first_move c.args.agent.now (g.B.Blocks.moves c.args.blocks.now c.args.agent.now c.args.values.now) c.args.values.now) (sym e)) c.first_of_call.ensures
+    move_as c.first_of_call.result (first_move c.args.agent.now (g.B.Blocks.moves c.args.blocks.now c.args.agent.now c.args.values.now) c.args.values.now (prog.Call c.in-Call.item a)) (first_move c.args.agent.now (g.B.Blocks.moves c.args.blocks.now c.args.agent.now c.args.values.now) c.args.values.now c.args.prog.now) (ap (first_move c.args.agent.now (g.B.Blocks.moves c.args.blocks.now c.args.agent.now c.args.values.now) c.args.values.now) (sym e)) c.first_of_call.ensures.first
 
 pub first_move-first_move-requires : goal.first_move-first_move-requires
 first_move-first_move-requires g t c κs within =
@@ -156,11 +160,11 @@ first_move-first_move-requires g t c κs within =
     let low : 1 + 3 * (front c.args.agent.now a).height < 1 + 3 * (front c.args.agent.now c.args.prog.now).height = omega arith in
     search rules
 
-pub first_move-returns-in_ok-found-in-Star : goal.first_move-returns-in_ok-found-in-Star
-first_move-returns-in_ok-found-in-Star g t c =
+pub first_move-returns-in_ok-found-in-Star-clause-first : goal.first_move-returns-in_ok-found-in-Star-clause-first
+first_move-returns-in_ok-found-in-Star-clause-first g t c =
     let a = c.get-in-Star.result.now in
     let e = one_same (prog.Star) c.args.prog.now c.in-Star.body a c.in-Star.is c.get-in-Star.ensures in
-    let is = ap (λ (w : Option Move). moved_in (λ l. tidy_seq l c.args.prog.now) w) c.in_ok-found-in-Star.ensures ∙ sym (star_first c.args.agent.now (g.B.Blocks.moves c.args.blocks.now c.args.agent.now c.args.values.now) c.args.values.now c.requires.fit.guarded c.args.prog.now a e) in
+    let is = ap (λ (w : Option Move). moved_in (λ l. tidy_seq l c.args.prog.now) w) c.in_ok-found-in-Star.ensures.first ∙ sym (star_first c.args.agent.now (g.B.Blocks.moves c.args.blocks.now c.args.agent.now c.args.values.now) c.args.values.now c.requires.fit.guarded c.args.prog.now a e) in
     move_as c.before-in-Star.result (moved_in (λ l. tidy_seq l c.args.prog.now) c.in_ok-found-in-Star.found) (first_move c.args.agent.now (g.B.Blocks.moves c.args.blocks.now c.args.agent.now c.args.values.now) c.args.values.now c.args.prog.now) is c.before-in-Star.ensures.left
 
 pub first_move-first_move-requires-in-Cstar : goal.first_move-first_move-requires-in-Cstar
@@ -173,11 +177,11 @@ first_move-first_move-requires-in-Cstar g t c κs within =
     let low : 1 + 3 * (front c.args.agent.now a).height < 1 + 3 * (front c.args.agent.now c.args.prog.now).height = omega arith in
     search rules
 
-pub first_move-returns-in_ok-found-in-Cstar : goal.first_move-returns-in_ok-found-in-Cstar
-first_move-returns-in_ok-found-in-Cstar g t c =
+pub first_move-returns-in_ok-found-in-Cstar-clause-first : goal.first_move-returns-in_ok-found-in-Cstar-clause-first
+first_move-returns-in_ok-found-in-Cstar-clause-first g t c =
     let a = c.get-in-Cstar.result.now in
     let e = one_same (prog.Cstar) c.args.prog.now c.in-Cstar.body a c.in-Cstar.is c.get-in-Cstar.ensures in
-    let is = ap (λ (w : Option Move). moved_in (λ l. tidy_conc l c.args.prog.now) w) c.in_ok-found-in-Cstar.ensures ∙ sym (cstar_first c.args.agent.now (g.B.Blocks.moves c.args.blocks.now c.args.agent.now c.args.values.now) c.args.values.now c.requires.fit.guarded c.args.prog.now a e) in
+    let is = ap (λ (w : Option Move). moved_in (λ l. tidy_conc l c.args.prog.now) w) c.in_ok-found-in-Cstar.ensures.first ∙ sym (cstar_first c.args.agent.now (g.B.Blocks.moves c.args.blocks.now c.args.agent.now c.args.values.now) c.args.values.now c.requires.fit.guarded c.args.prog.now a e) in
     move_as c.beside.result (moved_in (λ l. tidy_conc l c.args.prog.now) c.in_ok-found-in-Cstar.found) (first_move c.args.agent.now (g.B.Blocks.moves c.args.blocks.now c.args.agent.now c.args.values.now) c.args.values.now c.args.prog.now) is c.beside.ensures.left
 
 pub first_move-truth-requires-clause-fits : goal.first_move-truth-requires-clause-fits
@@ -194,15 +198,15 @@ first_move-first_move-requires-then-holds g t c κs within =
     let low : 1 + 3 * (front c.args.agent.now a).height < 1 + 3 * (front c.args.agent.now c.args.prog.now).height = omega arith in
     search rules
 
-pub first_move-returns-in_ok-found-in-While : goal.first_move-returns-in_ok-found-in-While
-first_move-returns-in_ok-found-in-While g t c =
+pub first_move-returns-in_ok-found-in-While-clause-first : goal.first_move-returns-in_ok-found-in-While-clause-first
+first_move-returns-in_ok-found-in-While-clause-first g t c =
     let a = c.get-then-holds.result.now in
     let e = one_same (prog.While c.in-While.cond) c.args.prog.now c.in-While.body a c.in-While.is c.get-then-holds.ensures in
-    let is = ap (λ (w : Option Move). moved_in (λ l. tidy_seq l c.args.prog.now) w) c.in_ok-found-in-While.ensures ∙ sym (while_first c.args.agent.now (g.B.Blocks.moves c.args.blocks.now c.args.agent.now c.args.values.now) c.args.values.now c.requires.fit.guarded c.args.prog.now a c.in-While.cond c.truth.result c.truth.ensures (sym c.holds.ensures ∙ c.if-holds.true) e) in
+    let is = ap (λ (w : Option Move). moved_in (λ l. tidy_seq l c.args.prog.now) w) c.in_ok-found-in-While.ensures.first ∙ sym (while_first c.args.agent.now (g.B.Blocks.moves c.args.blocks.now c.args.agent.now c.args.values.now) c.args.values.now c.requires.fit.guarded c.args.prog.now a c.in-While.cond c.truth.result c.truth.ensures (sym c.holds.ensures ∙ c.if-holds.true) e) in
     move_as c.before-then-holds.result (moved_in (λ l. tidy_seq l c.args.prog.now) c.in_ok-found-in-While.found) (first_move c.args.agent.now (g.B.Blocks.moves c.args.blocks.now c.args.agent.now c.args.values.now) c.args.values.now c.args.prog.now) is c.before-then-holds.ensures.left
 
-pub first_move-returns-else-holds : goal.first_move-returns-else-holds
-first_move-returns-else-holds g t c =
+pub first_move-returns-else-holds-clause-first : goal.first_move-returns-else-holds-clause-first
+first_move-returns-else-holds-clause-first g t c =
     sym (while_none c.args.agent.now (g.B.Blocks.moves c.args.blocks.now c.args.agent.now c.args.values.now) c.args.values.now c.requires.fit.guarded c.args.prog.now c.in-While.body c.in-While.cond c.truth.result c.truth.ensures (sym c.holds.ensures ∙ c.if-holds.false) c.in-While.is)
 
 pub first_of_choice-first_move-requires : goal.first_of_choice-first_move-requires
@@ -221,13 +225,13 @@ first_of_choice-first_move-requires-in-None g t c κs within =
     let low : 1 + 3 * (front c.args.agent.now c.args.other.now).height < 3 * (front c.args.agent.now (prog.Choice c.args.one.now c.args.other.now)).height = omega arith in
     search rules
 
-pub first_of_choice-returns-in-Some : goal.first_of_choice-returns-in-Some
-first_of_choice-returns-in-Some g t c =
-    sym (choice_first c.args.agent.now (g.B.Blocks.moves c.args.blocks.now c.args.agent.now c.args.values.now) c.args.values.now c.requires.fit.guarded c.args.one.now c.args.other.now c.in-Some.found (sym c.in-Some.is ∙ c.in_ok-found.ensures))
+pub first_of_choice-returns-in-Some-clause-first : goal.first_of_choice-returns-in-Some-clause-first
+first_of_choice-returns-in-Some-clause-first g t c =
+    sym (choice_first c.args.agent.now (g.B.Blocks.moves c.args.blocks.now c.args.agent.now c.args.values.now) c.args.values.now c.requires.fit.guarded c.args.one.now c.args.other.now c.in-Some.found (sym c.in-Some.is ∙ c.in_ok-found.ensures.first))
 
-pub first_of_choice-returns-in-None : goal.first_of_choice-returns-in-None
-first_of_choice-returns-in-None g t c =
-    move_as c.first_move-in-None.result (first_move c.args.agent.now (g.B.Blocks.moves c.args.blocks.now c.args.agent.now c.args.values.now) c.args.values.now c.args.other.now) (first_move c.args.agent.now (g.B.Blocks.moves c.args.blocks.now c.args.agent.now c.args.values.now) c.args.values.now (prog.Choice c.args.one.now c.args.other.now)) (sym (choice_second c.args.agent.now (g.B.Blocks.moves c.args.blocks.now c.args.agent.now c.args.values.now) c.args.values.now c.requires.fit.guarded c.args.one.now c.args.other.now (sym c.in-None.is ∙ c.in_ok-found.ensures))) c.first_move-in-None.ensures
+pub first_of_choice-returns-in-None-clause-first : goal.first_of_choice-returns-in-None-clause-first
+first_of_choice-returns-in-None-clause-first g t c =
+    move_as c.first_move-in-None.result (first_move c.args.agent.now (g.B.Blocks.moves c.args.blocks.now c.args.agent.now c.args.values.now) c.args.values.now c.args.other.now) (first_move c.args.agent.now (g.B.Blocks.moves c.args.blocks.now c.args.agent.now c.args.values.now) c.args.values.now (prog.Choice c.args.one.now c.args.other.now)) (sym (choice_second c.args.agent.now (g.B.Blocks.moves c.args.blocks.now c.args.agent.now c.args.values.now) c.args.values.now c.requires.fit.guarded c.args.one.now c.args.other.now (sym c.in-None.is ∙ c.in_ok-found.ensures.first))) c.first_move-in-None.ensures.first
 
 pub first_of_conc-first_move-requires : goal.first_of_conc-first_move-requires
 first_of_conc-first_move-requires g t c κs within =
@@ -245,13 +249,13 @@ first_of_conc-first_move-requires-in-None g t c κs within =
     let low : 1 + 3 * (front c.args.agent.now c.args.other.now).height < 3 * (front c.args.agent.now (prog.Conc c.args.one.now c.args.other.now)).height = omega arith in
     search rules
 
-pub first_of_conc-returns-in-Some : goal.first_of_conc-returns-in-Some
-first_of_conc-returns-in-Some g t c =
-    move_as c.beside.result _ (first_move c.args.agent.now (g.B.Blocks.moves c.args.blocks.now c.args.agent.now c.args.values.now) c.args.values.now (prog.Conc c.args.one.now c.args.other.now)) (sym (conc_first c.args.agent.now (g.B.Blocks.moves c.args.blocks.now c.args.agent.now c.args.values.now) c.args.values.now c.requires.fit.guarded c.args.one.now c.args.other.now c.in-Some.found (sym c.in-Some.is ∙ c.in_ok-found.ensures))) c.beside.ensures.left
+pub first_of_conc-returns-in-Some-clause-first : goal.first_of_conc-returns-in-Some-clause-first
+first_of_conc-returns-in-Some-clause-first g t c =
+    move_as c.beside.result _ (first_move c.args.agent.now (g.B.Blocks.moves c.args.blocks.now c.args.agent.now c.args.values.now) c.args.values.now (prog.Conc c.args.one.now c.args.other.now)) (sym (conc_first c.args.agent.now (g.B.Blocks.moves c.args.blocks.now c.args.agent.now c.args.values.now) c.args.values.now c.requires.fit.guarded c.args.one.now c.args.other.now c.in-Some.found (sym c.in-Some.is ∙ c.in_ok-found.ensures.first))) c.beside.ensures.left
 
-pub first_of_conc-returns-in_ok-found-in-None : goal.first_of_conc-returns-in_ok-found-in-None
-first_of_conc-returns-in_ok-found-in-None g t c =
-    let is = ap (λ (w : Option Move). moved_in (λ l. tidy_conc c.args.one.now l) w) c.in_ok-found-in-None.ensures ∙ sym (conc_second c.args.agent.now (g.B.Blocks.moves c.args.blocks.now c.args.agent.now c.args.values.now) c.args.values.now c.requires.fit.guarded c.args.one.now c.args.other.now (sym c.in-None.is ∙ c.in_ok-found.ensures)) in
+pub first_of_conc-returns-in_ok-found-in-None-clause-first : goal.first_of_conc-returns-in_ok-found-in-None-clause-first
+first_of_conc-returns-in_ok-found-in-None-clause-first g t c =
+    let is = ap (λ (w : Option Move). moved_in (λ l. tidy_conc c.args.one.now l) w) c.in_ok-found-in-None.ensures.first ∙ sym (conc_second c.args.agent.now (g.B.Blocks.moves c.args.blocks.now c.args.agent.now c.args.values.now) c.args.values.now c.requires.fit.guarded c.args.one.now c.args.other.now (sym c.in-None.is ∙ c.in_ok-found.ensures.first)) in
     move_as c.next_to.result (moved_in (λ l. tidy_conc c.args.one.now l) c.in_ok-found-in-None.found) (first_move c.args.agent.now (g.B.Blocks.moves c.args.blocks.now c.args.agent.now c.args.values.now) c.args.values.now (prog.Conc c.args.one.now c.args.other.now)) is c.next_to.ensures.left
 
 pub first_of_prio-first_move-requires : goal.first_of_prio-first_move-requires
@@ -270,19 +274,19 @@ first_of_prio-first_move-requires-else-holds_in g t c κs within =
     let low : 1 + 3 * (front c.args.agent.now c.args.low.now).height < 3 * (front c.args.agent.now (prog.Prio c.args.high.now c.args.low.now)).height = omega arith in
     search rules
 
-pub first_of_prio-returns-in-Some : goal.first_of_prio-returns-in-Some
-first_of_prio-returns-in-Some g t c =
-    move_as c.over.result _ (first_move c.args.agent.now (g.B.Blocks.moves c.args.blocks.now c.args.agent.now c.args.values.now) c.args.values.now (prog.Prio c.args.high.now c.args.low.now)) (sym (prio_first c.args.agent.now (g.B.Blocks.moves c.args.blocks.now c.args.agent.now c.args.values.now) c.args.values.now c.requires.fit.guarded c.args.high.now c.args.low.now c.in-Some.found (sym c.in-Some.is ∙ c.in_ok-found.ensures))) c.over.ensures.left
+pub first_of_prio-returns-in-Some-clause-first : goal.first_of_prio-returns-in-Some-clause-first
+first_of_prio-returns-in-Some-clause-first g t c =
+    move_as c.over.result _ (first_move c.args.agent.now (g.B.Blocks.moves c.args.blocks.now c.args.agent.now c.args.values.now) c.args.values.now (prog.Prio c.args.high.now c.args.low.now)) (sym (prio_first c.args.agent.now (g.B.Blocks.moves c.args.blocks.now c.args.agent.now c.args.values.now) c.args.values.now c.requires.fit.guarded c.args.high.now c.args.low.now c.in-Some.found (sym c.in-Some.is ∙ c.in_ok-found.ensures.first))) c.over.ensures.left
 
-pub first_of_prio-returns-then-holds_in : goal.first_of_prio-returns-then-holds_in
-first_of_prio-returns-then-holds_in g t c =
+pub first_of_prio-returns-then-holds_in-clause-first : goal.first_of_prio-returns-then-holds_in-clause-first
+first_of_prio-returns-then-holds_in-clause-first g t c =
     let may : has_move c.args.agent.now (g.B.Blocks.moves c.args.blocks.now c.args.agent.now c.args.values.now) c.args.values.now May c.args.high.now ≡ true = sym (c.in_ok-reach-in-None.ensures.reach.steps May) ∙ sym c.holds_in.ensures ∙ c.if-holds_in.true in
-    sym (prio_kept c.args.agent.now (g.B.Blocks.moves c.args.blocks.now c.args.agent.now c.args.values.now) c.args.values.now c.requires.fit.guarded c.args.high.now c.args.low.now (sym c.in-None.is ∙ c.in_ok-found.ensures) may)
+    sym (prio_kept c.args.agent.now (g.B.Blocks.moves c.args.blocks.now c.args.agent.now c.args.values.now) c.args.values.now c.requires.fit.guarded c.args.high.now c.args.low.now (sym c.in-None.is ∙ c.in_ok-found.ensures.first) may)
 
-pub first_of_prio-returns-in_ok-found-in-None : goal.first_of_prio-returns-in_ok-found-in-None
-first_of_prio-returns-in_ok-found-in-None g t c =
+pub first_of_prio-returns-in_ok-found-in-None-clause-first : goal.first_of_prio-returns-in_ok-found-in-None-clause-first
+first_of_prio-returns-in_ok-found-in-None-clause-first g t c =
     let may : has_move c.args.agent.now (g.B.Blocks.moves c.args.blocks.now c.args.agent.now c.args.values.now) c.args.values.now May c.args.high.now ≡ false = sym (c.in_ok-reach-in-None.ensures.reach.steps May) ∙ sym c.holds_in.ensures ∙ c.if-holds_in.false in
-    let is = ap (λ (w : Option Move). moved_in (λ l. tidy_prio c.args.high.now l) w) c.in_ok-found-in-None.ensures ∙ sym (prio_second c.args.agent.now (g.B.Blocks.moves c.args.blocks.now c.args.agent.now c.args.values.now) c.args.values.now c.requires.fit.guarded c.args.high.now c.args.low.now (sym c.in-None.is ∙ c.in_ok-found.ensures) may) in
+    let is = ap (λ (w : Option Move). moved_in (λ l. tidy_prio c.args.high.now l) w) c.in_ok-found-in-None.ensures.first ∙ sym (prio_second c.args.agent.now (g.B.Blocks.moves c.args.blocks.now c.args.agent.now c.args.values.now) c.args.values.now c.requires.fit.guarded c.args.high.now c.args.low.now (sym c.in-None.is ∙ c.in_ok-found.ensures.first) may) in
     move_as c.under.result (moved_in (λ l. tidy_prio c.args.high.now l) c.in_ok-found-in-None.found) (first_move c.args.agent.now (g.B.Blocks.moves c.args.blocks.now c.args.agent.now c.args.values.now) c.args.values.now (prog.Prio c.args.high.now c.args.low.now)) is c.under.ensures.left
 
 pub first_of_seq-first_move-requires : goal.first_of_seq-first_move-requires
@@ -306,19 +310,19 @@ first_of_seq-first_move-requires-then-branch g t c κs within =
     let low : 1 + 3 * (front c.args.agent.now c.args.other.now).height < 3 * (front c.args.agent.now (prog.Seq c.args.one.now c.args.other.now)).height = omega arith in
     search rules
 
-pub first_of_seq-returns-in-Some : goal.first_of_seq-returns-in-Some
-first_of_seq-returns-in-Some g t c =
-    move_as c.before-in-Some.result _ (first_move c.args.agent.now (g.B.Blocks.moves c.args.blocks.now c.args.agent.now c.args.values.now) c.args.values.now (prog.Seq c.args.one.now c.args.other.now)) (sym (seq_first c.args.agent.now (g.B.Blocks.moves c.args.blocks.now c.args.agent.now c.args.values.now) c.args.values.now c.requires.fit.guarded c.args.one.now c.args.other.now c.in-Some.found (sym c.in-Some.is ∙ c.in_ok-found.ensures))) c.before-in-Some.ensures.left
+pub first_of_seq-returns-in-Some-clause-first : goal.first_of_seq-returns-in-Some-clause-first
+first_of_seq-returns-in-Some-clause-first g t c =
+    move_as c.before-in-Some.result _ (first_move c.args.agent.now (g.B.Blocks.moves c.args.blocks.now c.args.agent.now c.args.values.now) c.args.values.now (prog.Seq c.args.one.now c.args.other.now)) (sym (seq_first c.args.agent.now (g.B.Blocks.moves c.args.blocks.now c.args.agent.now c.args.values.now) c.args.values.now c.requires.fit.guarded c.args.one.now c.args.other.now c.in-Some.found (sym c.in-Some.is ∙ c.in_ok-found.ensures.first))) c.before-in-Some.ensures.left
 
-pub first_of_seq-returns-then-branch : goal.first_of_seq-returns-then-branch
-first_of_seq-returns-then-branch g t c =
+pub first_of_seq-returns-then-branch-clause-first : goal.first_of_seq-returns-then-branch-clause-first
+first_of_seq-returns-then-branch-clause-first g t c =
     let end : final c.args.agent.now c.args.values.now Must c.args.one.now ≡ true = sym c.in_ok-can_end-in-None.ensures ∙ c.if-branch.true in
-    move_as c.first_move-then-branch.result (first_move c.args.agent.now (g.B.Blocks.moves c.args.blocks.now c.args.agent.now c.args.values.now) c.args.values.now c.args.other.now) (first_move c.args.agent.now (g.B.Blocks.moves c.args.blocks.now c.args.agent.now c.args.values.now) c.args.values.now (prog.Seq c.args.one.now c.args.other.now)) (sym (seq_second c.args.agent.now (g.B.Blocks.moves c.args.blocks.now c.args.agent.now c.args.values.now) c.args.values.now c.requires.fit.guarded c.args.one.now c.args.other.now (sym c.in-None.is ∙ c.in_ok-found.ensures) end)) c.first_move-then-branch.ensures
+    move_as c.first_move-then-branch.result (first_move c.args.agent.now (g.B.Blocks.moves c.args.blocks.now c.args.agent.now c.args.values.now) c.args.values.now c.args.other.now) (first_move c.args.agent.now (g.B.Blocks.moves c.args.blocks.now c.args.agent.now c.args.values.now) c.args.values.now (prog.Seq c.args.one.now c.args.other.now)) (sym (seq_second c.args.agent.now (g.B.Blocks.moves c.args.blocks.now c.args.agent.now c.args.values.now) c.args.values.now c.requires.fit.guarded c.args.one.now c.args.other.now (sym c.in-None.is ∙ c.in_ok-found.ensures.first) end)) c.first_move-then-branch.ensures.first
 
-pub first_of_seq-returns-else-branch : goal.first_of_seq-returns-else-branch
-first_of_seq-returns-else-branch g t c =
+pub first_of_seq-returns-else-branch-clause-first : goal.first_of_seq-returns-else-branch-clause-first
+first_of_seq-returns-else-branch-clause-first g t c =
     let end : final c.args.agent.now c.args.values.now Must c.args.one.now ≡ false = sym c.in_ok-can_end-in-None.ensures ∙ c.if-branch.false in
-    sym (seq_neither c.args.agent.now (g.B.Blocks.moves c.args.blocks.now c.args.agent.now c.args.values.now) c.args.values.now c.requires.fit.guarded c.args.one.now c.args.other.now (sym c.in-None.is ∙ c.in_ok-found.ensures) end)
+    sym (seq_neither c.args.agent.now (g.B.Blocks.moves c.args.blocks.now c.args.agent.now c.args.values.now) c.args.values.now c.requires.fit.guarded c.args.one.now c.args.other.now (sym c.in-None.is ∙ c.in_ok-found.ensures.first) end)
 
 pub first_of_if-truth-requires-clause-fits : goal.first_of_if-truth-requires-clause-fits
 first_of_if-truth-requires-clause-fits g t c =
@@ -341,16 +345,16 @@ first_of_if-first_move-requires-in-No g t c κs within =
     let low : 1 + 3 * (front c.args.agent.now c.args.no.now).height < 3 * (front c.args.agent.now (prog.If c.args.cond.now c.args.yes.now c.args.no.now)).height = omega arith in
     search rules
 
-pub first_of_if-returns-in-Yes : goal.first_of_if-returns-in-Yes
-first_of_if-returns-in-Yes g t c =
-    move_as c.first_move.result (first_move c.args.agent.now (g.B.Blocks.moves c.args.blocks.now c.args.agent.now c.args.values.now) c.args.values.now c.args.yes.now) (first_move c.args.agent.now (g.B.Blocks.moves c.args.blocks.now c.args.agent.now c.args.values.now) c.args.values.now (prog.If c.args.cond.now c.args.yes.now c.args.no.now)) (sym (if_first c.args.agent.now (g.B.Blocks.moves c.args.blocks.now c.args.agent.now c.args.values.now) c.args.values.now c.requires.fit.guarded c.args.cond.now c.args.yes.now c.args.no.now Yes (sym c.in-Yes.is ∙ c.truth.ensures))) c.first_move.ensures
+pub first_of_if-returns-in-Yes-clause-first : goal.first_of_if-returns-in-Yes-clause-first
+first_of_if-returns-in-Yes-clause-first g t c =
+    move_as c.first_move.result (first_move c.args.agent.now (g.B.Blocks.moves c.args.blocks.now c.args.agent.now c.args.values.now) c.args.values.now c.args.yes.now) (first_move c.args.agent.now (g.B.Blocks.moves c.args.blocks.now c.args.agent.now c.args.values.now) c.args.values.now (prog.If c.args.cond.now c.args.yes.now c.args.no.now)) (sym (if_first c.args.agent.now (g.B.Blocks.moves c.args.blocks.now c.args.agent.now c.args.values.now) c.args.values.now c.requires.fit.guarded c.args.cond.now c.args.yes.now c.args.no.now Yes (sym c.in-Yes.is ∙ c.truth.ensures))) c.first_move.ensures.first
 
-pub first_of_if-returns-in-No : goal.first_of_if-returns-in-No
-first_of_if-returns-in-No g t c =
-    move_as c.first_move-in-No.result (first_move c.args.agent.now (g.B.Blocks.moves c.args.blocks.now c.args.agent.now c.args.values.now) c.args.values.now c.args.no.now) (first_move c.args.agent.now (g.B.Blocks.moves c.args.blocks.now c.args.agent.now c.args.values.now) c.args.values.now (prog.If c.args.cond.now c.args.yes.now c.args.no.now)) (sym (if_first c.args.agent.now (g.B.Blocks.moves c.args.blocks.now c.args.agent.now c.args.values.now) c.args.values.now c.requires.fit.guarded c.args.cond.now c.args.yes.now c.args.no.now No (sym c.in-No.is ∙ c.truth.ensures))) c.first_move-in-No.ensures
+pub first_of_if-returns-in-No-clause-first : goal.first_of_if-returns-in-No-clause-first
+first_of_if-returns-in-No-clause-first g t c =
+    move_as c.first_move-in-No.result (first_move c.args.agent.now (g.B.Blocks.moves c.args.blocks.now c.args.agent.now c.args.values.now) c.args.values.now c.args.no.now) (first_move c.args.agent.now (g.B.Blocks.moves c.args.blocks.now c.args.agent.now c.args.values.now) c.args.values.now (prog.If c.args.cond.now c.args.yes.now c.args.no.now)) (sym (if_first c.args.agent.now (g.B.Blocks.moves c.args.blocks.now c.args.agent.now c.args.values.now) c.args.values.now c.requires.fit.guarded c.args.cond.now c.args.yes.now c.args.no.now No (sym c.in-No.is ∙ c.truth.ensures))) c.first_move-in-No.ensures.first
 
-pub first_of_if-returns-in-Unknown : goal.first_of_if-returns-in-Unknown
-first_of_if-returns-in-Unknown g t c =
+pub first_of_if-returns-in-Unknown-clause-first : goal.first_of_if-returns-in-Unknown-clause-first
+first_of_if-returns-in-Unknown-clause-first g t c =
     sym (if_first c.args.agent.now (g.B.Blocks.moves c.args.blocks.now c.args.agent.now c.args.values.now) c.args.values.now c.requires.fit.guarded c.args.cond.now c.args.yes.now c.args.no.now Unknown (sym c.in-Unknown.is ∙ c.truth.ensures))
 
 pub first_of-first_move-requires : goal.first_of-first_move-requires
@@ -377,15 +381,15 @@ pub first_of_pick-loop-constant-preserved : goal.first_of_pick-loop-constant-pre
 first_of_pick-loop-constant-preserved g t c =
     let below : c.loop-constant.constant < sort_size c.args.agent.now c.args.sort = omega arith in
     let none : c.in_ok-found.found ≡ None = search rules in
-    pick_next c.args.agent.now (g.B.Blocks.moves c.args.blocks.now c.args.agent.now c.args.values.now) c.args.values.now c.requires.fit.guarded c.args.var c.args.sort c.args.body.now c.loop-constant.constant below (sym none ∙ c.in_ok-found.ensures ∙ ap (first_move c.args.agent.now (g.B.Blocks.moves c.args.blocks.now c.args.agent.now c.args.values.now) c.args.values.now) c.in_ok-put.ensures) c.loop-constant.invariant
+    pick_next c.args.agent.now (g.B.Blocks.moves c.args.blocks.now c.args.agent.now c.args.values.now) c.args.values.now c.requires.fit.guarded c.args.var c.args.sort c.args.body.now c.loop-constant.constant below (sym none ∙ c.in_ok-found.ensures.first ∙ ap (first_move c.args.agent.now (g.B.Blocks.moves c.args.blocks.now c.args.agent.now c.args.values.now) c.args.values.now) c.in_ok-put.ensures) c.loop-constant.invariant
 
-pub first_of_pick-returns-in-Some : goal.first_of_pick-returns-in-Some
-first_of_pick-returns-in-Some g t c =
+pub first_of_pick-returns-in-Some-clause-first : goal.first_of_pick-returns-in-Some-clause-first
+first_of_pick-returns-in-Some-clause-first g t c =
     let below : c.loop-constant.constant < sort_size c.args.agent.now c.args.sort = omega arith in
-    sym (pick_here c.args.agent.now (g.B.Blocks.moves c.args.blocks.now c.args.agent.now c.args.values.now) c.args.values.now c.requires.fit.guarded c.args.var c.args.sort c.args.body.now c.loop-constant.constant c.in-Some.found below (sym c.in-Some.is ∙ c.in_ok-found.ensures ∙ ap (first_move c.args.agent.now (g.B.Blocks.moves c.args.blocks.now c.args.agent.now c.args.values.now) c.args.values.now) c.in_ok-put.ensures) c.loop-constant.invariant)
+    sym (pick_here c.args.agent.now (g.B.Blocks.moves c.args.blocks.now c.args.agent.now c.args.values.now) c.args.values.now c.requires.fit.guarded c.args.var c.args.sort c.args.body.now c.loop-constant.constant c.in-Some.found below (sym c.in-Some.is ∙ c.in_ok-found.ensures.first ∙ ap (first_move c.args.agent.now (g.B.Blocks.moves c.args.blocks.now c.args.agent.now c.args.values.now) c.args.values.now) c.in_ok-put.ensures) c.loop-constant.invariant)
 
-pub first_of_pick-returns : goal.first_of_pick-returns
-first_of_pick-returns g t c =
+pub first_of_pick-returns-clause-first : goal.first_of_pick-returns-clause-first
+first_of_pick-returns-clause-first g t c =
     sym (pick_none c.args.agent.now (g.B.Blocks.moves c.args.blocks.now c.args.agent.now c.args.values.now) c.args.values.now c.requires.fit.guarded c.args.var c.args.sort c.args.body.now c.loop-constant.constant (omega arith) c.loop-constant.invariant)
 
 pub first_of_call-body_of-requires : goal.first_of_call-body_of-requires
@@ -402,9 +406,9 @@ first_of_call-first_of-requires g t c κs within =
     let low : 2 + 3 * (front c.args.agent.now body).height < 3 * (front c.args.agent.now (prog.Call c.args.item c.args.args.now)).height = omega arith in
     search rules
 
-pub first_of_call-returns : goal.first_of_call-returns
-first_of_call-returns g t c =
-    move_as c.first_of.result (first_move c.args.agent.now (g.B.Blocks.moves c.args.blocks.now c.args.agent.now c.args.values.now) c.args.values.now c.in_ok-body.body) (first_move c.args.agent.now (g.B.Blocks.moves c.args.blocks.now c.args.agent.now c.args.values.now) c.args.values.now (prog.Call c.args.item c.args.args.now)) (ap (first_move c.args.agent.now (g.B.Blocks.moves c.args.blocks.now c.args.agent.now c.args.values.now) c.args.values.now) c.in_ok-body.ensures ∙ sym (call_first c.args.agent.now (g.B.Blocks.moves c.args.blocks.now c.args.agent.now c.args.values.now) c.args.values.now c.requires.fit.guarded c.args.item c.args.args.now)) c.first_of.ensures
+pub first_of_call-returns-clause-first : goal.first_of_call-returns-clause-first
+first_of_call-returns-clause-first g t c =
+    move_as c.first_of.result (first_move c.args.agent.now (g.B.Blocks.moves c.args.blocks.now c.args.agent.now c.args.values.now) c.args.values.now c.in_ok-body.body) (first_move c.args.agent.now (g.B.Blocks.moves c.args.blocks.now c.args.agent.now c.args.values.now) c.args.values.now (prog.Call c.args.item c.args.args.now)) (ap (first_move c.args.agent.now (g.B.Blocks.moves c.args.blocks.now c.args.agent.now c.args.values.now) c.args.values.now) c.in_ok-body.ensures ∙ sym (call_first c.args.agent.now (g.B.Blocks.moves c.args.blocks.now c.args.agent.now c.args.values.now) c.args.values.now c.requires.fit.guarded c.args.item c.args.args.now)) c.first_of.ensures.first
 
 pub first_move-first-requires-clause-closed : goal.first_move-first-requires-clause-closed
 first_move-first-requires-clause-closed g t c =
@@ -412,30 +416,163 @@ first_move-first-requires-clause-closed g t c =
     let e = one_same (prog.Search c.in-Search.depth c.in-Search.fuel) c.args.prog.now c.in-Search.body a c.in-Search.is c.get-in-Search.ensures in
     search_begins c.args.agent.now c.args.prog.now a c.in-Search.depth c.in-Search.fuel _ refl c.requires.closed e
 
-pub first_move-returns-in-Search : goal.first_move-returns-in-Search
-first_move-returns-in-Search g t c =
+pub first_move-returns-in-Search-clause-first : goal.first_move-returns-in-Search-clause-first
+first_move-returns-in-Search-clause-first g t c =
     let a = c.get-in-Search.result.now in
     let e = one_same (prog.Search c.in-Search.depth c.in-Search.fuel) c.args.prog.now c.in-Search.body a c.in-Search.is c.get-in-Search.ensures in
     move_as c.first.result _ (first_move c.args.agent.now (g.B.Blocks.moves c.args.blocks.now c.args.agent.now c.args.values.now) c.args.values.now c.args.prog.now) (sym (ap (first_move c.args.agent.now (g.B.Blocks.moves c.args.blocks.now c.args.agent.now c.args.values.now) c.args.values.now) e ∙ search_first c.args.agent.now (g.B.Blocks.moves c.args.blocks.now c.args.agent.now c.args.values.now) c.args.values.now c.requires.fit.guarded c.in-Search.depth c.in-Search.fuel a)) c.first.ensures.first
 
-pub first_move-returns-in-Follow : goal.first_move-returns-in-Follow
-first_move-returns-in-Follow g t c =
+pub first_move-returns-in-Follow-clause-first : goal.first_move-returns-in-Follow-clause-first
+first_move-returns-in-Follow-clause-first g t c =
     let a = c.get-in-Follow.result.now in
     let rest = c.as_slice-in-Follow.result.now in
     let e = one_same (λ (z : Prog). prog.Follow c.in-Follow.depth c.in-Follow.fuel z c.in-Follow.rest) c.args.prog.now c.in-Follow.body a c.in-Follow.is c.get-in-Follow.ensures in
     let k = e ∙ ap (prog.Follow c.in-Follow.depth c.in-Follow.fuel a) (sym c.as_slice-in-Follow.ensures) in
     move_as c.first-in-Follow.result _ (first_move c.args.agent.now (g.B.Blocks.moves c.args.blocks.now c.args.agent.now c.args.values.now) c.args.values.now c.args.prog.now) (sym (ap (first_move c.args.agent.now (g.B.Blocks.moves c.args.blocks.now c.args.agent.now c.args.values.now) c.args.values.now) k ∙ follow_first c.args.agent.now (g.B.Blocks.moves c.args.blocks.now c.args.agent.now c.args.values.now) c.args.values.now c.requires.fit.guarded c.in-Follow.depth c.in-Follow.fuel a rest)) c.first-in-Follow.ensures.first
 
-pub first_move-returns-in-Act : goal.first_move-returns-in-Act
-first_move-returns-in-Act g t c =
-    let args = c.as_slice.result.now in
+pub first_move-returns-in-Act-clause-first : goal.first_move-returns-in-Act-clause-first
+first_move-returns-in-Act-clause-first g t c =
     let e = c.in-Act.is ∙ ap (prog.Act c.in-Act.action) (sym c.as_slice.ensures) in
-    c.plain.ensures ∙ ap plain c.act_way.ensures ∙ sym (act_plain c.args.agent.now (g.B.Blocks.moves c.args.blocks.now c.args.agent.now c.args.values.now) c.args.values.now c.requires.fit.guarded c.in-Act.action args) ∙ ap (first_move c.args.agent.now (g.B.Blocks.moves c.args.blocks.now c.args.agent.now c.args.values.now) c.args.values.now) (sym e)
+    c.act_move.ensures (g.B.Blocks.moves c.args.blocks.now c.args.agent.now c.args.values.now) ∙ ap (first_move c.args.agent.now (g.B.Blocks.moves c.args.blocks.now c.args.agent.now c.args.values.now) c.args.values.now) (sym e)
 
-pub first_move-returns-in-Test : goal.first_move-returns-in-Test
-first_move-returns-in-Test g t c =
-    c.plain-in-Test.ensures ∙ ap plain c.test_way.ensures ∙ sym (test_plain c.args.agent.now (g.B.Blocks.moves c.args.blocks.now c.args.agent.now c.args.values.now) c.args.values.now c.requires.fit.guarded c.in-Test.cond) ∙ ap (first_move c.args.agent.now (g.B.Blocks.moves c.args.blocks.now c.args.agent.now c.args.values.now) c.args.values.now) (sym c.in-Test.is)
+pub first_move-returns-in-Test-clause-first : goal.first_move-returns-in-Test-clause-first
+first_move-returns-in-Test-clause-first g t c =
+    c.test_move.ensures (g.B.Blocks.moves c.args.blocks.now c.args.agent.now c.args.values.now) ∙ ap (first_move c.args.agent.now (g.B.Blocks.moves c.args.blocks.now c.args.agent.now c.args.values.now) c.args.values.now) (sym c.in-Test.is)
 
 pub first_of_prio-reach_of-requires-clause-closed : goal.first_of_prio-reach_of-requires-clause-closed
 first_of_prio-reach_of-requires-clause-closed g t c =
     (prio_parts c.args.agent.now (prog.Prio c.args.high.now c.args.low.now) c.args.high.now c.args.low.now c.requires.closed refl).one.closed_too
+
+pub first_of_seq-returns-in_err-found-clause-fuel : goal.first_of_seq-returns-in_err-found-clause-fuel
+first_of_seq-returns-in_err-found-clause-fuel g t c =
+    stops_from c.args.agent.now (g.B.Blocks.wants c.args.blocks.now c.args.agent.now c.args.values.now) false c.from_residual.result c.in_err-found.field-0.0 c.args.one.now (prog.Seq c.args.one.now c.args.other.now) c.from_residual.ensures.1
+    (seq_one c.args.agent.now (g.B.Blocks.wants c.args.blocks.now c.args.agent.now c.args.values.now) false c.args.one.now c.args.other.now) c.in_err-found.ensures.fuel
+
+pub first_of_seq-returns-in-Some-clause-fuel : goal.first_of_seq-returns-in-Some-clause-fuel
+first_of_seq-returns-in-Some-clause-fuel g t c =
+    memory_stops c.args.agent.now (g.B.Blocks.wants c.args.blocks.now c.args.agent.now c.args.values.now) false c.before-in-Some.result (prog.Seq c.args.one.now c.args.other.now) c.before-in-Some.ensures.memory
+
+pub first_of_seq-returns-then-branch-clause-fuel : goal.first_of_seq-returns-then-branch-clause-fuel
+first_of_seq-returns-then-branch-clause-fuel g t c =
+    let end : final c.args.agent.now c.args.values.now Must c.args.one.now ≡ true = sym c.in_ok-can_end-in-None.ensures ∙ c.if-branch.true in
+    stops_as c.args.agent.now (g.B.Blocks.wants c.args.blocks.now c.args.agent.now c.args.values.now) false c.first_move-then-branch.result c.args.other.now (prog.Seq c.args.one.now c.args.other.now)
+    (seq_other c.args.agent.now (g.B.Blocks.wants c.args.blocks.now c.args.agent.now c.args.values.now) false c.args.one.now c.args.other.now (final-skips c.args.agent.now c.args.values.now c.requires.fit.guarded Must c.args.one.now end)) c.first_move-then-branch.ensures.fuel
+
+pub first_of_choice-returns-in_err-found-clause-fuel : goal.first_of_choice-returns-in_err-found-clause-fuel
+first_of_choice-returns-in_err-found-clause-fuel g t c =
+    stops_from c.args.agent.now (g.B.Blocks.wants c.args.blocks.now c.args.agent.now c.args.values.now) false c.from_residual.result c.in_err-found.field-0.0 c.args.one.now (prog.Choice c.args.one.now c.args.other.now) c.from_residual.ensures.1
+    (λ h. parts_lack c.args.agent.now (g.B.Blocks.wants c.args.blocks.now c.args.agent.now c.args.values.now) false (prog.Choice c.args.one.now c.args.other.now) c.args.one.now c.args.other.now (Choice c.args.one.now c.args.other.now) (prog.outs-Choice c.args.one.now c.args.other.now) (λ f. refl) (inl h)) c.in_err-found.ensures.fuel
+
+pub first_of_choice-returns-in-None-clause-fuel : goal.first_of_choice-returns-in-None-clause-fuel
+first_of_choice-returns-in-None-clause-fuel g t c =
+    stops_as c.args.agent.now (g.B.Blocks.wants c.args.blocks.now c.args.agent.now c.args.values.now) false c.first_move-in-None.result c.args.other.now (prog.Choice c.args.one.now c.args.other.now)
+    (λ h. parts_lack c.args.agent.now (g.B.Blocks.wants c.args.blocks.now c.args.agent.now c.args.values.now) false (prog.Choice c.args.one.now c.args.other.now) c.args.one.now c.args.other.now (Choice c.args.one.now c.args.other.now) (prog.outs-Choice c.args.one.now c.args.other.now) (λ f. refl) (inr h)) c.first_move-in-None.ensures.fuel
+
+pub first_of_conc-returns-in_err-found-clause-fuel : goal.first_of_conc-returns-in_err-found-clause-fuel
+first_of_conc-returns-in_err-found-clause-fuel g t c =
+    stops_from c.args.agent.now (g.B.Blocks.wants c.args.blocks.now c.args.agent.now c.args.values.now) false c.from_residual.result c.in_err-found.field-0.0 c.args.one.now (prog.Conc c.args.one.now c.args.other.now) c.from_residual.ensures.1
+    (λ h. parts_lack c.args.agent.now (g.B.Blocks.wants c.args.blocks.now c.args.agent.now c.args.values.now) false (prog.Conc c.args.one.now c.args.other.now) c.args.one.now c.args.other.now (Conc c.args.one.now c.args.other.now) (prog.outs-Conc c.args.one.now c.args.other.now) (λ f. refl) (inl h)) c.in_err-found.ensures.fuel
+
+pub first_of_conc-returns-in-Some-clause-fuel : goal.first_of_conc-returns-in-Some-clause-fuel
+first_of_conc-returns-in-Some-clause-fuel g t c =
+    memory_stops c.args.agent.now (g.B.Blocks.wants c.args.blocks.now c.args.agent.now c.args.values.now) false c.beside.result (prog.Conc c.args.one.now c.args.other.now) c.beside.ensures.memory
+
+pub first_of_conc-returns-in_err-found-in-None-clause-fuel : goal.first_of_conc-returns-in_err-found-in-None-clause-fuel
+first_of_conc-returns-in_err-found-in-None-clause-fuel g t c =
+    stops_from c.args.agent.now (g.B.Blocks.wants c.args.blocks.now c.args.agent.now c.args.values.now) false c.from_residual-in_err-found-in-None.result c.in_err-found-in-None.field-0.0 c.args.other.now (prog.Conc c.args.one.now c.args.other.now) c.from_residual-in_err-found-in-None.ensures.1
+    (λ h. parts_lack c.args.agent.now (g.B.Blocks.wants c.args.blocks.now c.args.agent.now c.args.values.now) false (prog.Conc c.args.one.now c.args.other.now) c.args.one.now c.args.other.now (Conc c.args.one.now c.args.other.now) (prog.outs-Conc c.args.one.now c.args.other.now) (λ f. refl) (inr h)) c.in_err-found-in-None.ensures.fuel
+
+pub first_of_conc-returns-in_ok-found-in-None-clause-fuel : goal.first_of_conc-returns-in_ok-found-in-None-clause-fuel
+first_of_conc-returns-in_ok-found-in-None-clause-fuel g t c =
+    memory_stops c.args.agent.now (g.B.Blocks.wants c.args.blocks.now c.args.agent.now c.args.values.now) false c.next_to.result (prog.Conc c.args.one.now c.args.other.now) c.next_to.ensures.memory
+
+pub first_of_prio-returns-in_err-found-clause-fuel : goal.first_of_prio-returns-in_err-found-clause-fuel
+first_of_prio-returns-in_err-found-clause-fuel g t c =
+    stops_from c.args.agent.now (g.B.Blocks.wants c.args.blocks.now c.args.agent.now c.args.values.now) false c.from_residual.result c.in_err-found.field-0.0 c.args.high.now (prog.Prio c.args.high.now c.args.low.now) c.from_residual.ensures.1
+    (λ h. prio_high c.args.agent.now (g.B.Blocks.wants c.args.blocks.now c.args.agent.now c.args.values.now) false c.args.high.now c.args.low.now (lacks_higher c.args.agent.now (g.B.Blocks.wants c.args.blocks.now c.args.agent.now c.args.values.now) c.args.high.now h)) c.in_err-found.ensures.fuel
+
+pub first_of_prio-returns-in-Some-clause-fuel : goal.first_of_prio-returns-in-Some-clause-fuel
+first_of_prio-returns-in-Some-clause-fuel g t c =
+    memory_stops c.args.agent.now (g.B.Blocks.wants c.args.blocks.now c.args.agent.now c.args.values.now) false c.over.result (prog.Prio c.args.high.now c.args.low.now) c.over.ensures.memory
+
+pub first_of_prio-returns-in_err-reach-in-None-clause-fuel : goal.first_of_prio-returns-in_err-reach-in-None-clause-fuel
+first_of_prio-returns-in_err-reach-in-None-clause-fuel g t c =
+    stops_above c.args.agent.now (g.B.Blocks.wants c.args.blocks.now c.args.agent.now c.args.values.now) c.from_residual-in_err-reach-in-None.result c.in_err-reach-in-None.field-0.0 c.args.high.now (prog.Prio c.args.high.now c.args.low.now) c.from_residual-in_err-reach-in-None.ensures.1
+    (prio_high c.args.agent.now (g.B.Blocks.wants c.args.blocks.now c.args.agent.now c.args.values.now) false c.args.high.now c.args.low.now) c.in_err-reach-in-None.ensures.fuel
+
+pub first_of_prio-returns-in_err-found-in-None-clause-fuel : goal.first_of_prio-returns-in_err-found-in-None-clause-fuel
+first_of_prio-returns-in_err-found-in-None-clause-fuel g t c =
+    stops_from c.args.agent.now (g.B.Blocks.wants c.args.blocks.now c.args.agent.now c.args.values.now) false c.from_residual-in_err-found-in-None.result c.in_err-found-in-None.field-0.0 c.args.low.now (prog.Prio c.args.high.now c.args.low.now) c.from_residual-in_err-found-in-None.ensures.1
+    (prio_low c.args.agent.now (g.B.Blocks.wants c.args.blocks.now c.args.agent.now c.args.values.now) false c.args.high.now c.args.low.now) c.in_err-found-in-None.ensures.fuel
+
+pub first_of_prio-returns-in_ok-found-in-None-clause-fuel : goal.first_of_prio-returns-in_ok-found-in-None-clause-fuel
+first_of_prio-returns-in_ok-found-in-None-clause-fuel g t c =
+    memory_stops c.args.agent.now (g.B.Blocks.wants c.args.blocks.now c.args.agent.now c.args.values.now) false c.under.result (prog.Prio c.args.high.now c.args.low.now) c.under.ensures.memory
+
+pub first_of_if-returns-in-Yes-clause-fuel : goal.first_of_if-returns-in-Yes-clause-fuel
+first_of_if-returns-in-Yes-clause-fuel g t c =
+    stops_as c.args.agent.now (g.B.Blocks.wants c.args.blocks.now c.args.agent.now c.args.values.now) false c.first_move.result c.args.yes.now (prog.If c.args.cond.now c.args.yes.now c.args.no.now)
+    (λ h. parts_lack c.args.agent.now (g.B.Blocks.wants c.args.blocks.now c.args.agent.now c.args.values.now) false (prog.If c.args.cond.now c.args.yes.now c.args.no.now) c.args.yes.now c.args.no.now (If c.args.cond.now c.args.yes.now c.args.no.now) (prog.outs-If c.args.cond.now c.args.yes.now c.args.no.now) (λ f. refl) (inl h)) c.first_move.ensures.fuel
+
+pub first_of_if-returns-in-No-clause-fuel : goal.first_of_if-returns-in-No-clause-fuel
+first_of_if-returns-in-No-clause-fuel g t c =
+    stops_as c.args.agent.now (g.B.Blocks.wants c.args.blocks.now c.args.agent.now c.args.values.now) false c.first_move-in-No.result c.args.no.now (prog.If c.args.cond.now c.args.yes.now c.args.no.now)
+    (λ h. parts_lack c.args.agent.now (g.B.Blocks.wants c.args.blocks.now c.args.agent.now c.args.values.now) false (prog.If c.args.cond.now c.args.yes.now c.args.no.now) c.args.yes.now c.args.no.now (If c.args.cond.now c.args.yes.now c.args.no.now) (prog.outs-If c.args.cond.now c.args.yes.now c.args.no.now) (λ f. refl) (inr h)) c.first_move-in-No.ensures.fuel
+
+pub first_of_pick-returns-in_err-found-clause-fuel : goal.first_of_pick-returns-in_err-found-clause-fuel
+first_of_pick-returns-in_err-found-clause-fuel g t c =
+    let below : c.loop-constant.constant < sort_size c.args.agent.now c.args.sort = omega arith in
+    stops_from c.args.agent.now (g.B.Blocks.wants c.args.blocks.now c.args.agent.now c.args.values.now) false c.from_residual-in_err-found.result c.in_err-found.field-0.0 c.in_ok-put.put (prog.Pick c.args.var c.args.sort c.args.body.now) c.from_residual-in_err-found.ensures.1
+    (λ h. pick_lacks c.args.agent.now (g.B.Blocks.wants c.args.blocks.now c.args.agent.now c.args.values.now) false c.args.var c.args.sort c.args.body.now c.loop-constant.constant below (subst (λ (z : Prog). Lacks c.args.agent.now (g.B.Blocks.wants c.args.blocks.now c.args.agent.now c.args.values.now) false z) c.in_ok-put.ensures h)) c.in_err-found.ensures.fuel
+
+pub first_of_call-returns-clause-fuel : goal.first_of_call-returns-clause-fuel
+first_of_call-returns-clause-fuel g t c =
+    stops_as c.args.agent.now (g.B.Blocks.wants c.args.blocks.now c.args.agent.now c.args.values.now) false c.first_of.result c.in_ok-body.body (prog.Call c.args.item c.args.args.now)
+    (λ h. part_lacks c.args.agent.now (g.B.Blocks.wants c.args.blocks.now c.args.agent.now c.args.values.now) false (prog.Call c.args.item c.args.args.now) (body_of c.args.agent.now c.args.item c.args.args.now) (Call c.args.item c.args.args.now) (prog.outs-Call c.args.item c.args.args.now) (λ f. refl) (subst (λ (z : Prog). Lacks c.args.agent.now (g.B.Blocks.wants c.args.blocks.now c.args.agent.now c.args.values.now) false z) c.in_ok-body.ensures h)) c.first_of.ensures.fuel
+
+pub first_move-returns-in_err-found-in-Star-clause-fuel : goal.first_move-returns-in_err-found-in-Star-clause-fuel
+first_move-returns-in_err-found-in-Star-clause-fuel g t c =
+    let a = c.get-in-Star.result.now in
+    let e = one_same (prog.Star) c.args.prog.now c.in-Star.body a c.in-Star.is c.get-in-Star.ensures in
+    stops_from c.args.agent.now (g.B.Blocks.wants c.args.blocks.now c.args.agent.now c.args.values.now) false c.from_residual.result c.in_err-found-in-Star.field-0.0 a c.args.prog.now c.from_residual.ensures.1
+    (part_lacks c.args.agent.now (g.B.Blocks.wants c.args.blocks.now c.args.agent.now c.args.values.now) false c.args.prog.now a (Star a) (ap out-Prog e ∙ prog.outs-Star a) (λ f. refl)) c.in_err-found-in-Star.ensures.fuel
+
+pub first_move-returns-in_ok-found-in-Star-clause-fuel : goal.first_move-returns-in_ok-found-in-Star-clause-fuel
+first_move-returns-in_ok-found-in-Star-clause-fuel g t c =
+    memory_stops c.args.agent.now (g.B.Blocks.wants c.args.blocks.now c.args.agent.now c.args.values.now) false c.before-in-Star.result c.args.prog.now c.before-in-Star.ensures.memory
+
+pub first_move-returns-in_err-found-in-Cstar-clause-fuel : goal.first_move-returns-in_err-found-in-Cstar-clause-fuel
+first_move-returns-in_err-found-in-Cstar-clause-fuel g t c =
+    let a = c.get-in-Cstar.result.now in
+    let e = one_same (prog.Cstar) c.args.prog.now c.in-Cstar.body a c.in-Cstar.is c.get-in-Cstar.ensures in
+    stops_from c.args.agent.now (g.B.Blocks.wants c.args.blocks.now c.args.agent.now c.args.values.now) false c.from_residual-in_err-found-in-Cstar.result c.in_err-found-in-Cstar.field-0.0 a c.args.prog.now c.from_residual-in_err-found-in-Cstar.ensures.1
+    (part_lacks c.args.agent.now (g.B.Blocks.wants c.args.blocks.now c.args.agent.now c.args.values.now) false c.args.prog.now a (Cstar a) (ap out-Prog e ∙ prog.outs-Cstar a) (λ f. refl)) c.in_err-found-in-Cstar.ensures.fuel
+
+pub first_move-returns-in_ok-found-in-Cstar-clause-fuel : goal.first_move-returns-in_ok-found-in-Cstar-clause-fuel
+first_move-returns-in_ok-found-in-Cstar-clause-fuel g t c =
+    memory_stops c.args.agent.now (g.B.Blocks.wants c.args.blocks.now c.args.agent.now c.args.values.now) false c.beside.result c.args.prog.now c.beside.ensures.memory
+
+pub first_move-returns-in_err-found-in-While-clause-fuel : goal.first_move-returns-in_err-found-in-While-clause-fuel
+first_move-returns-in_err-found-in-While-clause-fuel g t c =
+    let a = c.get-then-holds.result.now in
+    let e = one_same (prog.While c.in-While.cond) c.args.prog.now c.in-While.body a c.in-While.is c.get-then-holds.ensures in
+    stops_from c.args.agent.now (g.B.Blocks.wants c.args.blocks.now c.args.agent.now c.args.values.now) false c.from_residual-in_err-found-in-While.result c.in_err-found-in-While.field-0.0 a c.args.prog.now c.from_residual-in_err-found-in-While.ensures.1
+    (part_lacks c.args.agent.now (g.B.Blocks.wants c.args.blocks.now c.args.agent.now c.args.values.now) false c.args.prog.now a (While c.in-While.cond a) (ap out-Prog e ∙ prog.outs-While c.in-While.cond a) (λ f. refl)) c.in_err-found-in-While.ensures.fuel
+
+pub first_move-returns-in_ok-found-in-While-clause-fuel : goal.first_move-returns-in_ok-found-in-While-clause-fuel
+first_move-returns-in_ok-found-in-While-clause-fuel g t c =
+    memory_stops c.args.agent.now (g.B.Blocks.wants c.args.blocks.now c.args.agent.now c.args.values.now) false c.before-then-holds.result c.args.prog.now c.before-then-holds.ensures.memory
+
+pub first_move-returns-in-Search-clause-fuel : goal.first_move-returns-in-Search-clause-fuel
+first_move-returns-in-Search-clause-fuel g t c =
+    let a = c.get-in-Search.result.now in
+    let e = one_same (prog.Search c.in-Search.depth c.in-Search.fuel) c.args.prog.now c.in-Search.body a c.in-Search.is c.get-in-Search.ensures in
+    must_stops c.args.agent.now (g.B.Blocks.wants c.args.blocks.now c.args.agent.now c.args.values.now) false c.first.result c.args.prog.now (Search c.in-Search.depth c.in-Search.fuel a) (ap out-Prog e ∙ prog.outs-Search c.in-Search.depth c.in-Search.fuel a) _ false (λ f. refl) c.first.ensures.fuel
+
+pub first_move-returns-in-Follow-clause-fuel : goal.first_move-returns-in-Follow-clause-fuel
+first_move-returns-in-Follow-clause-fuel g t c =
+    let a = c.get-in-Follow.result.now in
+    let rest = c.as_slice-in-Follow.result.now in
+    let e = one_same (λ (z : Prog). prog.Follow c.in-Follow.depth c.in-Follow.fuel z c.in-Follow.rest) c.args.prog.now c.in-Follow.body a c.in-Follow.is c.get-in-Follow.ensures in
+    let k = e ∙ ap (prog.Follow c.in-Follow.depth c.in-Follow.fuel a) (sym c.as_slice-in-Follow.ensures) in
+    must_stops c.args.agent.now (g.B.Blocks.wants c.args.blocks.now c.args.agent.now c.args.values.now) false c.first-in-Follow.result c.args.prog.now (Follow c.in-Follow.depth c.in-Follow.fuel a rest) (ap out-Prog k ∙ prog.outs-Follow c.in-Follow.depth c.in-Follow.fuel a rest) _ false (λ f. refl) c.first-in-Follow.ensures.fuel

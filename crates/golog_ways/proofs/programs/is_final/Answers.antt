@@ -1,5 +1,6 @@
 use Rattle.std.proofs.Common.{◌≡◌, ℕ, List, IfOk, length, ap, ◌∙◌, subst}
 use Rattle.golog_semantics.specs.Search.{final}
+use Rattle.golog_ways.proofs.InWorlds.{end_in_worlds}
 use Rattle.golog_ways.proofs.WellFormedFits.{well_formed_fits}
 use Rattle.golog_ways.proofs.programs.is_final.Goals as goal
 
@@ -10,4 +11,11 @@ pub can_end-requires-clause-whole : goal.can_end-requires-clause-whole
 can_end-requires-clause-whole c = ap length c.values.ensures ∙ c.requires.sorts.whole
 
 pub returns : goal.returns
-returns c = subst (λ (v : List ℕ). IfOk c.can_end.result (λ b. b ≡ final c.args.agent.now v c.args.mode c.args.prog.now)) c.values.ensures c.can_end.ensures
+returns c =
+    let agent = c.args.agent.now in
+    let p = c.args.prog.now in
+    let end = subst (λ (v : List ℕ). IfOk c.can_end.result (λ b. b ≡ final agent v c.args.mode p)) c.values.ensures c.can_end.ensures in
+    record {
+      end = end;
+      worlds = λ h. end_in_worlds agent c.requires.agent c.args.state.now p h c.args.mode c.can_end.result end;
+    }

@@ -1,31 +1,22 @@
-use Rattle.std.proofs.Common.{◌≡◌, ◌+◌, ◌*◌, ◌<◌, max, true, [], map, inl, inr, refl, sym, ap, ◌∙◌, subst, rules, arith}
-use Rattle.golog_tree.specs.declared.cond.Truth.{Truth}
+use Rattle.std.proofs.Common.{◌+◌, ◌*◌, ◌<◌, max, true, inl, inr, refl, ap, ◌∙◌, rules, arith}
 use Rattle.golog_tree.specs.declared.prog.Prog.{Prog}
-use Rattle.golog_tree.specs.declared.prog.Prog.TheOpen.{Choice, Star, If, While, Conc, Prio, Cstar, Call, Search, Follow}
+use Rattle.golog_tree.specs.declared.prog.Prog.TheOpen.{Choice, Star, If, While, Conc, Cstar, Call, Search, Follow}
 use Rattle.golog_tree.specs.declared.prog.Prog.TheVariants as prog
 use Rattle.golog_tree.specs.declared.prog.Prog.TheViews.{out-Prog}
 use Rattle.golog_tree.specs.Ground.{sort_size}
-use Rattle.golog_semantics.specs.declared.Mode.{Mode}
-use Rattle.golog_semantics.specs.declared.Mode.TheVariants.{May}
 use Rattle.golog_semantics.specs.Guarded.{front}
-use Rattle.golog_semantics.specs.Modes.{holds}
-use Rattle.golog_semantics.specs.Search.{final}
-use Rattle.golog_semantics.specs.Truth.{arg_value, env_of}
 use Rattle.golog_semantics.specs.Program.{put_arg, body_of}
-use Rattle.golog_semantics.proofs.Unfolded.{final-skips}
-use Rattle.golog_ways.specs.Lacking.{Lacks, wants_any}
-use Rattle.golog_ways.specs.Reach.{IsReach, IsReachWhere}
-use Rattle.golog_ways.proofs.Acting.{holds-precondition}
+use Rattle.golog_ways.specs.Lacking.{Lacks}
 use Rattle.golog_ways.proofs.BlockParts.{search_begins}
 use Rattle.golog_ways.proofs.Closing.{choice_parts, conc_parts, prio_parts, seq_parts, star_part, cstar_part, test_fits, if_parts, while_parts, pick_part, call_part, call_few}
-use Rattle.golog_ways.proofs.Lackings.{part_lacks, parts_lack, stops_as, stops_from, stops_either, block_stops, seq_one, seq_other, pick_lacks}
-use Rattle.golog_ways.proofs.Moved.{one_same, two_same, closed_as}
-use Rattle.golog_ways.proofs.ReachSteps.{reach_as, same_gives, nil_reach, act_reach, test_reach, seq_reach, seq_reach_first, choice_reach, conc_reach, prio_reach, star_gives, cstar_gives, search_gives, follow_gives, where_reach, where_none, if_reach, while_gives, call_gives, some_none, some_more, pick_reach}
+use Rattle.golog_ways.proofs.Lackings.{lacks_as, part_lacks, parts_lack, stops_as, stops_at_either, stops_first, stops_from, stops_or, block_stops, seq_one, seq_other, pick_lacks, prio_high, prio_low}
+use Rattle.golog_ways.proofs.Moved.{one_same, two_same, closed_as, closed_again, same_height}
+use Rattle.golog_ways.proofs.ReachSteps.{reach_as, same_gives, nil_reach, act_reach, test_reach, seq_gives, seq_reach_first, seq_settled, choice_gives, conc_gives, either_gives, prio_reach, prio_kept, star_gives, cstar_gives, search_gives, follow_gives, or_settled, or_more, skips, if_gives, while_gives, call_gives, some_none, some_more, pick_reach, pick_settled}
 use Rattle.golog_ways.proofs.reaching.+reach.Goals as goal
 
 pub reach_of-precondition-requires-clause-closed : goal.reach_of-precondition-requires-clause-closed
 reach_of-precondition-requires-clause-closed g t c =
-    let e = c.in-Act.is ∙ ap (prog.Act c.in-Act.action) (sym c.as_slice.ensures) in
+    let e = one_same (prog.Act c.in-Act.action) c.args.prog.now c.in-Act.args c.as_slice.result.now c.in-Act.is c.as_slice.ensures in
     closed_as c.args.agent.now c.args.prog.now (prog.Act c.in-Act.action c.as_slice.result.now) e c.requires.closed
 
 pub reach_of-truth-requires-clause-fits : goal.reach_of-truth-requires-clause-fits
@@ -38,47 +29,8 @@ reach_of-reach_of_seq-requires g t c κs within =
     let b = c.get-in-Seq.result.now in
     let e = two_same (prog.Seq) c.args.prog.now c.in-Seq.one c.in-Seq.other a b c.in-Seq.is c.get.ensures c.get-in-Seq.ensures in
     let closed = closed_as c.args.agent.now c.args.prog.now (prog.Seq a b) e c.requires.closed in
-    let same : (front c.args.agent.now c.args.prog.now).height ≡ (front c.args.agent.now (prog.Seq a b)).height = ap (λ (z : Prog). (front c.args.agent.now z).height) e in
+    let same = same_height c.args.agent.now c.args.prog.now (prog.Seq a b) e in
     let low : 3 * (front c.args.agent.now (prog.Seq a b)).height < 1 + 3 * (front c.args.agent.now c.args.prog.now).height = omega arith in
-    search rules
-
-pub reach_of-both_reaches-requires : goal.reach_of-both_reaches-requires
-reach_of-both_reaches-requires g t c κs within =
-    let a = c.get-in-Choice.result.now in
-    let b = c.get-in-Choice-2.result.now in
-    let e = two_same (prog.Choice) c.args.prog.now c.in-Choice.one c.in-Choice.other a b c.in-Choice.is c.get-in-Choice.ensures c.get-in-Choice-2.ensures in
-    let parts = choice_parts c.args.agent.now c.args.prog.now a b c.requires.closed e in
-    let one_closed = parts.one.closed_too in
-    let other_closed = parts.other.closed_too in
-    let l = parts.one.lower in
-    let k = parts.other.lower in
-    let low : 2 + 3 * max (front c.args.agent.now a).height (front c.args.agent.now b).height < 1 + 3 * (front c.args.agent.now c.args.prog.now).height = omega arith in
-    search rules
-
-pub reach_of-both_reaches-requires-in-Conc : goal.reach_of-both_reaches-requires-in-Conc
-reach_of-both_reaches-requires-in-Conc g t c κs within =
-    let a = c.get-in-Conc.result.now in
-    let b = c.get-in-Conc-2.result.now in
-    let e = two_same (prog.Conc) c.args.prog.now c.in-Conc.one c.in-Conc.other a b c.in-Conc.is c.get-in-Conc.ensures c.get-in-Conc-2.ensures in
-    let parts = conc_parts c.args.agent.now c.args.prog.now a b c.requires.closed e in
-    let one_closed = parts.one.closed_too in
-    let other_closed = parts.other.closed_too in
-    let l = parts.one.lower in
-    let k = parts.other.lower in
-    let low : 2 + 3 * max (front c.args.agent.now a).height (front c.args.agent.now b).height < 1 + 3 * (front c.args.agent.now c.args.prog.now).height = omega arith in
-    search rules
-
-pub reach_of-both_reaches-requires-in-Prio : goal.reach_of-both_reaches-requires-in-Prio
-reach_of-both_reaches-requires-in-Prio g t c κs within =
-    let a = c.get-in-Prio.result.now in
-    let b = c.get-in-Prio-2.result.now in
-    let e = two_same (prog.Prio) c.args.prog.now c.in-Prio.high c.in-Prio.low a b c.in-Prio.is c.get-in-Prio.ensures c.get-in-Prio-2.ensures in
-    let parts = prio_parts c.args.agent.now c.args.prog.now a b c.requires.closed e in
-    let one_closed = parts.one.closed_too in
-    let other_closed = parts.other.closed_too in
-    let l = parts.one.lower in
-    let k = parts.other.lower in
-    let low : 2 + 3 * max (front c.args.agent.now a).height (front c.args.agent.now b).height < 1 + 3 * (front c.args.agent.now c.args.prog.now).height = omega arith in
     search rules
 
 pub reach_of-reach_of-requires : goal.reach_of-reach_of-requires
@@ -107,7 +59,7 @@ reach_of-reach_of_if-requires g t c κs within =
     let b = c.get-in-If-2.result.now in
     let e = two_same (prog.If c.in-If.cond) c.args.prog.now c.in-If.yes c.in-If.no a b c.in-If.is c.get-in-If.ensures c.get-in-If-2.ensures in
     let closed = closed_as c.args.agent.now c.args.prog.now (prog.If c.in-If.cond a b) e c.requires.closed in
-    let same : (front c.args.agent.now c.args.prog.now).height ≡ (front c.args.agent.now (prog.If c.in-If.cond a b)).height = ap (λ (z : Prog). (front c.args.agent.now z).height) e in
+    let same = same_height c.args.agent.now c.args.prog.now (prog.If c.in-If.cond a b) e in
     let low : 3 * (front c.args.agent.now (prog.If c.in-If.cond a b)).height < 1 + 3 * (front c.args.agent.now c.args.prog.now).height = omega arith in
     search rules
 
@@ -116,7 +68,7 @@ reach_of-reach_of_while-requires g t c κs within =
     let a = c.get-in-While.result.now in
     let e = one_same (prog.While c.in-While.cond) c.args.prog.now c.in-While.body a c.in-While.is c.get-in-While.ensures in
     let closed = closed_as c.args.agent.now c.args.prog.now (prog.While c.in-While.cond a) e c.requires.closed in
-    let same : (front c.args.agent.now c.args.prog.now).height ≡ (front c.args.agent.now (prog.While c.in-While.cond a)).height = ap (λ (z : Prog). (front c.args.agent.now z).height) e in
+    let same = same_height c.args.agent.now c.args.prog.now (prog.While c.in-While.cond a) e in
     let low : 3 * (front c.args.agent.now (prog.While c.in-While.cond a)).height < 1 + 3 * (front c.args.agent.now c.args.prog.now).height = omega arith in
     search rules
 
@@ -125,16 +77,16 @@ reach_of-reach_of_pick-requires g t c κs within =
     let a = c.get-in-Pick.result.now in
     let e = one_same (prog.Pick c.in-Pick.var c.in-Pick.sort) c.args.prog.now c.in-Pick.body a c.in-Pick.is c.get-in-Pick.ensures in
     let closed = closed_as c.args.agent.now c.args.prog.now (prog.Pick c.in-Pick.var c.in-Pick.sort a) e c.requires.closed in
-    let same : (front c.args.agent.now c.args.prog.now).height ≡ (front c.args.agent.now (prog.Pick c.in-Pick.var c.in-Pick.sort a)).height = ap (λ (z : Prog). (front c.args.agent.now z).height) e in
+    let same = same_height c.args.agent.now c.args.prog.now (prog.Pick c.in-Pick.var c.in-Pick.sort a) e in
     let low : 3 * (front c.args.agent.now (prog.Pick c.in-Pick.var c.in-Pick.sort a)).height < 1 + 3 * (front c.args.agent.now c.args.prog.now).height = omega arith in
     search rules
 
 pub reach_of-reach_of_call-requires : goal.reach_of-reach_of_call-requires
 reach_of-reach_of_call-requires g t c κs within =
     let a = c.as_slice-in-Call.result.now in
-    let e = c.in-Call.is ∙ ap (prog.Call c.in-Call.item) (sym c.as_slice-in-Call.ensures) in
+    let e = one_same (prog.Call c.in-Call.item) c.args.prog.now c.in-Call.args c.as_slice-in-Call.result.now c.in-Call.is c.as_slice-in-Call.ensures in
     let closed = closed_as c.args.agent.now c.args.prog.now (prog.Call c.in-Call.item a) e c.requires.closed in
-    let same : (front c.args.agent.now c.args.prog.now).height ≡ (front c.args.agent.now (prog.Call c.in-Call.item a)).height = ap (λ (z : Prog). (front c.args.agent.now z).height) e in
+    let same = same_height c.args.agent.now c.args.prog.now (prog.Call c.in-Call.item a) e in
     let low : 3 * (front c.args.agent.now (prog.Call c.in-Call.item a)).height < 1 + 3 * (front c.args.agent.now c.args.prog.now).height = omega arith in
     search rules
 
@@ -142,22 +94,6 @@ pub reach_of_if-truth-is_so-requires-clause-fits : goal.reach_of_if-truth-is_so-
 reach_of_if-truth-is_so-requires-clause-fits g t c =
     let parts = if_parts c.args.agent.now (prog.If c.args.cond.now c.args.yes.now c.args.no.now) c.args.cond.now c.args.yes.now c.args.no.now c.requires.closed refl in
     parts.cond
-
-pub reach_of_if-reach_where-requires : goal.reach_of_if-reach_where-requires
-reach_of_if-reach_where-requires g t c κs within =
-    let parts = if_parts c.args.agent.now (prog.If c.args.cond.now c.args.yes.now c.args.no.now) c.args.cond.now c.args.yes.now c.args.no.now c.requires.closed refl in
-    let closed = parts.yes.closed_too in
-    let l = parts.yes.lower in
-    let low : 2 + 3 * (front c.args.agent.now c.args.yes.now).height < 3 * (front c.args.agent.now (prog.If c.args.cond.now c.args.yes.now c.args.no.now)).height = omega arith in
-    search rules
-
-pub reach_of_if-reach_where-requires-2 : goal.reach_of_if-reach_where-requires-2
-reach_of_if-reach_where-requires-2 g t c κs within =
-    let parts = if_parts c.args.agent.now (prog.If c.args.cond.now c.args.yes.now c.args.no.now) c.args.cond.now c.args.yes.now c.args.no.now c.requires.closed refl in
-    let closed = parts.no.closed_too in
-    let l = parts.no.lower in
-    let low : 2 + 3 * (front c.args.agent.now c.args.no.now).height < 3 * (front c.args.agent.now (prog.If c.args.cond.now c.args.yes.now c.args.no.now)).height = omega arith in
-    search rules
 
 pub reach_of_seq-reach_of-requires : goal.reach_of_seq-reach_of-requires
 reach_of_seq-reach_of-requires g t c κs within =
@@ -167,36 +103,10 @@ reach_of_seq-reach_of-requires g t c κs within =
     let low : 1 + 3 * (front c.args.agent.now c.args.one.now).height < 3 * (front c.args.agent.now (prog.Seq c.args.one.now c.args.other.now)).height = omega arith in
     search rules
 
-pub reach_of_seq-reach_of-requires-then-holds : goal.reach_of_seq-reach_of-requires-then-holds
-reach_of_seq-reach_of-requires-then-holds g t c κs within =
-    let parts = seq_parts c.args.agent.now (prog.Seq c.args.one.now c.args.other.now) c.args.one.now c.args.other.now c.requires.closed refl in
-    let closed = parts.other_closed in
-    let e : final c.args.agent.now c.args.values.now May c.args.one.now ≡ true = sym (c.in_ok-ends.ensures.ends May) ∙ sym c.holds.ensures ∙ c.if-holds.true in
-    let l = parts.other_lower (final-skips c.args.agent.now c.args.values.now c.requires.fit.guarded May c.args.one.now e) in
-    let low : 1 + 3 * (front c.args.agent.now c.args.other.now).height < 3 * (front c.args.agent.now (prog.Seq c.args.one.now c.args.other.now)).height = omega arith in
-    search rules
-
 pub reach_of_while-truth-is_so-requires-clause-fits : goal.reach_of_while-truth-is_so-requires-clause-fits
 reach_of_while-truth-is_so-requires-clause-fits g t c =
     let parts = while_parts c.args.agent.now (prog.While c.args.cond.now c.args.body.now) c.args.cond.now c.args.body.now c.requires.closed refl in
     parts.cond
-
-pub reach_where-reach_of-requires : goal.reach_where-reach_of-requires
-reach_where-reach_of-requires g t c κs within =
-    let low : 1 + 3 * (front c.args.agent.now c.args.prog.now).height < 2 + 3 * (front c.args.agent.now c.args.prog.now).height = omega arith in
-    search rules
-
-pub both_reaches-reach_of-requires : goal.both_reaches-reach_of-requires
-both_reaches-reach_of-requires g t c κs within =
-    let closed = c.requires.one in
-    let low : 1 + 3 * (front c.args.agent.now c.args.one.now).height < 2 + 3 * max (front c.args.agent.now c.args.one.now).height (front c.args.agent.now c.args.other.now).height = omega arith in
-    search rules
-
-pub both_reaches-reach_of-requires-2 : goal.both_reaches-reach_of-requires-2
-both_reaches-reach_of-requires-2 g t c κs within =
-    let closed = c.requires.other in
-    let low : 1 + 3 * (front c.args.agent.now c.args.other.now).height < 2 + 3 * max (front c.args.agent.now c.args.one.now).height (front c.args.agent.now c.args.other.now).height = omega arith in
-    search rules
 
 pub reach_of_put-reach_of-requires : goal.reach_of_put-reach_of-requires
 reach_of_put-reach_of-requires g t c κs within =
@@ -208,8 +118,8 @@ reach_of_pick-reach_of_put-requires g t c κs within =
     let below : c.loop-constant.constant < sort_size c.args.agent.now c.args.sort = omega arith in
     let put = c.in_ok-put.put in
     let part = pick_part c.args.agent.now (prog.Pick c.args.var c.args.sort c.args.body.now) c.args.var c.args.sort c.args.body.now c.requires.closed refl c.loop-constant.constant below in
-    let closed = closed_as c.args.agent.now (put_arg c.args.body.now c.args.var c.loop-constant.constant) put (sym c.in_ok-put.ensures) part.closed_too in
-    let same : (front c.args.agent.now put).height ≡ (front c.args.agent.now (put_arg c.args.body.now c.args.var c.loop-constant.constant)).height = ap (λ (z : Prog). (front c.args.agent.now z).height) c.in_ok-put.ensures in
+    let closed = closed_again c.args.agent.now (put_arg c.args.body.now c.args.var c.loop-constant.constant) put c.in_ok-put.ensures part.closed_too in
+    let same = same_height c.args.agent.now put (put_arg c.args.body.now c.args.var c.loop-constant.constant) c.in_ok-put.ensures in
     let l = part.lower in
     let low : 2 + 3 * (front c.args.agent.now put).height < 3 * (front c.args.agent.now (prog.Pick c.args.var c.args.sort c.args.body.now)).height = omega arith in
     search rules
@@ -222,22 +132,10 @@ pub reach_of_call-reach_of_put-requires : goal.reach_of_call-reach_of_put-requir
 reach_of_call-reach_of_put-requires g t c κs within =
     let body = c.in_ok-body.body in
     let part = call_part c.args.agent.now c.requires.fit (prog.Call c.args.item c.args.args.now) c.args.item c.args.args.now c.requires.closed refl in
-    let closed = closed_as c.args.agent.now (body_of c.args.agent.now c.args.item c.args.args.now) body (sym c.in_ok-body.ensures) part.closed_too in
-    let same : (front c.args.agent.now body).height ≡ (front c.args.agent.now (body_of c.args.agent.now c.args.item c.args.args.now)).height = ap (λ (z : Prog). (front c.args.agent.now z).height) c.in_ok-body.ensures in
+    let closed = closed_again c.args.agent.now (body_of c.args.agent.now c.args.item c.args.args.now) body c.in_ok-body.ensures part.closed_too in
+    let same = same_height c.args.agent.now body (body_of c.args.agent.now c.args.item c.args.args.now) c.in_ok-body.ensures in
     let l = part.lower in
     let low : 2 + 3 * (front c.args.agent.now body).height < 3 * (front c.args.agent.now (prog.Call c.args.item c.args.args.now)).height = omega arith in
-    search rules
-
-pub reach_of_seq-outlook-requires-clause-closed : goal.reach_of_seq-outlook-requires-clause-closed
-reach_of_seq-outlook-requires-clause-closed g t c =
-    (seq_parts c.args.agent.now (prog.Seq c.args.one.now c.args.other.now) c.args.one.now c.args.other.now c.requires.closed refl).one.closed_too
-
-pub reach_of_while-reach_where-requires : goal.reach_of_while-reach_where-requires
-reach_of_while-reach_where-requires g t c κs within =
-    let parts = while_parts c.args.agent.now (prog.While c.args.cond.now c.args.body.now) c.args.cond.now c.args.body.now c.requires.closed refl in
-    let closed = parts.body.closed_too in
-    let l = parts.body.lower in
-    let low : 2 + 3 * (front c.args.agent.now c.args.body.now).height < 3 * (front c.args.agent.now (prog.While c.args.cond.now c.args.body.now)).height = omega arith in
     search rules
 
 pub reach_of-returns-in-Nil-clause-reach : goal.reach_of-returns-in-Nil-clause-reach
@@ -247,9 +145,8 @@ reach_of-returns-in-Nil-clause-reach g t c =
 pub reach_of-returns-in-Act-clause-reach : goal.reach_of-returns-in-Act-clause-reach
 reach_of-returns-in-Act-clause-reach g t c =
     let args = c.as_slice.result.now in
-    let e = c.in-Act.is ∙ ap (prog.Act c.in-Act.action) (sym c.as_slice.ensures) in
-    let h = λ (m : Mode). c.of.ensures m ∙ ap (λ (t : Truth). holds m t) c.precondition.ensures ∙ holds-precondition c.args.agent.now c.args.values.now c.in-Act.action (map (arg_value (env_of [])) args) m in
-    reach_as c.args.agent.now (g.B.Blocks.moves c.args.blocks.now c.args.agent.now c.args.values.now) c.args.values.now c.args.prog.now (prog.Act c.in-Act.action args) _ e (act_reach c.args.agent.now (g.B.Blocks.moves c.args.blocks.now c.args.agent.now c.args.values.now) c.args.values.now c.requires.fit.guarded c.in-Act.action args c.of.result h)
+    let e = one_same (prog.Act c.in-Act.action) c.args.prog.now c.in-Act.args c.as_slice.result.now c.in-Act.is c.as_slice.ensures in
+    reach_as c.args.agent.now (g.B.Blocks.moves c.args.blocks.now c.args.agent.now c.args.values.now) c.args.values.now c.args.prog.now (prog.Act c.in-Act.action args) _ e (act_reach c.args.agent.now (g.B.Blocks.moves c.args.blocks.now c.args.agent.now c.args.values.now) c.args.values.now c.requires.fit.guarded c.in-Act.action args c.precondition.result c.of.result c.precondition.ensures c.of.ensures)
 
 pub reach_of-returns-in-Test-clause-reach : goal.reach_of-returns-in-Test-clause-reach
 reach_of-returns-in-Test-clause-reach g t c =
@@ -261,27 +158,6 @@ reach_of-returns-in-Seq-clause-reach g t c =
     let b = c.get-in-Seq.result.now in
     let e = two_same (prog.Seq) c.args.prog.now c.in-Seq.one c.in-Seq.other a b c.in-Seq.is c.get.ensures c.get-in-Seq.ensures in
     same_gives c.args.agent.now (g.B.Blocks.moves c.args.blocks.now c.args.agent.now c.args.values.now) c.args.values.now c.reach_of_seq.result c.args.prog.now (prog.Seq a b) e c.reach_of_seq.ensures.reach
-
-pub reach_of-returns-in_ok-one-in-Choice-clause-reach : goal.reach_of-returns-in_ok-one-in-Choice-clause-reach
-reach_of-returns-in_ok-one-in-Choice-clause-reach g t c =
-    let a = c.get-in-Choice.result.now in
-    let b = c.get-in-Choice-2.result.now in
-    let e = two_same (prog.Choice) c.args.prog.now c.in-Choice.one c.in-Choice.other a b c.in-Choice.is c.get-in-Choice.ensures c.get-in-Choice-2.ensures in
-    reach_as c.args.agent.now (g.B.Blocks.moves c.args.blocks.now c.args.agent.now c.args.values.now) c.args.values.now c.args.prog.now (prog.Choice a b) _ e (choice_reach c.args.agent.now (g.B.Blocks.moves c.args.blocks.now c.args.agent.now c.args.values.now) c.args.values.now c.requires.fit.guarded a b c.in_ok-one-in-Choice.one c.in_ok-one-in-Choice.other c.or.result c.in_ok-one-in-Choice.ensures.reach.one c.in_ok-one-in-Choice.ensures.reach.other c.or.ensures)
-
-pub reach_of-returns-in_ok-one-in-Conc-clause-reach : goal.reach_of-returns-in_ok-one-in-Conc-clause-reach
-reach_of-returns-in_ok-one-in-Conc-clause-reach g t c =
-    let a = c.get-in-Conc.result.now in
-    let b = c.get-in-Conc-2.result.now in
-    let e = two_same (prog.Conc) c.args.prog.now c.in-Conc.one c.in-Conc.other a b c.in-Conc.is c.get-in-Conc.ensures c.get-in-Conc-2.ensures in
-    reach_as c.args.agent.now (g.B.Blocks.moves c.args.blocks.now c.args.agent.now c.args.values.now) c.args.values.now c.args.prog.now (prog.Conc a b) _ e (conc_reach c.args.agent.now (g.B.Blocks.moves c.args.blocks.now c.args.agent.now c.args.values.now) c.args.values.now c.requires.fit.guarded a b c.in_ok-one-in-Conc.one c.in_ok-one-in-Conc.other c.or-in-Conc.result c.in_ok-one-in-Conc.ensures.reach.one c.in_ok-one-in-Conc.ensures.reach.other c.or-in-Conc.ensures)
-
-pub reach_of-returns-in_ok-high-in-Prio-clause-reach : goal.reach_of-returns-in_ok-high-in-Prio-clause-reach
-reach_of-returns-in_ok-high-in-Prio-clause-reach g t c =
-    let a = c.get-in-Prio.result.now in
-    let b = c.get-in-Prio-2.result.now in
-    let e = two_same (prog.Prio) c.args.prog.now c.in-Prio.high c.in-Prio.low a b c.in-Prio.is c.get-in-Prio.ensures c.get-in-Prio-2.ensures in
-    reach_as c.args.agent.now (g.B.Blocks.moves c.args.blocks.now c.args.agent.now c.args.values.now) c.args.values.now c.args.prog.now (prog.Prio a b) _ e (prio_reach c.args.agent.now (g.B.Blocks.moves c.args.blocks.now c.args.agent.now c.args.values.now) c.args.values.now c.requires.fit.guarded a b c.in_ok-high-in-Prio.high c.in_ok-high-in-Prio.low c.over.result c.in_ok-high-in-Prio.ensures.reach.one c.in_ok-high-in-Prio.ensures.reach.other c.over.ensures)
 
 pub reach_of-returns-in-Star-clause-reach : goal.reach_of-returns-in-Star-clause-reach
 reach_of-returns-in-Star-clause-reach g t c =
@@ -317,7 +193,7 @@ reach_of-returns-in-Pick-clause-reach g t c =
 pub reach_of-returns-in-Call-clause-reach : goal.reach_of-returns-in-Call-clause-reach
 reach_of-returns-in-Call-clause-reach g t c =
     let a = c.as_slice-in-Call.result.now in
-    let e = c.in-Call.is ∙ ap (prog.Call c.in-Call.item) (sym c.as_slice-in-Call.ensures) in
+    let e = one_same (prog.Call c.in-Call.item) c.args.prog.now c.in-Call.args c.as_slice-in-Call.result.now c.in-Call.is c.as_slice-in-Call.ensures in
     same_gives c.args.agent.now (g.B.Blocks.moves c.args.blocks.now c.args.agent.now c.args.values.now) c.args.values.now c.reach_of_call.result c.args.prog.now (prog.Call c.in-Call.item a) e c.reach_of_call.ensures.reach
 
 pub reach_of-reach-requires-clause-closed : goal.reach_of-reach-requires-clause-closed
@@ -337,37 +213,8 @@ reach_of-returns-in-Follow-clause-reach g t c =
     let a = c.get-in-Follow.result.now in
     let rest = c.as_slice-in-Follow.result.now in
     let e = one_same (λ (z : Prog). prog.Follow c.in-Follow.depth c.in-Follow.fuel z c.in-Follow.rest) c.args.prog.now c.in-Follow.body a c.in-Follow.is c.get-in-Follow.ensures in
-    let k = e ∙ ap (prog.Follow c.in-Follow.depth c.in-Follow.fuel a) (sym c.as_slice-in-Follow.ensures) in
+    let k = one_same (prog.Follow c.in-Follow.depth c.in-Follow.fuel a) c.args.prog.now c.in-Follow.rest rest e c.as_slice-in-Follow.ensures in
     follow_gives c.args.agent.now (g.B.Blocks.moves c.args.blocks.now c.args.agent.now c.args.values.now) c.args.values.now c.requires.fit.guarded c.reach-in-Follow.result c.args.prog.now a c.in-Follow.depth c.in-Follow.fuel rest k c.reach-in-Follow.ensures.reach
-
-pub reach_of_seq-returns-in_ok-other-clause-reach : goal.reach_of_seq-returns-in_ok-other-clause-reach
-reach_of_seq-returns-in_ok-other-clause-reach g t c =
-    seq_reach c.args.agent.now (g.B.Blocks.moves c.args.blocks.now c.args.agent.now c.args.values.now) c.args.values.now c.requires.fit.guarded c.args.one.now c.args.other.now c.in_ok-one.one c.in_ok-other.other c.or.result c.in_ok-one.ensures.reach c.in_ok-other.ensures.reach c.in_ok-ends.field-0.ends c.where_holds.result c.in_ok-ends.ensures.ends c.where_holds.ensures c.or.ensures
-
-pub reach_of_seq-returns-else-holds-clause-reach : goal.reach_of_seq-returns-else-holds-clause-reach
-reach_of_seq-returns-else-holds-clause-reach g t c =
-    seq_reach_first c.args.agent.now (g.B.Blocks.moves c.args.blocks.now c.args.agent.now c.args.values.now) c.args.values.now c.requires.fit.guarded c.args.one.now c.args.other.now c.in_ok-ends.field-0.ends c.in_ok-one.one c.in_ok-ends.ensures.ends (sym c.holds.ensures ∙ c.if-holds.false) c.in_ok-one.ensures.reach
-
-pub reach_where-returns-in_ok-reach-clause-reach : goal.reach_where-returns-in_ok-reach-clause-reach
-reach_where-returns-in_ok-reach-clause-reach g t c =
-    where_reach c.args.agent.now (g.B.Blocks.moves c.args.blocks.now c.args.agent.now c.args.values.now) c.args.values.now c.requires.fit.guarded c.args.truth c.args.prog.now c.in_ok-reach.reach c.where_holds.result c.where_holds.ensures c.in_ok-reach.ensures.reach
-
-pub reach_where-returns-else-holds-clause-reach : goal.reach_where-returns-else-holds-clause-reach
-reach_where-returns-else-holds-clause-reach g t c =
-    where_none c.args.agent.now (g.B.Blocks.moves c.args.blocks.now c.args.agent.now c.args.values.now) c.args.values.now c.requires.fit.guarded c.args.truth c.args.prog.now (sym c.holds.ensures ∙ c.if-holds.false)
-
-pub reach_of_if-returns-clause-reach : goal.reach_of_if-returns-clause-reach
-reach_of_if-returns-clause-reach g t c =
-    let other = subst (λ (s : Truth). IsReachWhere c.args.agent.now (g.B.Blocks.moves c.args.blocks.now c.args.agent.now c.args.values.now) c.args.values.now s c.args.no.now c.in_ok-no.no) c.negation.ensures c.in_ok-no.ensures.reach in
-    if_reach c.args.agent.now (g.B.Blocks.moves c.args.blocks.now c.args.agent.now c.args.values.now) c.args.values.now c.requires.fit.guarded c.args.cond.now c.args.yes.now c.args.no.now c.truth-is_so.result c.in_ok-yes.yes c.in_ok-no.no c.or.result c.truth-is_so.ensures c.or.ensures c.in_ok-yes.ensures.reach other
-
-pub reach_of_while-returns-clause-reach : goal.reach_of_while-returns-clause-reach
-reach_of_while-returns-clause-reach g t c =
-    while_gives c.args.agent.now (g.B.Blocks.moves c.args.blocks.now c.args.agent.now c.args.values.now) c.args.values.now c.requires.fit.guarded c.reach_where.result c.args.cond.now c.args.body.now c.truth-is_so.result c.truth-is_so.ensures c.reach_where.ensures.reach
-
-pub both_reaches-returns-clause-reach : goal.both_reaches-returns-clause-reach
-both_reaches-returns-clause-reach g t c =
-    record { one = c.in_ok-one.ensures.reach; other = c.in_ok-other.ensures.reach }
 
 pub reach_of_pick-loop-constant-init : goal.reach_of_pick-loop-constant-init
 reach_of_pick-loop-constant-init g t c =
@@ -376,8 +223,7 @@ reach_of_pick-loop-constant-init g t c =
 pub reach_of_pick-loop-constant-preserved : goal.reach_of_pick-loop-constant-preserved
 reach_of_pick-loop-constant-preserved g t c =
     let below : c.loop-constant.constant < sort_size c.args.agent.now c.args.sort = omega arith in
-    let seen = subst (λ (z : Prog). IsReach c.args.agent.now (g.B.Blocks.moves c.args.blocks.now c.args.agent.now c.args.values.now) c.args.values.now z c.in_ok-one.one) c.in_ok-put.ensures c.in_ok-one.ensures.reach in
-    some_more c.args.agent.now (g.B.Blocks.moves c.args.blocks.now c.args.agent.now c.args.values.now) c.args.values.now c.args.var c.args.sort c.args.body.now c.loop-constant.constant c.loop-constant.some c.in_ok-one.one c.or-some.result below seen c.or-some.ensures c.loop-constant.invariant
+    some_more c.args.agent.now (g.B.Blocks.moves c.args.blocks.now c.args.agent.now c.args.values.now) c.args.values.now c.args.var c.args.sort c.args.body.now c.loop-constant.constant c.loop-constant.some c.in_ok-put.put c.in_ok-one.one c.or-some.result below c.in_ok-put.ensures c.in_ok-one.ensures.reach c.or-some.ensures c.loop-constant.invariant
 
 pub reach_of_pick-returns-clause-reach : goal.reach_of_pick-returns-clause-reach
 reach_of_pick-returns-clause-reach g t c =
@@ -387,88 +233,266 @@ pub reach_of_call-returns-clause-reach : goal.reach_of_call-returns-clause-reach
 reach_of_call-returns-clause-reach g t c =
     call_gives c.args.agent.now (g.B.Blocks.moves c.args.blocks.now c.args.agent.now c.args.values.now) c.args.values.now c.requires.fit.guarded c.reach_of_put.result c.args.item c.args.args.now c.in_ok-body.body c.in_ok-body.ensures c.reach_of_put.ensures.reach
 
-pub reach_of-returns-in_err-one-in-Choice-clause-fuel : goal.reach_of-returns-in_err-one-in-Choice-clause-fuel
-reach_of-returns-in_err-one-in-Choice-clause-fuel g t c =
-    let a = c.get-in-Choice.result.now in
-    let b = c.get-in-Choice-2.result.now in
-    let e = two_same (prog.Choice) c.args.prog.now c.in-Choice.one c.in-Choice.other a b c.in-Choice.is c.get-in-Choice.ensures c.get-in-Choice-2.ensures in
-    stops_either c.args.agent.now (wants_any (g.B.Blocks.wants c.args.blocks.now c.args.agent.now c.args.values.now)) c.from_residual.result c.in_err-one-in-Choice.field-0.0 a b c.args.prog.now c.from_residual.ensures.1 (parts_lack c.args.agent.now (wants_any (g.B.Blocks.wants c.args.blocks.now c.args.agent.now c.args.values.now)) c.args.prog.now a b (Choice a b) (ap out-Prog e ∙ prog.outs-Choice a b) (λ f. refl)) c.in_err-one-in-Choice.ensures.fuel
-
-pub reach_of-returns-in_err-one-in-Conc-clause-fuel : goal.reach_of-returns-in_err-one-in-Conc-clause-fuel
-reach_of-returns-in_err-one-in-Conc-clause-fuel g t c =
-    let a = c.get-in-Conc.result.now in
-    let b = c.get-in-Conc-2.result.now in
-    let e = two_same (prog.Conc) c.args.prog.now c.in-Conc.one c.in-Conc.other a b c.in-Conc.is c.get-in-Conc.ensures c.get-in-Conc-2.ensures in
-    stops_either c.args.agent.now (wants_any (g.B.Blocks.wants c.args.blocks.now c.args.agent.now c.args.values.now)) c.from_residual-in_err-one-in-Conc.result c.in_err-one-in-Conc.field-0.0 a b c.args.prog.now c.from_residual-in_err-one-in-Conc.ensures.1 (parts_lack c.args.agent.now (wants_any (g.B.Blocks.wants c.args.blocks.now c.args.agent.now c.args.values.now)) c.args.prog.now a b (Conc a b) (ap out-Prog e ∙ prog.outs-Conc a b) (λ f. refl)) c.in_err-one-in-Conc.ensures.fuel
-
-pub reach_of-returns-in_err-high-in-Prio-clause-fuel : goal.reach_of-returns-in_err-high-in-Prio-clause-fuel
-reach_of-returns-in_err-high-in-Prio-clause-fuel g t c =
-    let a = c.get-in-Prio.result.now in
-    let b = c.get-in-Prio-2.result.now in
-    let e = two_same (prog.Prio) c.args.prog.now c.in-Prio.high c.in-Prio.low a b c.in-Prio.is c.get-in-Prio.ensures c.get-in-Prio-2.ensures in
-    stops_either c.args.agent.now (wants_any (g.B.Blocks.wants c.args.blocks.now c.args.agent.now c.args.values.now)) c.from_residual-in_err-high-in-Prio.result c.in_err-high-in-Prio.field-0.0 a b c.args.prog.now c.from_residual-in_err-high-in-Prio.ensures.1 (parts_lack c.args.agent.now (wants_any (g.B.Blocks.wants c.args.blocks.now c.args.agent.now c.args.values.now)) c.args.prog.now a b (Prio a b) (ap out-Prog e ∙ prog.outs-Prio a b) (λ f. refl)) c.in_err-high-in-Prio.ensures.fuel
-
 pub reach_of-returns-in-Star-clause-fuel : goal.reach_of-returns-in-Star-clause-fuel
 reach_of-returns-in-Star-clause-fuel g t c =
     let a = c.get-in-Star.result.now in
     let e = one_same (prog.Star) c.args.prog.now c.in-Star.body a c.in-Star.is c.get-in-Star.ensures in
-    stops_as c.args.agent.now (wants_any (g.B.Blocks.wants c.args.blocks.now c.args.agent.now c.args.values.now)) c.reach_of.result a c.args.prog.now (part_lacks c.args.agent.now (wants_any (g.B.Blocks.wants c.args.blocks.now c.args.agent.now c.args.values.now)) c.args.prog.now a (Star a) (ap out-Prog e ∙ prog.outs-Star a) (λ f. refl)) c.reach_of.ensures.fuel
+    stops_as c.args.agent.now (g.B.Blocks.wants c.args.blocks.now c.args.agent.now c.args.values.now) true c.reach_of.result a c.args.prog.now (part_lacks c.args.agent.now (g.B.Blocks.wants c.args.blocks.now c.args.agent.now c.args.values.now) true c.args.prog.now a (Star a) (ap out-Prog e ∙ prog.outs-Star a) (λ f. refl)) c.reach_of.ensures.fuel
 
 pub reach_of-returns-in-Cstar-clause-fuel : goal.reach_of-returns-in-Cstar-clause-fuel
 reach_of-returns-in-Cstar-clause-fuel g t c =
     let a = c.get-in-Cstar.result.now in
     let e = one_same (prog.Cstar) c.args.prog.now c.in-Cstar.body a c.in-Cstar.is c.get-in-Cstar.ensures in
-    stops_as c.args.agent.now (wants_any (g.B.Blocks.wants c.args.blocks.now c.args.agent.now c.args.values.now)) c.reach_of-in-Cstar.result a c.args.prog.now (part_lacks c.args.agent.now (wants_any (g.B.Blocks.wants c.args.blocks.now c.args.agent.now c.args.values.now)) c.args.prog.now a (Cstar a) (ap out-Prog e ∙ prog.outs-Cstar a) (λ f. refl)) c.reach_of-in-Cstar.ensures.fuel
+    stops_as c.args.agent.now (g.B.Blocks.wants c.args.blocks.now c.args.agent.now c.args.values.now) true c.reach_of-in-Cstar.result a c.args.prog.now (part_lacks c.args.agent.now (g.B.Blocks.wants c.args.blocks.now c.args.agent.now c.args.values.now) true c.args.prog.now a (Cstar a) (ap out-Prog e ∙ prog.outs-Cstar a) (λ f. refl)) c.reach_of-in-Cstar.ensures.fuel
 
 pub reach_of-returns-in-Search-clause-fuel : goal.reach_of-returns-in-Search-clause-fuel
 reach_of-returns-in-Search-clause-fuel g t c =
     let a = c.get-in-Search.result.now in
     let e = one_same (prog.Search c.in-Search.depth c.in-Search.fuel) c.args.prog.now c.in-Search.body a c.in-Search.is c.get-in-Search.ensures in
-    block_stops c.args.agent.now (wants_any (g.B.Blocks.wants c.args.blocks.now c.args.agent.now c.args.values.now)) c.reach.result c.args.prog.now (Search c.in-Search.depth c.in-Search.fuel a) (ap out-Prog e ∙ prog.outs-Search c.in-Search.depth c.in-Search.fuel a) _ (λ f. refl) c.reach.ensures.fuel
+    block_stops c.args.agent.now (g.B.Blocks.wants c.args.blocks.now c.args.agent.now c.args.values.now) true c.reach.result c.args.prog.now (Search c.in-Search.depth c.in-Search.fuel a) (ap out-Prog e ∙ prog.outs-Search c.in-Search.depth c.in-Search.fuel a) _ (λ f. refl) c.reach.ensures.fuel
 
 pub reach_of-returns-in-Follow-clause-fuel : goal.reach_of-returns-in-Follow-clause-fuel
 reach_of-returns-in-Follow-clause-fuel g t c =
     let a = c.get-in-Follow.result.now in
     let rest = c.as_slice-in-Follow.result.now in
     let e = one_same (λ (z : Prog). prog.Follow c.in-Follow.depth c.in-Follow.fuel z c.in-Follow.rest) c.args.prog.now c.in-Follow.body a c.in-Follow.is c.get-in-Follow.ensures in
-    let k = e ∙ ap (prog.Follow c.in-Follow.depth c.in-Follow.fuel a) (sym c.as_slice-in-Follow.ensures) in
-    block_stops c.args.agent.now (wants_any (g.B.Blocks.wants c.args.blocks.now c.args.agent.now c.args.values.now)) c.reach-in-Follow.result c.args.prog.now (Follow c.in-Follow.depth c.in-Follow.fuel a rest) (ap out-Prog k ∙ prog.outs-Follow c.in-Follow.depth c.in-Follow.fuel a rest) _ (λ f. refl) c.reach-in-Follow.ensures.fuel
+    let k = one_same (prog.Follow c.in-Follow.depth c.in-Follow.fuel a) c.args.prog.now c.in-Follow.rest rest e c.as_slice-in-Follow.ensures in
+    block_stops c.args.agent.now (g.B.Blocks.wants c.args.blocks.now c.args.agent.now c.args.values.now) true c.reach-in-Follow.result c.args.prog.now (Follow c.in-Follow.depth c.in-Follow.fuel a rest) (ap out-Prog k ∙ prog.outs-Follow c.in-Follow.depth c.in-Follow.fuel a rest) _ (λ f. refl) c.reach-in-Follow.ensures.fuel
 
 pub reach_of_call-returns-clause-fuel : goal.reach_of_call-returns-clause-fuel
 reach_of_call-returns-clause-fuel g t c =
     let r = prog.Call c.args.item c.args.args.now in
-    let lack = λ (h : Lacks c.args.agent.now (wants_any (g.B.Blocks.wants c.args.blocks.now c.args.agent.now c.args.values.now)) c.in_ok-body.body). part_lacks c.args.agent.now (wants_any (g.B.Blocks.wants c.args.blocks.now c.args.agent.now c.args.values.now)) r (body_of c.args.agent.now c.args.item c.args.args.now) (Call c.args.item c.args.args.now) (prog.outs-Call c.args.item c.args.args.now) (λ f. refl) (subst (λ (z : Prog). Lacks c.args.agent.now (wants_any (g.B.Blocks.wants c.args.blocks.now c.args.agent.now c.args.values.now)) z) c.in_ok-body.ensures h) in
-    stops_as c.args.agent.now (wants_any (g.B.Blocks.wants c.args.blocks.now c.args.agent.now c.args.values.now)) c.reach_of_put.result c.in_ok-body.body r lack c.reach_of_put.ensures.fuel
-
-pub reach_of_if-returns-in_err-yes-clause-fuel : goal.reach_of_if-returns-in_err-yes-clause-fuel
-reach_of_if-returns-in_err-yes-clause-fuel g t c =
-    let r = prog.If c.args.cond.now c.args.yes.now c.args.no.now in
-    let lack = λ (h : Lacks c.args.agent.now (wants_any (g.B.Blocks.wants c.args.blocks.now c.args.agent.now c.args.values.now)) c.args.yes.now). parts_lack c.args.agent.now (wants_any (g.B.Blocks.wants c.args.blocks.now c.args.agent.now c.args.values.now)) r c.args.yes.now c.args.no.now (If c.args.cond.now c.args.yes.now c.args.no.now) (prog.outs-If c.args.cond.now c.args.yes.now c.args.no.now) (λ f. refl) (inl h) in
-    stops_from c.args.agent.now (wants_any (g.B.Blocks.wants c.args.blocks.now c.args.agent.now c.args.values.now)) c.from_residual.result c.in_err-yes.field-0.0 c.args.yes.now r c.from_residual.ensures.1 lack c.in_err-yes.ensures.fuel
-
-pub reach_of_if-returns-in_err-no-clause-fuel : goal.reach_of_if-returns-in_err-no-clause-fuel
-reach_of_if-returns-in_err-no-clause-fuel g t c =
-    let r = prog.If c.args.cond.now c.args.yes.now c.args.no.now in
-    let lack = λ (h : Lacks c.args.agent.now (wants_any (g.B.Blocks.wants c.args.blocks.now c.args.agent.now c.args.values.now)) c.args.no.now). parts_lack c.args.agent.now (wants_any (g.B.Blocks.wants c.args.blocks.now c.args.agent.now c.args.values.now)) r c.args.yes.now c.args.no.now (If c.args.cond.now c.args.yes.now c.args.no.now) (prog.outs-If c.args.cond.now c.args.yes.now c.args.no.now) (λ f. refl) (inr h) in
-    stops_from c.args.agent.now (wants_any (g.B.Blocks.wants c.args.blocks.now c.args.agent.now c.args.values.now)) c.from_residual-in_err-no.result c.in_err-no.field-0.0 c.args.no.now r c.from_residual-in_err-no.ensures.1 lack c.in_err-no.ensures.fuel
+    let lack = λ (h : Lacks c.args.agent.now (g.B.Blocks.wants c.args.blocks.now c.args.agent.now c.args.values.now) true c.in_ok-body.body). part_lacks c.args.agent.now (g.B.Blocks.wants c.args.blocks.now c.args.agent.now c.args.values.now) true r (body_of c.args.agent.now c.args.item c.args.args.now) (Call c.args.item c.args.args.now) (prog.outs-Call c.args.item c.args.args.now) (λ f. refl) (lacks_as c.args.agent.now (g.B.Blocks.wants c.args.blocks.now c.args.agent.now c.args.values.now) true c.in_ok-body.body (body_of c.args.agent.now c.args.item c.args.args.now) c.in_ok-body.ensures h) in
+    stops_as c.args.agent.now (g.B.Blocks.wants c.args.blocks.now c.args.agent.now c.args.values.now) true c.reach_of_put.result c.in_ok-body.body r lack c.reach_of_put.ensures.fuel
 
 pub reach_of_pick-returns-in_err-one-clause-fuel : goal.reach_of_pick-returns-in_err-one-clause-fuel
 reach_of_pick-returns-in_err-one-clause-fuel g t c =
     let below : c.loop-constant.constant < sort_size c.args.agent.now c.args.sort = omega arith in
-    let lack = λ (h : Lacks c.args.agent.now (wants_any (g.B.Blocks.wants c.args.blocks.now c.args.agent.now c.args.values.now)) c.in_ok-put.put). pick_lacks c.args.agent.now (wants_any (g.B.Blocks.wants c.args.blocks.now c.args.agent.now c.args.values.now)) c.args.var c.args.sort c.args.body.now c.loop-constant.constant below (subst (λ (z : Prog). Lacks c.args.agent.now (wants_any (g.B.Blocks.wants c.args.blocks.now c.args.agent.now c.args.values.now)) z) c.in_ok-put.ensures h) in
-    stops_from c.args.agent.now (wants_any (g.B.Blocks.wants c.args.blocks.now c.args.agent.now c.args.values.now)) c.from_residual-in_err-one.result c.in_err-one.field-0.0 c.in_ok-put.put (prog.Pick c.args.var c.args.sort c.args.body.now) c.from_residual-in_err-one.ensures.1 lack c.in_err-one.ensures.fuel
+    let lack = λ (h : Lacks c.args.agent.now (g.B.Blocks.wants c.args.blocks.now c.args.agent.now c.args.values.now) true c.in_ok-put.put). pick_lacks c.args.agent.now (g.B.Blocks.wants c.args.blocks.now c.args.agent.now c.args.values.now) true c.args.var c.args.sort c.args.body.now c.loop-constant.constant below (lacks_as c.args.agent.now (g.B.Blocks.wants c.args.blocks.now c.args.agent.now c.args.values.now) true c.in_ok-put.put (put_arg c.args.body.now c.args.var c.loop-constant.constant) c.in_ok-put.ensures h) in
+    stops_from c.args.agent.now (g.B.Blocks.wants c.args.blocks.now c.args.agent.now c.args.values.now) true c.from_residual-in_err-one.result c.in_err-one.field-0.0 c.in_ok-put.put (prog.Pick c.args.var c.args.sort c.args.body.now) c.from_residual-in_err-one.ensures.1 lack c.in_err-one.ensures.fuel
 
-pub reach_of_seq-returns-in_err-one-clause-fuel : goal.reach_of_seq-returns-in_err-one-clause-fuel
-reach_of_seq-returns-in_err-one-clause-fuel g t c =
-    stops_from c.args.agent.now (wants_any (g.B.Blocks.wants c.args.blocks.now c.args.agent.now c.args.values.now)) c.from_residual-in_err-one.result c.in_err-one.field-0.0 c.args.one.now (prog.Seq c.args.one.now c.args.other.now) c.from_residual-in_err-one.ensures.1 (seq_one c.args.agent.now (wants_any (g.B.Blocks.wants c.args.blocks.now c.args.agent.now c.args.values.now)) c.args.one.now c.args.other.now) c.in_err-one.ensures.fuel
+pub reach_of-reach_of_either-requires : goal.reach_of-reach_of_either-requires
+reach_of-reach_of_either-requires g t c κs within =
+    let a = c.get-in-Choice.result.now in
+    let b = c.get-in-Choice-2.result.now in
+    let e = two_same (prog.Choice) c.args.prog.now c.in-Choice.one c.in-Choice.other a b c.in-Choice.is c.get-in-Choice.ensures c.get-in-Choice-2.ensures in
+    let parts = choice_parts c.args.agent.now c.args.prog.now a b c.requires.closed e in
+    let one_closed = parts.one.closed_too in
+    let other_closed = parts.other.closed_too in
+    let l = parts.one.lower in
+    let k = parts.other.lower in
+    let low : 3 + 3 * max (front c.args.agent.now a).height (front c.args.agent.now b).height < 1 + 3 * (front c.args.agent.now c.args.prog.now).height = omega arith in
+    search rules
 
-pub reach_of_seq-returns-in_err-other-clause-fuel : goal.reach_of_seq-returns-in_err-other-clause-fuel
-reach_of_seq-returns-in_err-other-clause-fuel g t c =
-    let end : final c.args.agent.now c.args.values.now May c.args.one.now ≡ true = sym (c.in_ok-ends.ensures.ends May) ∙ sym c.holds.ensures ∙ c.if-holds.true in
-    let skip = final-skips c.args.agent.now c.args.values.now c.requires.fit.guarded May c.args.one.now end in
-    stops_from c.args.agent.now (wants_any (g.B.Blocks.wants c.args.blocks.now c.args.agent.now c.args.values.now)) c.from_residual-in_err-other.result c.in_err-other.field-0.0 c.args.other.now (prog.Seq c.args.one.now c.args.other.now) c.from_residual-in_err-other.ensures.1 (seq_other c.args.agent.now (wants_any (g.B.Blocks.wants c.args.blocks.now c.args.agent.now c.args.values.now)) c.args.one.now c.args.other.now skip) c.in_err-other.ensures.fuel
+pub reach_of-reach_of_either-requires-in-Conc : goal.reach_of-reach_of_either-requires-in-Conc
+reach_of-reach_of_either-requires-in-Conc g t c κs within =
+    let a = c.get-in-Conc.result.now in
+    let b = c.get-in-Conc-2.result.now in
+    let e = two_same (prog.Conc) c.args.prog.now c.in-Conc.one c.in-Conc.other a b c.in-Conc.is c.get-in-Conc.ensures c.get-in-Conc-2.ensures in
+    let parts = conc_parts c.args.agent.now c.args.prog.now a b c.requires.closed e in
+    let one_closed = parts.one.closed_too in
+    let other_closed = parts.other.closed_too in
+    let l = parts.one.lower in
+    let k = parts.other.lower in
+    let low : 3 + 3 * max (front c.args.agent.now a).height (front c.args.agent.now b).height < 1 + 3 * (front c.args.agent.now c.args.prog.now).height = omega arith in
+    search rules
+
+pub reach_of-reach_of_prio-requires : goal.reach_of-reach_of_prio-requires
+reach_of-reach_of_prio-requires g t c κs within =
+    let a = c.get-in-Prio.result.now in
+    let b = c.get-in-Prio-2.result.now in
+    let e = two_same (prog.Prio) c.args.prog.now c.in-Prio.high c.in-Prio.low a b c.in-Prio.is c.get-in-Prio.ensures c.get-in-Prio-2.ensures in
+    let closed = closed_as c.args.agent.now c.args.prog.now (prog.Prio a b) e c.requires.closed in
+    let same = same_height c.args.agent.now c.args.prog.now (prog.Prio a b) e in
+    let low : 3 * (front c.args.agent.now (prog.Prio a b)).height < 1 + 3 * (front c.args.agent.now c.args.prog.now).height = omega arith in
+    search rules
+
+pub reach_of-returns-in-Prio-clause-reach : goal.reach_of-returns-in-Prio-clause-reach
+reach_of-returns-in-Prio-clause-reach g t c =
+    let a = c.get-in-Prio.result.now in
+    let b = c.get-in-Prio-2.result.now in
+    let e = two_same (prog.Prio) c.args.prog.now c.in-Prio.high c.in-Prio.low a b c.in-Prio.is c.get-in-Prio.ensures c.get-in-Prio-2.ensures in
+    same_gives c.args.agent.now (g.B.Blocks.moves c.args.blocks.now c.args.agent.now c.args.values.now) c.args.values.now c.reach_of_prio.result c.args.prog.now (prog.Prio a b) e c.reach_of_prio.ensures.reach
+
+pub reach_of-returns-in-Choice-clause-reach : goal.reach_of-returns-in-Choice-clause-reach
+reach_of-returns-in-Choice-clause-reach g t c =
+    let a = c.get-in-Choice.result.now in
+    let b = c.get-in-Choice-2.result.now in
+    let e = two_same (prog.Choice) c.args.prog.now c.in-Choice.one c.in-Choice.other a b c.in-Choice.is c.get-in-Choice.ensures c.get-in-Choice-2.ensures in
+    choice_gives c.args.agent.now (g.B.Blocks.moves c.args.blocks.now c.args.agent.now c.args.values.now) c.args.values.now c.requires.fit.guarded c.reach_of_either.result c.args.prog.now a b e c.reach_of_either.ensures.reach
+
+pub reach_of-returns-in-Conc-clause-reach : goal.reach_of-returns-in-Conc-clause-reach
+reach_of-returns-in-Conc-clause-reach g t c =
+    let a = c.get-in-Conc.result.now in
+    let b = c.get-in-Conc-2.result.now in
+    let e = two_same (prog.Conc) c.args.prog.now c.in-Conc.one c.in-Conc.other a b c.in-Conc.is c.get-in-Conc.ensures c.get-in-Conc-2.ensures in
+    conc_gives c.args.agent.now (g.B.Blocks.moves c.args.blocks.now c.args.agent.now c.args.values.now) c.args.values.now c.requires.fit.guarded c.reach_of_either-in-Conc.result c.args.prog.now a b e c.reach_of_either-in-Conc.ensures.reach
+
+pub reach_of-returns-in-Choice-clause-fuel : goal.reach_of-returns-in-Choice-clause-fuel
+reach_of-returns-in-Choice-clause-fuel g t c =
+    let a = c.get-in-Choice.result.now in
+    let b = c.get-in-Choice-2.result.now in
+    let e = two_same (prog.Choice) c.args.prog.now c.in-Choice.one c.in-Choice.other a b c.in-Choice.is c.get-in-Choice.ensures c.get-in-Choice-2.ensures in
+    stops_at_either c.args.agent.now (g.B.Blocks.wants c.args.blocks.now c.args.agent.now c.args.values.now) true c.reach_of_either.result a b c.args.prog.now (parts_lack c.args.agent.now (g.B.Blocks.wants c.args.blocks.now c.args.agent.now c.args.values.now) true c.args.prog.now a b (Choice a b) (ap out-Prog e ∙ prog.outs-Choice a b) (λ f. refl)) c.reach_of_either.ensures.fuel
+
+pub reach_of-returns-in-Conc-clause-fuel : goal.reach_of-returns-in-Conc-clause-fuel
+reach_of-returns-in-Conc-clause-fuel g t c =
+    let a = c.get-in-Conc.result.now in
+    let b = c.get-in-Conc-2.result.now in
+    let e = two_same (prog.Conc) c.args.prog.now c.in-Conc.one c.in-Conc.other a b c.in-Conc.is c.get-in-Conc.ensures c.get-in-Conc-2.ensures in
+    stops_at_either c.args.agent.now (g.B.Blocks.wants c.args.blocks.now c.args.agent.now c.args.values.now) true c.reach_of_either-in-Conc.result a b c.args.prog.now (parts_lack c.args.agent.now (g.B.Blocks.wants c.args.blocks.now c.args.agent.now c.args.values.now) true c.args.prog.now a b (Conc a b) (ap out-Prog e ∙ prog.outs-Conc a b) (λ f. refl)) c.reach_of_either-in-Conc.ensures.fuel
+
+pub reach_of_either-reach_of-requires : goal.reach_of_either-reach_of-requires
+reach_of_either-reach_of-requires g t c κs within =
+    let closed = c.requires.one in
+    let low : 1 + 3 * (front c.args.agent.now c.args.one.now).height < 3 + 3 * max (front c.args.agent.now c.args.one.now).height (front c.args.agent.now c.args.other.now).height = omega arith in
+    search rules
+
+pub reach_of_either-reach_or-requires : goal.reach_of_either-reach_or-requires
+reach_of_either-reach_or-requires g t c κs within =
+    let closed = c.requires.other in
+    let low : 2 + 3 * (front c.args.agent.now c.args.other.now).height < 3 + 3 * max (front c.args.agent.now c.args.one.now).height (front c.args.agent.now c.args.other.now).height = omega arith in
+    search rules
+
+pub reach_of_either-returns-clause-reach : goal.reach_of_either-returns-clause-reach
+reach_of_either-returns-clause-reach g t c =
+    either_gives c.args.agent.now (g.B.Blocks.moves c.args.blocks.now c.args.agent.now c.args.values.now) c.args.values.now c.requires.fit.guarded c.reach_or.result c.args.one.now c.args.other.now c.in_ok-reach.reach c.in_ok-reach.ensures.reach c.reach_or.ensures.reach
+
+pub reach_of_either-returns-clause-fuel : goal.reach_of_either-returns-clause-fuel
+reach_of_either-returns-clause-fuel g t c =
+    stops_or c.args.agent.now (g.B.Blocks.wants c.args.blocks.now c.args.agent.now c.args.values.now) true c.reach_or.result c.args.one.now c.args.other.now c.reach_or.ensures.fuel
+
+pub reach_of_either-returns-in_err-reach-clause-fuel : goal.reach_of_either-returns-in_err-reach-clause-fuel
+reach_of_either-returns-in_err-reach-clause-fuel g t c =
+    stops_first c.args.agent.now (g.B.Blocks.wants c.args.blocks.now c.args.agent.now c.args.values.now) true c.from_residual.result c.in_err-reach.field-0.0 c.args.one.now c.args.other.now c.from_residual.ensures.1 c.in_err-reach.ensures.fuel
+
+pub reach_of_prio-reach_of-requires : goal.reach_of_prio-reach_of-requires
+reach_of_prio-reach_of-requires g t c κs within =
+    let parts = prio_parts c.args.agent.now (prog.Prio c.args.high.now c.args.low.now) c.args.high.now c.args.low.now c.requires.closed refl in
+    let closed = parts.one.closed_too in
+    let l = parts.one.lower in
+    let low : 1 + 3 * (front c.args.agent.now c.args.high.now).height < 3 * (front c.args.agent.now (prog.Prio c.args.high.now c.args.low.now)).height = omega arith in
+    search rules
+
+pub reach_of_prio-reach_of-requires-else-is_settled : goal.reach_of_prio-reach_of-requires-else-is_settled
+reach_of_prio-reach_of-requires-else-is_settled g t c κs within =
+    let parts = prio_parts c.args.agent.now (prog.Prio c.args.high.now c.args.low.now) c.args.high.now c.args.low.now c.requires.closed refl in
+    let closed = parts.other.closed_too in
+    let l = parts.other.lower in
+    let low : 1 + 3 * (front c.args.agent.now c.args.low.now).height < 3 * (front c.args.agent.now (prog.Prio c.args.high.now c.args.low.now)).height = omega arith in
+    search rules
+
+pub reach_of_prio-returns-then-is_settled-clause-reach : goal.reach_of_prio-returns-then-is_settled-clause-reach
+reach_of_prio-returns-then-is_settled-clause-reach g t c =
+    prio_kept c.args.agent.now (g.B.Blocks.moves c.args.blocks.now c.args.agent.now c.args.values.now) c.args.values.now c.requires.fit.guarded c.args.high.now c.args.low.now c.in_ok-high.high c.is_settled.result c.is_settled.ensures c.if-is_settled.true c.in_ok-high.ensures.reach
+
+pub reach_of_prio-returns-in_ok-low-clause-reach : goal.reach_of_prio-returns-in_ok-low-clause-reach
+reach_of_prio-returns-in_ok-low-clause-reach g t c =
+    prio_reach c.args.agent.now (g.B.Blocks.moves c.args.blocks.now c.args.agent.now c.args.values.now) c.args.values.now c.requires.fit.guarded c.args.high.now c.args.low.now c.in_ok-high.high c.in_ok-low.low c.over.result c.in_ok-high.ensures.reach c.in_ok-low.ensures.reach c.over.ensures
+
+pub reach_of_prio-returns-in_err-high-clause-fuel : goal.reach_of_prio-returns-in_err-high-clause-fuel
+reach_of_prio-returns-in_err-high-clause-fuel g t c =
+    stops_from c.args.agent.now (g.B.Blocks.wants c.args.blocks.now c.args.agent.now c.args.values.now) true c.from_residual.result c.in_err-high.field-0.0 c.args.high.now (prog.Prio c.args.high.now c.args.low.now) c.from_residual.ensures.1 (prio_high c.args.agent.now (g.B.Blocks.wants c.args.blocks.now c.args.agent.now c.args.values.now) true c.args.high.now c.args.low.now) c.in_err-high.ensures.fuel
+
+pub reach_of_prio-returns-in_err-low-clause-fuel : goal.reach_of_prio-returns-in_err-low-clause-fuel
+reach_of_prio-returns-in_err-low-clause-fuel g t c =
+    stops_from c.args.agent.now (g.B.Blocks.wants c.args.blocks.now c.args.agent.now c.args.values.now) true c.from_residual-in_err-low.result c.in_err-low.field-0.0 c.args.low.now (prog.Prio c.args.high.now c.args.low.now) c.from_residual-in_err-low.ensures.1 (prio_low c.args.agent.now (g.B.Blocks.wants c.args.blocks.now c.args.agent.now c.args.values.now) true c.args.high.now c.args.low.now) c.in_err-low.ensures.fuel
+
+pub reach_or-reach_of-requires : goal.reach_or-reach_of-requires
+reach_or-reach_of-requires g t c κs within =
+    let low : 1 + 3 * (front c.args.agent.now c.args.prog.now).height < 2 + 3 * (front c.args.agent.now c.args.prog.now).height = omega arith in
+    search rules
+
+pub reach_or-returns-then-is_settled-clause-reach : goal.reach_or-returns-then-is_settled-clause-reach
+reach_or-returns-then-is_settled-clause-reach g t c =
+    or_settled c.args.agent.now (g.B.Blocks.moves c.args.blocks.now c.args.agent.now c.args.values.now) c.args.values.now c.args.so_far c.args.truth c.args.prog.now c.is_settled.result c.is_settled.ensures c.if-is_settled.true
+
+pub reach_or-returns-in_ok-reach-clause-reach : goal.reach_or-returns-in_ok-reach-clause-reach
+reach_or-returns-in_ok-reach-clause-reach g t c =
+    or_more c.args.agent.now (g.B.Blocks.moves c.args.blocks.now c.args.agent.now c.args.values.now) c.args.values.now c.args.so_far c.args.truth c.args.prog.now c.in_ok-reach.reach c.where_holds.result c.or.result c.where_holds.ensures c.or.ensures c.in_ok-reach.ensures.reach
+
+pub reach_of_if-reach_or-requires : goal.reach_of_if-reach_or-requires
+reach_of_if-reach_or-requires g t c κs within =
+    let parts = if_parts c.args.agent.now (prog.If c.args.cond.now c.args.yes.now c.args.no.now) c.args.cond.now c.args.yes.now c.args.no.now c.requires.closed refl in
+    let closed = parts.yes.closed_too in
+    let l = parts.yes.lower in
+    let low : 2 + 3 * (front c.args.agent.now c.args.yes.now).height < 3 * (front c.args.agent.now (prog.If c.args.cond.now c.args.yes.now c.args.no.now)).height = omega arith in
+    search rules
+
+pub reach_of_if-reach_or-requires-2 : goal.reach_of_if-reach_or-requires-2
+reach_of_if-reach_or-requires-2 g t c κs within =
+    let parts = if_parts c.args.agent.now (prog.If c.args.cond.now c.args.yes.now c.args.no.now) c.args.cond.now c.args.yes.now c.args.no.now c.requires.closed refl in
+    let closed = parts.no.closed_too in
+    let l = parts.no.lower in
+    let low : 2 + 3 * (front c.args.agent.now c.args.no.now).height < 3 * (front c.args.agent.now (prog.If c.args.cond.now c.args.yes.now c.args.no.now)).height = omega arith in
+    search rules
+
+pub reach_of_if-returns-clause-reach : goal.reach_of_if-returns-clause-reach
+reach_of_if-returns-clause-reach g t c =
+    if_gives c.args.agent.now (g.B.Blocks.moves c.args.blocks.now c.args.agent.now c.args.values.now) c.args.values.now c.requires.fit.guarded c.reach_or-2.result c.args.cond.now c.args.yes.now c.args.no.now c.truth-is_so.result c.negation.result c.in_ok-yes.yes c.truth-is_so.ensures c.negation.ensures c.in_ok-yes.ensures.reach c.reach_or-2.ensures.reach
+
+pub reach_of_if-returns-in_err-yes-clause-fuel : goal.reach_of_if-returns-in_err-yes-clause-fuel
+reach_of_if-returns-in_err-yes-clause-fuel g t c =
+    let lack = λ (h : Lacks c.args.agent.now (g.B.Blocks.wants c.args.blocks.now c.args.agent.now c.args.values.now) true c.args.yes.now). parts_lack c.args.agent.now (g.B.Blocks.wants c.args.blocks.now c.args.agent.now c.args.values.now) true (prog.If c.args.cond.now c.args.yes.now c.args.no.now) c.args.yes.now c.args.no.now (If c.args.cond.now c.args.yes.now c.args.no.now) (prog.outs-If c.args.cond.now c.args.yes.now c.args.no.now) (λ f. refl) (inl h) in
+    stops_from c.args.agent.now (g.B.Blocks.wants c.args.blocks.now c.args.agent.now c.args.values.now) true c.from_residual.result c.in_err-yes.field-0.0 c.args.yes.now (prog.If c.args.cond.now c.args.yes.now c.args.no.now) c.from_residual.ensures.1 lack c.in_err-yes.ensures.fuel
+
+pub reach_of_if-returns-clause-fuel : goal.reach_of_if-returns-clause-fuel
+reach_of_if-returns-clause-fuel g t c =
+    let lack = λ (h : Lacks c.args.agent.now (g.B.Blocks.wants c.args.blocks.now c.args.agent.now c.args.values.now) true c.args.no.now). parts_lack c.args.agent.now (g.B.Blocks.wants c.args.blocks.now c.args.agent.now c.args.values.now) true (prog.If c.args.cond.now c.args.yes.now c.args.no.now) c.args.yes.now c.args.no.now (If c.args.cond.now c.args.yes.now c.args.no.now) (prog.outs-If c.args.cond.now c.args.yes.now c.args.no.now) (λ f. refl) (inr h) in
+    stops_as c.args.agent.now (g.B.Blocks.wants c.args.blocks.now c.args.agent.now c.args.values.now) true c.reach_or-2.result c.args.no.now (prog.If c.args.cond.now c.args.yes.now c.args.no.now) lack c.reach_or-2.ensures.fuel
+
+pub reach_of_while-reach_or-requires : goal.reach_of_while-reach_or-requires
+reach_of_while-reach_or-requires g t c κs within =
+    let parts = while_parts c.args.agent.now (prog.While c.args.cond.now c.args.body.now) c.args.cond.now c.args.body.now c.requires.closed refl in
+    let closed = parts.body.closed_too in
+    let l = parts.body.lower in
+    let low : 2 + 3 * (front c.args.agent.now c.args.body.now).height < 3 * (front c.args.agent.now (prog.While c.args.cond.now c.args.body.now)).height = omega arith in
+    search rules
+
+pub reach_of_while-returns-clause-reach : goal.reach_of_while-returns-clause-reach
+reach_of_while-returns-clause-reach g t c =
+    while_gives c.args.agent.now (g.B.Blocks.moves c.args.blocks.now c.args.agent.now c.args.values.now) c.args.values.now c.requires.fit.guarded c.reach_or.result c.args.cond.now c.args.body.now c.truth-is_so.result c.truth-is_so.ensures c.reach_or.ensures.reach
 
 pub reach_of_while-returns-clause-fuel : goal.reach_of_while-returns-clause-fuel
 reach_of_while-returns-clause-fuel g t c =
     let r = prog.While c.args.cond.now c.args.body.now in
-    stops_as c.args.agent.now (wants_any (g.B.Blocks.wants c.args.blocks.now c.args.agent.now c.args.values.now)) c.reach_where.result c.args.body.now r (part_lacks c.args.agent.now (wants_any (g.B.Blocks.wants c.args.blocks.now c.args.agent.now c.args.values.now)) r c.args.body.now (While c.args.cond.now c.args.body.now) (prog.outs-While c.args.cond.now c.args.body.now) (λ f. refl)) c.reach_where.ensures.fuel
+    stops_as c.args.agent.now (g.B.Blocks.wants c.args.blocks.now c.args.agent.now c.args.values.now) true c.reach_or.result c.args.body.now r (part_lacks c.args.agent.now (g.B.Blocks.wants c.args.blocks.now c.args.agent.now c.args.values.now) true r c.args.body.now (While c.args.cond.now c.args.body.now) (prog.outs-While c.args.cond.now c.args.body.now) (λ f. refl)) c.reach_or.ensures.fuel
+
+pub reach_of_seq-ends_of-requires-clause-closed : goal.reach_of_seq-ends_of-requires-clause-closed
+reach_of_seq-ends_of-requires-clause-closed g t c =
+    (seq_parts c.args.agent.now (prog.Seq c.args.one.now c.args.other.now) c.args.one.now c.args.other.now c.requires.closed refl).one.closed_too
+
+pub reach_of_seq-reach_or-requires : goal.reach_of_seq-reach_or-requires
+reach_of_seq-reach_or-requires g t c κs within =
+    let parts = seq_parts c.args.agent.now (prog.Seq c.args.one.now c.args.other.now) c.args.one.now c.args.other.now c.requires.closed refl in
+    let closed = parts.other_closed in
+    let l = parts.other_lower (skips c.args.agent.now c.args.values.now c.requires.fit.guarded c.args.one.now c.in_ok-ends.ends c.holds.result c.in_ok-ends.ensures.ends c.holds.ensures c.if-holds.true) in
+    let low : 2 + 3 * (front c.args.agent.now c.args.other.now).height < 3 * (front c.args.agent.now (prog.Seq c.args.one.now c.args.other.now)).height = omega arith in
+    search rules
+
+pub reach_of_seq-returns-then-is_settled-clause-reach : goal.reach_of_seq-returns-then-is_settled-clause-reach
+reach_of_seq-returns-then-is_settled-clause-reach g t c =
+    seq_settled c.args.agent.now (g.B.Blocks.moves c.args.blocks.now c.args.agent.now c.args.values.now) c.args.values.now c.requires.fit.guarded c.args.one.now c.args.other.now c.in_ok-reach.reach c.is_settled.result c.is_settled.ensures c.if-is_settled.true c.in_ok-reach.ensures.reach
+
+pub reach_of_seq-returns-then-holds-clause-reach : goal.reach_of_seq-returns-then-holds-clause-reach
+reach_of_seq-returns-then-holds-clause-reach g t c =
+    seq_gives c.args.agent.now (g.B.Blocks.moves c.args.blocks.now c.args.agent.now c.args.values.now) c.args.values.now c.requires.fit.guarded c.reach_or.result c.args.one.now c.args.other.now c.in_ok-ends.ends c.in_ok-reach.reach c.in_ok-ends.ensures.ends c.in_ok-reach.ensures.reach c.reach_or.ensures.reach
+
+pub reach_of_seq-returns-else-holds-clause-reach : goal.reach_of_seq-returns-else-holds-clause-reach
+reach_of_seq-returns-else-holds-clause-reach g t c =
+    seq_reach_first c.args.agent.now (g.B.Blocks.moves c.args.blocks.now c.args.agent.now c.args.values.now) c.args.values.now c.requires.fit.guarded c.args.one.now c.args.other.now c.in_ok-ends.ends c.in_ok-reach.reach c.holds.result c.in_ok-ends.ensures.ends c.holds.ensures c.if-holds.false c.in_ok-reach.ensures.reach
+
+pub reach_of_seq-returns-in_err-reach-clause-fuel : goal.reach_of_seq-returns-in_err-reach-clause-fuel
+reach_of_seq-returns-in_err-reach-clause-fuel g t c =
+    stops_from c.args.agent.now (g.B.Blocks.wants c.args.blocks.now c.args.agent.now c.args.values.now) true c.from_residual.result c.in_err-reach.field-0.0 c.args.one.now (prog.Seq c.args.one.now c.args.other.now) c.from_residual.ensures.1 (seq_one c.args.agent.now (g.B.Blocks.wants c.args.blocks.now c.args.agent.now c.args.values.now) true c.args.one.now c.args.other.now) c.in_err-reach.ensures.fuel
+
+pub reach_of_seq-returns-then-holds-clause-fuel : goal.reach_of_seq-returns-then-holds-clause-fuel
+reach_of_seq-returns-then-holds-clause-fuel g t c =
+    let skip = skips c.args.agent.now c.args.values.now c.requires.fit.guarded c.args.one.now c.in_ok-ends.ends c.holds.result c.in_ok-ends.ensures.ends c.holds.ensures c.if-holds.true in
+    stops_as c.args.agent.now (g.B.Blocks.wants c.args.blocks.now c.args.agent.now c.args.values.now) true c.reach_or.result c.args.other.now (prog.Seq c.args.one.now c.args.other.now) (seq_other c.args.agent.now (g.B.Blocks.wants c.args.blocks.now c.args.agent.now c.args.values.now) true c.args.one.now c.args.other.now skip) c.reach_or.ensures.fuel
+
+pub reach_of_pick-returns-then-is_settled-clause-reach : goal.reach_of_pick-returns-then-is_settled-clause-reach
+reach_of_pick-returns-then-is_settled-clause-reach g t c =
+    let below : c.loop-constant.constant < sort_size c.args.agent.now c.args.sort = omega arith in
+    let more = some_more c.args.agent.now (g.B.Blocks.moves c.args.blocks.now c.args.agent.now c.args.values.now) c.args.values.now c.args.var c.args.sort c.args.body.now c.loop-constant.constant c.loop-constant.some c.in_ok-put.put c.in_ok-one.one c.or-some.result below c.in_ok-put.ensures c.in_ok-one.ensures.reach c.or-some.ensures c.loop-constant.invariant in
+    pick_settled c.args.agent.now (g.B.Blocks.moves c.args.blocks.now c.args.agent.now c.args.values.now) c.args.values.now c.args.var c.args.sort c.args.body.now c.requires.fit.guarded (c.loop-constant.constant + 1) c.or-some.result c.is_settled.result c.is_settled.ensures c.if-is_settled.true more

@@ -7,14 +7,17 @@ use Rattle.golog_ways.proofs.reaching.+reach.Given as goal
 abbrev pub decreases-reach_of : goal.decreases-reach_of
 decreases-reach_of g l = 1 + 3 * (front l.agent.now l.prog.now).height
 
-abbrev pub decreases-both_reaches : goal.decreases-both_reaches
-decreases-both_reaches g l = 2 + 3 * max (front l.agent.now l.one.now).height (front l.agent.now l.other.now).height
+abbrev pub decreases-reach_of_either : goal.decreases-reach_of_either
+decreases-reach_of_either g l = 3 + 3 * max (front l.agent.now l.one.now).height (front l.agent.now l.other.now).height
 
 abbrev pub decreases-reach_of_seq : goal.decreases-reach_of_seq
 decreases-reach_of_seq g l = 3 * (front l.agent.now (prog.Seq l.one.now l.other.now)).height
 
-abbrev pub decreases-reach_where : goal.decreases-reach_where
-decreases-reach_where g l = 2 + 3 * (front l.agent.now l.prog.now).height
+abbrev pub decreases-reach_of_prio : goal.decreases-reach_of_prio
+decreases-reach_of_prio g l = 3 * (front l.agent.now (prog.Prio l.high.now l.low.now)).height
+
+abbrev pub decreases-reach_or : goal.decreases-reach_or
+decreases-reach_or g l = 2 + 3 * (front l.agent.now l.prog.now).height
 
 abbrev pub decreases-reach_of_put : goal.decreases-reach_of_put
 decreases-reach_of_put g l = 2 + 3 * (front l.agent.now l.prog).height

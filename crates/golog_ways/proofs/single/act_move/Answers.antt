@@ -4,8 +4,8 @@ use Rattle.golog_tree.specs.Ground.{AreWithin, action_args, action_no, args_at, 
 use Rattle.golog_semantics.specs.Truth.{Env, arg_value}
 use Rattle.golog_ways.proofs.Acting.{action_is}
 use Rattle.golog_ways.proofs.Closing.{act_fits-of}
-use Rattle.golog_ways.proofs.Firsts.{act_taken, act_barred}
-use Rattle.golog_ways.proofs.single.act_way.Goals as goal
+use Rattle.golog_ways.proofs.MoveSteps.{act_taken, act_barred}
+use Rattle.golog_ways.proofs.single.act_move.Goals as goal
 
 pub arg_values-constants-requires : goal.arg_values-constants-requires
 arg_values-constants-requires c =
@@ -28,13 +28,13 @@ action_no-number-requires-clause-fits c =
     subst (λ (cs : List ℕ). AreWithin (sizes agent (args_at (action_args agent) c.args.action)) cs) (sym given) (action_is agent c.requires.fit c.args.action args fits).within
 
 pub returns-then-holds : goal.returns-then-holds
-returns-then-holds c =
+returns-then-holds c blocks =
     let agent = c.args.agent.now in
     let args = c.args.args.now in
     let given = c.arg_values-constants.ensures ∙ ap (λ (v : Env). map (arg_value v) args) c.new.ensures in
-    act_taken agent c.args.values.now c.requires.fit.guarded c.args.action args c.precondition.result c.precondition.ensures (sym c.holds.ensures ∙ c.if-holds.true)
+    act_taken agent blocks c.args.values.now c.requires.fit.guarded c.args.action args c.precondition.result c.precondition.ensures (sym c.holds.ensures ∙ c.if-holds.true)
     c.action_no-number.result (c.action_no-number.ensures.number ∙ ap (action_no agent c.args.action) given)
 
 pub returns-else-holds : goal.returns-else-holds
-returns-else-holds c =
-    act_barred c.args.agent.now c.args.values.now c.requires.fit.guarded c.args.action c.args.args.now c.precondition.result c.precondition.ensures (sym c.holds.ensures ∙ c.if-holds.false)
+returns-else-holds c blocks =
+    act_barred c.args.agent.now blocks c.args.values.now c.requires.fit.guarded c.args.action c.args.args.now c.precondition.result c.precondition.ensures (sym c.holds.ensures ∙ c.if-holds.false)
