@@ -1,14 +1,15 @@
 -- What the search of a block tells of its steps.
 use Rattle.std.proofs.Common.{◌≡◌, ℕ, ◌≤◌, Bool, true, false, if◌then◌else◌, List, Option, Some, None, refl, sym, ap, ◌∙◌}
-use Rattle.std.specs.Prelude.{not, ◌&&◌, ◌||◌, nat_lt}
+use Rattle.std.specs.Prelude.{not, ◌&&◌, ◌||◌}
 use Rattle.std.specs.Option.{is_some}
 use Rattle.golog_tree.specs.declared.agent.Agent.{Agent}
-use Rattle.golog_semantics.specs.declared.Mode.TheVariants.{Must, Near}
+use Rattle.golog_semantics.specs.declared.Mode.TheVariants.{Must, May, Near}
 use Rattle.golog_semantics.specs.declared.search.Block.{Block}
 use Rattle.golog_semantics.specs.declared.search.Move.{Move}
 use Rattle.golog_semantics.specs.Truth.{Values}
 use Rattle.golog_semantics.specs.Search.{Run, best}
-use Rattle.golog_semantics.specs.Blocks.{beginning, going_on, is_cut, is_kept, work}
+use Rattle.golog_semantics.specs.Blocks.{beginning, going_on, is_cut, is_kept}
+use Rattle.golog_semantics.specs.Heavy.{is_above}
 use Rattle.golog_ways.specs.First.{head_of}
 use Rattle.golog_search.specs.declared.found.Found.{Found}
 use Rattle.golog_search.specs.declared.found.Found.TheVariants as finds
@@ -16,18 +17,17 @@ use Rattle.golog_search.specs.declared.reach.FirstStep.{FirstStep}
 use Rattle.golog_search.specs.declared.reach.FirstStep.TheVariants as first
 use Rattle.golog_search.specs.declared.reach.NearStep.{NearStep}
 use Rattle.golog_search.specs.declared.reach.NearStep.TheVariants as near
-use Rattle.golog_search.specs.declared.reach.Reach.TheVariants as reach
-use Rattle.golog_search.specs.BlockSteps.{first_of_block, has_near, has_possible, near_of_block, reach_of}
-use Rattle.golog_search.specs.Finding.{found, run_or}
+use Rattle.golog_search.specs.BlockSteps.{first_of_block, has_step, near_of_block}
+use Rattle.golog_search.specs.Finding.{found_by, run_or}
 use Rattle.golog_search.proofs.BlockSteps.{may-steps, near-steps}
 
--- how sure a step is, as a search in mode Near finds
+-- the steps, as a search in mode Near finds
 abbrev pub near_found : Found → NearStep
-near_found (finds.Run run) = near.Reach reach.Near
-near_found (finds.Absent cut) = near.Reach (if cut then reach.Possible else reach.Absent)
+near_found (finds.Run run) = near.Steps true true
+near_found (finds.Absent cut) = near.Steps false cut
 near_found finds.Fuel = near.Fuel
 
-near-run : (cut : Bool) (run : Option Run) → near_found (run_or cut run) ≡ near.Reach (reach_of (is_some run) (is_some run || cut))
+near-run : (cut : Bool) (run : Option Run) → near_found (run_or cut run) ≡ near.Steps (is_some run) (is_some run || cut)
 near-run cut (Some run) = refl
 near-run cut None = refl
 
@@ -41,10 +41,10 @@ first-run : (depth fuel : ℕ) (cut : Bool) (run : Option Run) → first_found d
 first-run depth fuel cut (Some run) = refl
 first-run depth fuel cut None = refl
 
-module _ (agent : Agent) (values : Values) (block : Block) (rest : Run) where
-  pub near-found : 1 ≤ block.depth → near_found (found agent values Near block) ≡ near_of_block agent values block rest
-  unfolding found near_of_block
-  near-found some = go (nat_lt block.fuel (work agent Near block.depth block.body values))
+module _ (bounded : Bool) (agent : Agent) (values : Values) (block : Block) (rest : Run) where
+  pub near-found : 1 ≤ block.depth → near_found (found_by bounded agent values Near block) ≡ near_of_block bounded agent values block rest
+  unfolding found_by near_of_block
+  near-found some = go (bounded && is_above agent values Near block)
     where
       cut : Bool
       cut = is_cut agent Near block.depth block.body values
@@ -53,28 +53,28 @@ module _ (agent : Agent) (values : Values) (block : Block) (rest : Run) where
       run = best agent Near block.depth block.body values
 
       go : (more : Bool) → near_found (if more then finds.Fuel else run_or cut run)
-          ≡ (if more then near.Fuel else near.Reach (reach_of (has_near agent values block rest) (has_possible agent values block rest)))
+          ≡ (if more then near.Fuel else near.Steps (has_step agent values Near block rest) (has_step agent values May block rest))
       go true = refl
       go false =
           near-run cut run
-          ∙ ap (λ b. near.Reach (reach_of b (is_some run || cut))) (sym (near-steps agent values block.body block.depth block.fuel rest))
-          ∙ ap (λ b. near.Reach (reach_of (has_near agent values block rest) b)) (sym (may-steps agent values block.body block.depth block.fuel rest some))
+          ∙ ap (λ b. near.Steps b (is_some run || cut)) (sym (near-steps agent values block.body block.depth block.fuel rest))
+          ∙ ap (near.Steps (has_step agent values Near block rest)) (sym (may-steps agent values block.body block.depth block.fuel rest some))
 
-  pub first-kept : is_kept agent values block.body rest ≡ true → first.Step (head_of (going_on block.depth block.fuel rest)) ≡ first_of_block agent values block rest
+  pub first-kept : is_kept agent values block.body rest ≡ true → first.Step (head_of (going_on block.depth block.fuel rest)) ≡ first_of_block bounded agent values block rest
   unfolding first_of_block
   first-kept h = sym (ap (λ b. if not b && more then first.Fuel else first.Step (head_of (if b then going_on block.depth block.fuel rest else begun))) h)
     where
       more : Bool
-      more = nat_lt block.fuel (work agent Must block.depth block.body values)
+      more = bounded && is_above agent values Must block
 
       begun : List Move
       begun = beginning block.depth block.fuel (best agent Must block.depth block.body values)
 
-  pub first-searched : is_kept agent values block.body rest ≡ false → first_found block.depth block.fuel (found agent values Must block) ≡ first_of_block agent values block rest
-  unfolding found first_of_block
+  pub first-searched : is_kept agent values block.body rest ≡ false → first_found block.depth block.fuel (found_by bounded agent values Must block) ≡ first_of_block bounded agent values block rest
+  unfolding found_by first_of_block
   first-searched h =
-      go (nat_lt block.fuel (work agent Must block.depth block.body values))
-      ∙ sym (ap (λ b. if not b && nat_lt block.fuel (work agent Must block.depth block.body values) then first.Fuel
+      go (bounded && is_above agent values Must block)
+      ∙ sym (ap (λ b. if not b && (bounded && is_above agent values Must block) then first.Fuel
       else first.Step (head_of (if b then going_on block.depth block.fuel rest else begun))) h)
     where
       begun : List Move

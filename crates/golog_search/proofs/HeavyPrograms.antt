@@ -13,7 +13,7 @@ use Rattle.golog_semantics.specs.Search.{Run, best, final}
 use Rattle.golog_semantics.specs.Blocks.{is_cut, moves, work}
 use Rattle.golog_semantics.specs.Heavy.{front_blocks, heavy, is_above, weighs}
 use Rattle.golog_search.specs.declared.found.Found.TheVariants.{Fuel}
-use Rattle.golog_search.specs.Finding.{found, run_or}
+use Rattle.golog_search.specs.Finding.{found, found_by, run_or}
 use Rattle.golog_search.specs.Weighing.{lacks_fuel, weighs_by}
 
 lacks-if : (b cut : Bool) (run : Option Run) → lacks_fuel (if b then Fuel else run_or cut run) ≡ b
@@ -23,7 +23,7 @@ lacks-if false cut (Some run) = refl
 
 -- a search lacks fuel where its work is above it
 pub lacks-found : (agent : Agent) (values : Values) (m : Mode) (block : Block) → lacks_fuel (found agent values m block) ≡ is_above agent values m block
-unfolding found
+unfolding found_by
 lacks-found agent values m block =
     lacks-if (nat_lt block.fuel (work agent m block.depth block.body values)) (is_cut agent m block.depth block.body values) (best agent m block.depth block.body values)
 

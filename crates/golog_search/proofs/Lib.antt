@@ -2,7 +2,6 @@ pub mod Blockless
 pub mod Runless
 pub mod LeftBlockless
 pub mod Answering
-pub mod Choosing
 pub mod SameArguments
 pub mod SamePrograms
 pub mod SearchedWays
@@ -16,8 +15,15 @@ pub mod Counting
 pub mod Searching
 pub mod GoingThrough
 pub mod BlockSteps
+pub mod CertainNear
 pub mod FirstSteps
 pub mod FrontBlocksUnfold
 pub mod InBlocks
 pub mod Weighs
 pub mod HeavyPrograms
+pub mod FuelLacked
+pub mod Choosing
+pub mod ReachOfBlock
+pub mod BlocklessLight
+pub mod InWorlds
+pub mod FoundInWorlds

@@ -30,7 +30,7 @@ or_false : (b : Bool) → (b || false) ≡ b
 or_false true = refl
 or_false false = refl
 
-any-flat : (f : Reached → Bool) (g : ℕ → List Reached) (xs : List ℕ) → list_any f (flat_map g xs) ≡ list_any (λ c. list_any f (g c)) xs
+pub any-flat : (f : Reached → Bool) (g : ℕ → List Reached) (xs : List ℕ) → list_any f (flat_map g xs) ≡ list_any (λ c. list_any f (g c)) xs
 any-flat f g [] = refl
 any-flat f g (x ∷ xs) = list_any-append f (g x) (flat_map g xs) ∙ ap (λ b. list_any f (g x) || b) (any-flat f g xs)
 

@@ -4,3 +4,4 @@ pub mod Levels
 pub mod Finding
 pub mod BlockSteps
 pub mod Weighing
+pub mod InWorlds

@@ -1,30 +1,32 @@
-ghost use Rattle.std.specs.Prelude.{◌≡◌, ◌≤◌, IfOk, IsTrue, Some, not};
-ghost use Rattle.std.specs.List.{list_any};
+ghost use Rattle.std.specs.Prelude.{◌≡◌, ◌≤◌, ◌&&◌, ◌||◌, false, true, IfErr, IfOk, IsTrue, Some, length, nat_le};
+ghost use Rattle.std.specs.List.{list_all, list_any};
 ghost use Rattle.golog_tree.specs.declared.prog.Prog.TheVariants as prog;
+ghost use Rattle.golog_semantics.specs.declared.Mode.{Mode};
 ghost use Rattle.golog_semantics.specs.declared.Mode.TheVariants.{Must};
-ghost use Rattle.golog_semantics.specs.BlockFree.{has_block};
 ghost use Rattle.golog_semantics.specs.Blocks.{beginning, goes_through as leads_to_final, going_on};
 ghost use Rattle.golog_semantics.specs.Blocks.{is_kept as keeps_run, labels_of as labels_in};
-ghost use Rattle.golog_semantics.specs.ProgFits.{fits};
+ghost use Rattle.golog_semantics.specs.Heavy.{is_above};
 ghost use Rattle.golog_semantics.specs.Same.{same_way};
-ghost use Rattle.golog_semantics.specs.Search.{Run, plain_ways};
-ghost use Rattle.golog_semantics.specs.SortLaws.{AreInSorts};
+ghost use Rattle.golog_semantics.specs.Search.{Run, is_followed, plain_ways};
 ghost use Rattle.golog_semantics.specs.WellFormed.{WellFormed};
 ghost use Rattle.golog_ways.specs.First.{head_of};
+ghost use Rattle.golog_ways.specs.Reach.{reaches};
 ghost use Rattle.golog_search.specs.BlockSteps.{first_of_block as first_of, near_of_block as near_of};
+ghost use Rattle.golog_search.specs.BlockSteps.{AreNear, has_step, wants_more};
 ghost use Rattle.golog_search.specs.Levels.{IsSearched};
 
-use crate::finding::{copy_way, find};
+use crate::NEST_LIMIT;
+use crate::finding::{copy_way, search_block};
 use crate::found::Found;
-use crate::reach::{FirstStep, NearStep, Reach};
+use crate::reach::{FirstStep, NearStep};
 use crate::reached::state_after;
 use crate::same::is_same_way;
 use crate::steps::ways_of;
 use golog_base::{Boxed, List, NoMemory};
 use golog_progress::State;
 use golog_semantics::{Block, Mode, Move};
-use golog_tree::{Agent, Label, Prog, Way, copy_prog};
-use golog_ways::is_final;
+use golog_tree::{Agent, Label, Prog, Way, copy_prog, nest};
+use golog_ways::{Reach, Stop, is_final};
 use std::alloc::Global;
 
 /// Whether the way is among these.
@@ -168,56 +170,188 @@ fn step_into(alloc: Global, block: &Block, run: &[Way]) -> Result<Option<Move>, 
     }))
 }
 
+/// The block of these parts.
+pub fn block_of(alloc: Global, depth: u32, fuel: u32, body: &Prog) -> Result<Block, NoMemory>
+    ensures { IfOk result (λ block. block ≡ record { depth = depth; fuel = fuel; body = body.now }) }
+{
+    let body = copy_prog(alloc, body)?;
+    Ok(Block { depth, fuel, body })
+}
+
 /// The first certain step of a block that follows a run: along it, where it goes through from the state, and
 /// else the step that begins the first certain run of least length. `Fuel` comes exactly where the run is not
-/// kept and the search, in mode `Must`, would look at more states than the block's fuel.
+/// kept, the search is bounded, and in mode `Must` it would look at more states than the block's fuel.
 pub fn first_of_block(
     alloc: Global,
     agent: &Agent,
     block: &Block,
-    rest: &List<Way>,
+    rest: &[Way],
     state: &State,
+    bounded: bool,
 ) -> Result<FirstStep, NoMemory>
     requires agent { WellFormed agent.now }
-    requires program { IsTrue (fits agent.now block.now.body) }
-    requires blockless { IsTrue (not (has_block agent.now block.now.body)) }
-    requires sorts { AreInSorts agent.now state.now }
-    ensures { IfOk result (λ step. step ≡ first_of agent.now state.now block.now rest.now) }
+    requires searched { IsSearched agent.now block.now.body state.now }
+    ensures { IfOk result (λ step. step ≡ first_of bounded agent.now state.now block.now rest.now) }
 {
-    if is_kept(alloc, agent, &block.body, rest.as_slice(), state)? {
-        return Ok(FirstStep::Step(step_along(alloc, block, rest.as_slice())?));
+    if is_kept(alloc, agent, &block.body, rest, state)? {
+        return Ok(FirstStep::Step(step_along(alloc, block, rest)?));
     }
-    match find(alloc, agent, block, state, true)? {
+    match search_block(alloc, agent, block, state, Mode::Must, bounded)? {
         Found::Run(run) => Ok(FirstStep::Step(step_into(alloc, block, run.as_slice())?)),
         Found::Absent { cut: _ } => Ok(FirstStep::Step(None)),
         Found::Fuel => Ok(FirstStep::Fuel),
     }
 }
 
-/// In which of the modes `Near` and `May` a block has a step, whatever run it follows: `Near` where a run may
-/// begin with a step, else `Possible` where one may lie beyond what the search looks at, and else `Absent`.
-/// `Fuel` comes exactly where the search, in mode `Near`, would look at more states than the block's fuel.
-pub fn near_of_block(
+/// Whether a block has a step in mode `Near`, and whether in `May`, whatever run it follows: in both where a
+/// run may begin with one, and in `May` also where a run may lie beyond what the search looks at. `Fuel`
+/// comes exactly where the search is bounded and in mode `Near` would look at more states than the block's
+/// fuel.
+fn near_of_block(
     alloc: Global,
     agent: &Agent,
     block: &Block,
     state: &State,
+    bounded: bool,
 ) -> Result<NearStep, NoMemory>
     requires agent { WellFormed agent.now }
-    requires program { IsTrue (fits agent.now block.now.body) }
-    requires blockless { IsTrue (not (has_block agent.now block.now.body)) }
-    requires sorts { AreInSorts agent.now state.now }
+    requires searched { IsSearched agent.now block.now.body state.now }
     requires depth { 1 ≤ block.now.depth }
-    ensures { IfOk result (λ step. (rest : Run) → step ≡ near_of agent.now state.now block.now rest) }
+    ensures { IfOk result (λ step. (rest : Run) → step ≡ near_of bounded agent.now state.now block.now rest) }
 {
-    let reach = match find(alloc, agent, block, state, false)? {
+    match search_block(alloc, agent, block, state, Mode::Near, bounded)? {
         Found::Run(run) => {
             drop(run);
-            Reach::Near
+            Ok(NearStep::Steps {
+                near: true,
+                may: true,
+            })
         }
-        Found::Absent { cut: true } => Reach::Possible,
-        Found::Absent { cut: false } => Reach::Absent,
-        Found::Fuel => return Ok(NearStep::Fuel),
-    };
-    Ok(NearStep::Reach(reach))
+        Found::Absent { cut } => Ok(NearStep::Steps {
+            near: false,
+            may: cut,
+        }),
+        Found::Fuel => Ok(NearStep::Fuel),
+    }
+}
+
+/// A step in each mode.
+const ALL: Reach = Reach {
+    must: true,
+    near: true,
+    may: true,
+};
+
+/// Whether a search within the depth follows each step of a run and finds its end.
+fn is_within(depth: u32, run: &[Way]) -> bool
+    ensures { result ≡ (nat_le (length run.now) depth && list_all is_followed run.now) }
+{
+    if run.len() > depth as usize {
+        return false;
+    }
+    for way in run {
+        if nest(&way.left) > NEST_LIMIT {
+            return false;
+        }
+    }
+    true
+}
+
+/// The certain step as told, and what a search tells of the others, whatever run the block follows.
+fn reach_near(
+    alloc: Global,
+    agent: &Agent,
+    block: &Block,
+    state: &State,
+    must: bool,
+    bounded: bool,
+) -> Result<Reach, Stop>
+    requires agent { WellFormed agent.now }
+    requires searched { IsSearched agent.now block.now.body state.now }
+    requires depth { 1 ≤ block.now.depth }
+    ensures reach { IfOk result (λ r. (rest : Run) → AreNear agent.now state.now block.now rest must r) }
+    ensures fuel { IfErr result (λ stop. stop ≡ Stop.Fuel
+        → (bounded && is_above agent.now state.now Mode.Near block.now) ≡ true) }
+{
+    match near_of_block(alloc, agent, block, state, bounded)? {
+        NearStep::Steps { near, may } => Ok(Reach { must, near, may }),
+        NearStep::Fuel => Err(Stop::Fuel),
+    }
+}
+
+/// In which modes a block has a step whose run is kept: a certain one, and mostly without a search.
+fn reach_along(
+    alloc: Global,
+    agent: &Agent,
+    block: &Block,
+    rest: &[Way],
+    state: &State,
+) -> Result<Reach, Stop>
+    requires agent { WellFormed agent.now }
+    requires searched { IsSearched agent.now block.now.body state.now }
+    requires depth { 1 ≤ block.now.depth }
+    requires kept { IsTrue (keeps_run agent.now state.now block.now.body rest.now) }
+    ensures reach { IfOk result (λ r. (m : Mode)
+        → reaches m r ≡ has_step agent.now state.now m block.now rest.now) }
+    ensures memory { IfErr result (λ stop. stop ≡ Stop.Memory) }
+{
+    if is_within(block.depth, rest) {
+        return Ok(ALL);
+    }
+    reach_near(alloc, agent, block, state, true, false)
+}
+
+/// In which modes a block has a step that follows no run, or one that is not kept.
+fn reach_anew(
+    alloc: Global,
+    agent: &Agent,
+    block: &Block,
+    rest: &[Way],
+    state: &State,
+    bounded: bool,
+) -> Result<Reach, Stop>
+    requires agent { WellFormed agent.now }
+    requires searched { IsSearched agent.now block.now.body state.now }
+    requires depth { 1 ≤ block.now.depth }
+    requires kept { keeps_run agent.now state.now block.now.body rest.now ≡ false }
+    ensures reach { IfOk result (λ r. (m : Mode)
+        → reaches m r ≡ has_step agent.now state.now m block.now rest.now) }
+    ensures fuel { IfErr result (λ stop. stop ≡ Stop.Fuel
+        → (wants_more bounded agent.now state.now Mode.Must block.now rest.now
+        || wants_more bounded agent.now state.now Mode.Near block.now rest.now) ≡ true) }
+{
+    match search_block(alloc, agent, block, state, Mode::Must, bounded)? {
+        Found::Run(run) => {
+            drop(run);
+            Ok(ALL)
+        }
+        Found::Absent { cut: _ } => reach_near(alloc, agent, block, state, false, bounded),
+        Found::Fuel => Err(Stop::Fuel),
+    }
+}
+
+/// In which modes a block that follows a run has a step. `Stop::Fuel` comes only where the run is not kept,
+/// and a bounded search, in mode `Must` or `Near`, would look at more states than the block's fuel.
+pub fn reach_of_block(
+    alloc: Global,
+    agent: &Agent,
+    block: &Block,
+    rest: &[Way],
+    state: &State,
+    bounded: bool,
+) -> Result<Reach, Stop>
+    requires agent { WellFormed agent.now }
+    requires searched { IsSearched agent.now block.now.body state.now }
+    requires depth { 1 ≤ block.now.depth }
+    ensures reach { IfOk result (λ r. (m : Mode)
+        → reaches m r ≡ has_step agent.now state.now m block.now rest.now) }
+    ensures fuel { IfErr result (λ stop. stop ≡ Stop.Fuel
+        → (wants_more bounded agent.now state.now Mode.Must block.now rest.now
+        || wants_more bounded agent.now state.now Mode.Near block.now rest.now) ≡ true) }
+{
+    if is_kept(alloc, agent, &block.body, rest, state)? {
+        reach_along(alloc, agent, block, rest, state)
+    } else {
+        reach_anew(alloc, agent, block, rest, state, bounded)
+    }
 }

@@ -1,25 +1,127 @@
-ghost use Rattle.std.specs.Prelude.{◌≡◌, IfOk, IsTrue, not};
-ghost use Rattle.golog_semantics.specs.BlockFree.{has_block};
+ghost use Rattle.std.specs.Prelude.{◌≡◌, false, true, if◌then◌else◌, IfOk, IsTrue, not};
+ghost use Rattle.std.specs.Option.{is_some};
+ghost use Rattle.golog_semantics.specs.Blocks.{moves};
+ghost use Rattle.golog_semantics.specs.Certain.{EndIsCertain, StepIsCertain, StuckIsCertain};
+ghost use Rattle.golog_semantics.specs.Heavy.{heavy as is_heavy};
 ghost use Rattle.golog_semantics.specs.ProgFits.{fits};
+ghost use Rattle.golog_semantics.specs.Search.{final};
 ghost use Rattle.golog_semantics.specs.SortLaws.{AreInSorts};
-ghost use Rattle.golog_semantics.specs.Ways.{plain_move};
+ghost use Rattle.golog_semantics.specs.Ways.{is_empty};
 ghost use Rattle.golog_semantics.specs.WellFormed.{WellFormed};
-ghost use Rattle.golog_search.specs.Decided.{decision, blocked as blocked_at, stepping};
+ghost use Rattle.golog_search.specs.Decided.{IsAhead, IsDecided, decision, stepping as after_step};
 
+use crate::searches::Searches;
+use crate::weighing::some_block_weighs;
 use crate::{Blocked, Decision};
 use golog_base::NoMemory;
 use golog_progress::State;
 use golog_semantics::{Mode, Move};
-use golog_tree::{Agent, Prog, Way, nest};
-use golog_ways::{any, first, is_final};
+use golog_tree::{Agent, Prog, nest};
+use golog_ways::{Reach, Stop, first_move, is_final, reach_of};
 use std::alloc::Global;
 
 /// The deepest nest of what a step leaves.
 pub const NEST_LIMIT: u32 = 2048;
 
-/// What the program does next in the state, of a program that holds and reaches no search block: it ends
-/// where that is certain; else it takes the first certain step, unless what that leaves nests above 2,048;
-/// and else it is blocked. `Fuel` is never answered.
+/// The step, unless what it leaves nests too deep.
+fn stepping(step: Move) -> Decision
+    ensures { result ≡ after_step step }
+{
+    if nest(&step.left) > NEST_LIMIT {
+        return Decision::Deep;
+    }
+    Decision::Step(step)
+}
+
+/// The end or the first step, where one is certain.
+fn look_ahead(
+    alloc: Global,
+    agent: &Agent,
+    prog: &Prog,
+    state: &State,
+    bounded: bool,
+) -> Result<Option<Decision>, NoMemory>
+    requires agent { WellFormed agent.now }
+    requires program { IsTrue (fits agent.now prog.now) }
+    requires sorts { AreInSorts agent.now state.now }
+    ensures { IfOk result (IsAhead agent.now state.now prog.now bounded) }
+{
+    if is_final(alloc, agent, Mode::Must, prog, state)? {
+        return Ok(Some(Decision::Final));
+    }
+    let blocks = Searches { state, bounded };
+    match first_move(alloc, agent, &blocks, prog, state.values()) {
+        Ok(Some(step)) => Ok(Some(stepping(step))),
+        Ok(None) => Ok(None),
+        Err(Stop::Fuel) => Ok(Some(Decision::Fuel)),
+        Err(Stop::Memory) => Err(NoMemory),
+    }
+}
+
+/// Why a program that certainly neither ends nor steps is blocked, where no end is near either.
+fn why(reach: Reach) -> Blocked
+    ensures { result ≡ (if reach.near then Blocked.Unknown else if reach.may then Blocked.Depth else Blocked.Stuck) }
+{
+    if reach.near {
+        Blocked::Unknown
+    } else if reach.may {
+        Blocked::Depth
+    } else {
+        Blocked::Stuck
+    }
+}
+
+/// Why a program is blocked.
+fn look_why(
+    alloc: Global,
+    agent: &Agent,
+    prog: &Prog,
+    state: &State,
+    bounded: bool,
+) -> Result<Decision, NoMemory>
+    requires agent { WellFormed agent.now }
+    requires program { IsTrue (fits agent.now prog.now) }
+    requires sorts { AreInSorts agent.now state.now }
+    requires unended { final agent.now state.now Mode.Must prog.now ≡ false }
+    requires stepless { IsTrue (is_empty (moves agent.now state.now Mode.Must prog.now)) }
+    ensures { IfOk result (IsDecided agent.now state.now prog.now bounded) }
+{
+    if is_final(alloc, agent, Mode::Near, prog, state)? {
+        return Ok(Decision::Blocked(Blocked::Unknown));
+    }
+    let blocks = Searches { state, bounded };
+    match reach_of(alloc, agent, &blocks, prog, state.values()) {
+        Ok(reach) => Ok(Decision::Blocked(why(reach))),
+        Err(Stop::Fuel) => Ok(Decision::Fuel),
+        Err(Stop::Memory) => Err(NoMemory),
+    }
+}
+
+/// What a program does next, where its searches are bounded by the fuel of their blocks or not.
+fn look(
+    alloc: Global,
+    agent: &Agent,
+    prog: &Prog,
+    state: &State,
+    bounded: bool,
+) -> Result<Decision, NoMemory>
+    requires agent { WellFormed agent.now }
+    requires program { IsTrue (fits agent.now prog.now) }
+    requires sorts { AreInSorts agent.now state.now }
+    ensures { IfOk result (IsDecided agent.now state.now prog.now bounded) }
+{
+    match look_ahead(alloc, agent, prog, state, bounded)? {
+        Some(decision) => Ok(decision),
+        None => look_why(alloc, agent, prog, state, bounded),
+    }
+}
+
+/// What a program does next in a state: it ends where that is certain; else it takes the first certain step,
+/// with the run that begins with it where a search block begins one, unless what that leaves nests above
+/// 2,048; and else it is blocked. `Fuel` comes only where the program is `heavy`.
+///
+/// In each world in which all is so that is known, the program may end where this is `Final`, a `Step` is a step
+/// of it by the published Trans, and it can neither end nor step where this is `Blocked(Stuck)`.
 pub fn decide(
     alloc: Global,
     agent: &Agent,
@@ -28,49 +130,103 @@ pub fn decide(
 ) -> Result<Decision, NoMemory>
     requires agent { WellFormed agent.now }
     requires program { IsTrue (fits agent.now prog.now) }
-    requires blockless { IsTrue (not (has_block agent.now prog.now)) }
+    requires sorts { AreInSorts agent.now state.now }
+    ensures decided { IfOk result (IsDecided agent.now state.now prog.now true) }
+    ensures ends { IfOk result (λ d. d ≡ Decision.Final → EndIsCertain agent.now state.now prog.now) }
+    ensures steps { IfOk result (λ d. (step : Move) → d ≡ Decision.Step step
+        → StepIsCertain agent.now state.now prog.now step.label step.left) }
+    ensures stuck { IfOk result (λ d. d ≡ Decision.Blocked Blocked.Stuck
+        → StuckIsCertain agent.now state.now prog.now) }
+{
+    look(alloc, agent, prog, state, true)
+}
+
+/// What `decide` tells of a program that certainly ends or steps, or whose blocks lack fuel for that. `None`
+/// comes where neither an end nor a step is certain; then `decide_blocked` tells why.
+pub fn decide_step(
+    alloc: Global,
+    agent: &Agent,
+    prog: &Prog,
+    state: &State,
+) -> Result<Option<Decision>, NoMemory>
+    requires agent { WellFormed agent.now }
+    requires program { IsTrue (fits agent.now prog.now) }
+    requires sorts { AreInSorts agent.now state.now }
+    ensures { IfOk result (IsAhead agent.now state.now prog.now true) }
+{
+    look_ahead(alloc, agent, prog, state, true)
+}
+
+/// What `decide` tells of a program that certainly neither ends nor steps.
+pub fn decide_blocked(
+    alloc: Global,
+    agent: &Agent,
+    prog: &Prog,
+    state: &State,
+) -> Result<Decision, NoMemory>
+    requires agent { WellFormed agent.now }
+    requires program { IsTrue (fits agent.now prog.now) }
+    requires sorts { AreInSorts agent.now state.now }
+    requires unended { final agent.now state.now Mode.Must prog.now ≡ false }
+    requires stepless { IsTrue (is_empty (moves agent.now state.now Mode.Must prog.now)) }
+    ensures { IfOk result (IsDecided agent.now state.now prog.now true) }
+{
+    look_why(alloc, agent, prog, state, true)
+}
+
+/// What a program does next in a state, whatever the fuel of its blocks. It is never `Fuel`.
+pub fn decide_unbounded(
+    alloc: Global,
+    agent: &Agent,
+    prog: &Prog,
+    state: &State,
+) -> Result<Decision, NoMemory>
+    requires agent { WellFormed agent.now }
+    requires program { IsTrue (fits agent.now prog.now) }
     requires sorts { AreInSorts agent.now state.now }
     ensures { IfOk result (λ d. d ≡ decision agent.now state.now prog.now) }
 {
-    if is_final(alloc, agent, Mode::Must, prog, state)? {
-        return Ok(Decision::Final);
-    }
-    match first(alloc, agent, prog, state)? {
-        Some(way) => Ok(step_along(way)),
-        None => Ok(Decision::Blocked(blocked(alloc, agent, prog, state)?)),
-    }
+    look(alloc, agent, prog, state, false)
 }
 
-/// The step, unless what it leaves nests too deep.
-fn step_along(way: Way) -> Decision
-    ensures { result ≡ stepping (plain_move way.label way.left) }
+/// Whether nothing is ahead.
+fn is_nothing(ahead: Option<Decision>) -> bool
+    ensures { result ≡ not (is_some ahead) }
 {
-    if nest(&way.left) > NEST_LIMIT {
-        return Decision::Deep;
-    }
-    Decision::Step(Move {
-        label: way.label,
-        left: way.left,
-        run: None,
-    })
+    ahead.is_none()
 }
 
-/// Why a program without a certain step or end is blocked.
-fn blocked(alloc: Global, agent: &Agent, prog: &Prog, state: &State) -> Result<Blocked, NoMemory>
+/// Whether a program that does not certainly end has no certain step.
+fn is_stepless(alloc: Global, agent: &Agent, prog: &Prog, state: &State) -> Result<bool, NoMemory>
     requires agent { WellFormed agent.now }
     requires program { IsTrue (fits agent.now prog.now) }
-    requires blockless { IsTrue (not (has_block agent.now prog.now)) }
     requires sorts { AreInSorts agent.now state.now }
-    ensures { IfOk result (λ b. b ≡ blocked_at agent.now state.now prog.now) }
+    requires unended { final agent.now state.now Mode.Must prog.now ≡ false }
+    ensures { IfOk result (λ b. b ≡ is_empty (moves agent.now state.now Mode.Must prog.now)) }
 {
-    if any(alloc, agent, Mode::Near, prog, state)? {
-        return Ok(Blocked::Unknown);
+    let ahead = look_ahead(alloc, agent, prog, state, false)?;
+    Ok(is_nothing(ahead))
+}
+
+/// Whether a program is heavy in a state: it does not certainly end, and some search block at its front wants
+/// more than its fuel for a certain run; or it wants more for one that there may be were more known, and the
+/// program has no certain step or the block stands in the higher part of a `prio`. A run that is kept is no
+/// block here.
+pub fn heavy(alloc: Global, agent: &Agent, prog: &Prog, state: &State) -> Result<bool, NoMemory>
+    requires agent { WellFormed agent.now }
+    requires program { IsTrue (fits agent.now prog.now) }
+    requires sorts { AreInSorts agent.now state.now }
+    ensures { IfOk result (λ b. b ≡ is_heavy agent.now state.now prog.now) }
+{
+    if is_final(alloc, agent, Mode::Must, prog, state)? {
+        return Ok(false);
     }
-    if is_final(alloc, agent, Mode::Near, prog, state)? {
-        return Ok(Blocked::Unknown);
+    if some_block_weighs(alloc, agent, prog, state, false)? {
+        return Ok(true);
     }
-    if any(alloc, agent, Mode::May, prog, state)? {
-        return Ok(Blocked::Depth);
+    if is_stepless(alloc, agent, prog, state)? {
+        some_block_weighs(alloc, agent, prog, state, true)
+    } else {
+        Ok(false)
     }
-    Ok(Blocked::Stuck)
 }

@@ -1,11 +1,12 @@
-ghost use Rattle.std.specs.Prelude.{◌≡◌, ◌+◌, ◌<◌, IfOk, IsTrue, MatchOption, not, reverse};
+ghost use Rattle.std.specs.Prelude.{◌≡◌, ◌+◌, ◌<◌, IfOk, IsTrue, MatchOption, not, reverse, true};
 ghost use Rattle.std.specs.List.{position_from};
 ghost use Rattle.golog_semantics.specs.BlockFree.{has_block};
 ghost use Rattle.golog_semantics.specs.ProgFits.{fits};
 ghost use Rattle.golog_semantics.specs.SortLaws.{AreInSorts};
 ghost use Rattle.golog_semantics.specs.WellFormed.{WellFormed};
-ghost use Rattle.golog_search.specs.Finding.{found, mode_of as mode_for};
-ghost use Rattle.golog_search.specs.Levels.{AreSearched, ends_at, run_to as run_of};
+ghost use Rattle.golog_search.specs.Finding.{found, found_by, mode_of as mode_for};
+ghost use Rattle.golog_search.specs.InWorlds.{AbsenceIsCertain, RunIsCertain};
+ghost use Rattle.golog_search.specs.Levels.{AreSearched, IsSearched, ends_at, run_to as run_of};
 
 use crate::found::Found;
 use crate::reached::Reached;
@@ -75,15 +76,52 @@ fn first_end(
     Ok(None)
 }
 
-/// What is left of the fuel when so many states are looked at, and `None` where it does not suffice.
-fn spent(fuel: usize, count: usize) -> Option<usize>
-    ensures { MatchOption result (fuel < count) (λ rest. rest + count ≡ fuel) }
+/// What is left of the fuel when so many states are looked at, and `None` where it does not suffice. A search
+/// without bounds keeps all of it.
+fn spent(bounded: bool, fuel: usize, count: usize) -> Option<usize>
+    ensures { MatchOption result ((bounded ≡ true) × (fuel < count))
+        (λ rest. bounded ≡ true → rest + count ≡ fuel) }
 {
-    if count <= fuel {
+    if !bounded {
+        Some(fuel)
+    } else if count <= fuel {
         Some(fuel - count)
     } else {
         None
     }
+}
+
+/// The search of a block in a state, for runs in the mode. Where it is bounded, it looks at no more states
+/// than the block's fuel.
+pub fn search_block(
+    alloc: Global,
+    agent: &Agent,
+    block: &Block,
+    state: &State,
+    mode: Mode,
+    bounded: bool,
+) -> Result<Found, NoMemory>
+    requires agent { WellFormed agent.now }
+    requires searched { IsSearched agent.now block.now.body state.now }
+    ensures { IfOk result (λ f. f ≡ found_by bounded agent.now state.now mode block.now) }
+{
+    let mut search = Search::new(alloc, &block.body, state)?;
+    let mut fuel = block.fuel as usize;
+    for _step in 0..block.depth {
+        let Some(rest) = spent(bounded, fuel, search.last.len()) else {
+            return Ok(Found::Fuel);
+        };
+        fuel = rest;
+        search.deepen(alloc, agent, mode)?;
+        if let Some(place) = first_end(alloc, agent, mode, search.last.as_slice())? {
+            let before = search.before.as_slice();
+            let run = run_to(alloc, before, search.last.as_slice(), place)?;
+            return Ok(Found::Run(run));
+        }
+    }
+    Ok(Found::Absent {
+        cut: search.is_cut(),
+    })
 }
 
 /// The search of a block in a state, for a run that is certain, or else for one that there may be were more
@@ -94,6 +132,9 @@ fn spent(fuel: usize, count: usize) -> Option<usize>
 /// each number of steps below the least length of a run, or below the depth where there is no run. Else `Run`
 /// is the first run of least length, and where there is none `Absent` tells whether something stayed unseen.
 /// `NoMemory` comes where none is left for the states.
+///
+/// In each world in which all is so that is known, as many steps as a certain run has lead to an end; and where
+/// not even an uncertain run is there and nothing stayed unseen, no number of steps but none does.
 pub fn find(
     alloc: Global,
     agent: &Agent,
@@ -105,28 +146,9 @@ pub fn find(
     requires program { IsTrue (fits agent.now block.now.body) }
     requires blockless { IsTrue (not (has_block agent.now block.now.body)) }
     requires sorts { AreInSorts agent.now state.now }
-    ensures { IfOk result (λ f. f ≡ found agent.now state.now (mode_for certain) block.now) }
+    ensures found { IfOk result (λ f. f ≡ found agent.now state.now (mode_for certain) block.now) }
+    ensures so { IfOk result (RunIsCertain agent.now state.now block.now.body certain) }
+    ensures none { IfOk result (AbsenceIsCertain agent.now state.now block.now.body certain) }
 {
-    let mode = mode_of(certain);
-    let mut search = Search::new(alloc, &block.body, state)?;
-    let mut fuel = block.fuel as usize;
-    for _step in 0..block.depth {
-        let Some(rest) = spent(fuel, search.last.len()) else {
-            return Ok(Found::Fuel);
-        };
-        fuel = rest;
-        search.deepen(alloc, agent, mode)?;
-        if let Some(place) = first_end(alloc, agent, mode, search.last.as_slice())? {
-            let run = run_to(
-                alloc,
-                search.before.as_slice(),
-                search.last.as_slice(),
-                place,
-            )?;
-            return Ok(Found::Run(run));
-        }
-    }
-    Ok(Found::Absent {
-        cut: search.is_cut(),
-    })
+    search_block(alloc, agent, block, state, mode_of(certain), true)
 }

@@ -12,13 +12,13 @@ mod reach;
 mod reached;
 mod same;
 mod search;
+mod searches;
 mod steps;
 mod weighing;
 
-pub use deciding::{NEST_LIMIT, decide};
+pub use deciding::{NEST_LIMIT, decide, decide_blocked, decide_step, decide_unbounded, heavy};
 pub use decision::{Blocked, Decision};
 pub use finding::find;
 pub use found::Found;
 pub use golog_semantics::{Block, Move};
 pub use laws::{blockless_left, blockless_steps, decided_is_answered};
-pub use weighing::{is_heavy, some_block_weighs};

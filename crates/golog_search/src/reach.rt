@@ -9,24 +9,12 @@ pub enum FirstStep {
     Fuel,
 }
 
-/// In which modes a search block has a step.
-#[derive(Drop)]
-pub enum Reach {
-    /// It has none in any mode.
-    Absent,
-    /// It has one in mode `May` alone: a run may lie beyond what a search looks at.
-    Possible,
-    /// It has one in modes `Near` and `May`: a run may begin with it.
-    Near,
-    /// It has one in each mode.
-    Certain,
-}
-
 /// What a search in mode `Near` tells of the steps of a block.
 #[derive(Drop)]
 pub enum NearStep {
-    /// In which of the modes `Near` and `May` it has one, and so never `Certain`.
-    Reach(Reach),
+    /// Whether it has one in mode `Near`, since a run may begin with it, and whether in mode `May`, since one
+    /// may lie beyond what the search looks at.
+    Steps { near: bool, may: bool },
     /// The search would look at more states than the block's fuel.
     Fuel,
 }

@@ -1,11 +1,10 @@
 ghost use Rattle.std.specs.Prelude.{◌≡◌, ◌||◌, IfOk, IsTrue, not, true};
 ghost use Rattle.std.specs.List.{list_any};
 ghost use Rattle.golog_semantics.specs.BlockFree.{has_block};
-ghost use Rattle.golog_semantics.specs.Blocks.{is_kept as keeps_run, moves};
-ghost use Rattle.golog_semantics.specs.Heavy.{front_blocks, heavy, is_above};
+ghost use Rattle.golog_semantics.specs.Blocks.{is_kept as keeps_run};
+ghost use Rattle.golog_semantics.specs.Heavy.{front_blocks, is_above};
 ghost use Rattle.golog_semantics.specs.ProgFits.{fits};
 ghost use Rattle.golog_semantics.specs.SortLaws.{AreInSorts};
-ghost use Rattle.golog_semantics.specs.Ways.{is_empty};
 ghost use Rattle.golog_semantics.specs.WellFormed.{WellFormed};
 ghost use Rattle.golog_ways.specs.Closed.{IsClosed};
 ghost use Rattle.golog_search.specs.Finding.{mode_of};
@@ -13,14 +12,14 @@ ghost use Rattle.golog_search.specs.Levels.{IsSearched};
 ghost use Rattle.golog_search.specs.Weighing.{lacks_fuel as lacks, some_weighs as weighs_some};
 ghost use Rattle.golog_search.specs.Weighing.{weighs_by, weighs_unless_kept};
 
-use crate::block_steps::is_kept;
+use crate::block_steps::{block_of, is_kept};
 use crate::finding::find;
 use crate::found::Found;
 use golog_base::NoMemory;
 use golog_progress::State;
-use golog_semantics::{Block, Mode};
-use golog_tree::{Agent, Arg, Prog, Way, copy_prog, put_arg, sort_size};
-use golog_ways::{body_of, is_final, may_skip};
+use golog_semantics::Block;
+use golog_tree::{Agent, Arg, Prog, Way, put_arg, sort_size};
+use golog_ways::{body_of, may_skip};
 use std::alloc::Global;
 
 /// How blocks stand at a front: whether the program is stepless, which is to say has no certain step, and
@@ -72,14 +71,6 @@ fn wants_more(
 {
     let found = find(alloc, agent, block, state, certain)?;
     Ok(lacks_fuel(&found))
-}
-
-/// The block of these parts.
-fn block_of(alloc: Global, depth: u32, fuel: u32, body: &Prog) -> Result<Block, NoMemory>
-    ensures { IfOk result (λ block. block ≡ record { depth = depth; fuel = fuel; body = body.now }) }
-{
-    let body = copy_prog(alloc, body)?;
-    Ok(Block { depth, fuel, body })
 }
 
 /// Whether a block may keep the program from an answer.
@@ -355,26 +346,4 @@ pub fn some_block_weighs(
         higher: false,
     };
     some_weighs(alloc, agent, prog, state, at)
-}
-
-/// Whether a program does not certainly end, and some search block at its front may keep it from an answer,
-/// as `some_block_weighs` says. `NoMemory` as there.
-pub fn is_heavy(
-    alloc: Global,
-    agent: &Agent,
-    prog: &Prog,
-    state: &State,
-    stepless: bool,
-) -> Result<bool, NoMemory>
-    requires agent { WellFormed agent.now }
-    requires program { IsTrue (fits agent.now prog.now) }
-    requires sorts { AreInSorts agent.now state.now }
-    requires steps { stepless ≡ is_empty (moves agent.now state.now Mode.Must prog.now) }
-    ensures { IfOk result (λ b. b ≡ heavy agent.now state.now prog.now) }
-{
-    if is_final(alloc, agent, Mode::Must, prog, state)? {
-        Ok(false)
-    } else {
-        some_block_weighs(alloc, agent, prog, state, stepless)
-    }
 }

@@ -1,24 +1,18 @@
 use Rattle.std.proofs.Common.{sym, ap, ◌∙◌}
-use Rattle.golog_search.specs.declared.found.Found.TheVariants.{Absent}
 use Rattle.golog_search.proofs.FirstSteps.{near_found, near-found}
 use Rattle.golog_search.proofs.block_steps.near_of_block.Goals as goal
 
 pub returns-in-Fuel : goal.returns-in-Fuel
 returns-in-Fuel c = λ rest.
     ap near_found (sym c.in-Fuel.is ∙ c.in_ok-run.ensures)
-    ∙ near-found c.args.agent.now c.args.state.now c.args.block.now rest c.requires.depth
+    ∙ near-found c.args.bounded c.args.agent.now c.args.state.now c.args.block.now rest c.requires.depth
 
 pub returns-in-Run : goal.returns-in-Run
 returns-in-Run c = λ rest.
     ap near_found (sym c.in-Run.is ∙ c.in_ok-run.ensures)
-    ∙ near-found c.args.agent.now c.args.state.now c.args.block.now rest c.requires.depth
+    ∙ near-found c.args.bounded c.args.agent.now c.args.state.now c.args.block.now rest c.requires.depth
 
-pub returns-in-Absent-true : goal.returns-in-Absent-true
-returns-in-Absent-true c = λ rest.
-    ap near_found (ap Absent (sym c.in-Absent-true.cut-test) ∙ sym c.in-Absent-true.is ∙ c.in_ok-run.ensures)
-    ∙ near-found c.args.agent.now c.args.state.now c.args.block.now rest c.requires.depth
-
-pub returns-in-Absent-false : goal.returns-in-Absent-false
-returns-in-Absent-false c = λ rest.
-    ap near_found (ap Absent (sym c.in-Absent-false.cut-test) ∙ sym c.in-Absent-false.is ∙ c.in_ok-run.ensures)
-    ∙ near-found c.args.agent.now c.args.state.now c.args.block.now rest c.requires.depth
+pub returns-in-Absent : goal.returns-in-Absent
+returns-in-Absent c = λ rest.
+    ap near_found (sym c.in-Absent.is ∙ c.in_ok-run.ensures)
+    ∙ near-found c.args.bounded c.args.agent.now c.args.state.now c.args.block.now rest c.requires.depth

@@ -1,25 +1,33 @@
-use Rattle.std.proofs.Common.{false, sym, ap, ◌∙◌}
-use Rattle.golog_search.specs.declared.decision.Decision.TheVariants.{Blocked as Blocking}
-use Rattle.golog_search.proofs.Choosing.{ends, steps_along, is_blocked}
+use Rattle.std.proofs.Common.{◌≡◌, true}
+use Rattle.std.proofs.lemmas.Result.{IfOk-weaker}
+use Rattle.golog_semantics.specs.declared.search.Move.{Move}
+use Rattle.golog_semantics.specs.Certain.{EndIsCertain, StepIsCertain, StuckIsCertain}
+use Rattle.golog_search.specs.declared.decision.Blocked.TheVariants.{Stuck}
+use Rattle.golog_search.specs.declared.decision.Decision.TheVariants.{Final, Step, Blocked as Blocking}
+use Rattle.golog_search.specs.Decided.{IsDecided}
+use Rattle.golog_search.proofs.InWorlds.{ends_so, steps_so, stuck_so}
 use Rattle.golog_search.proofs.deciding.decide.Goals as goal
 
-pub is_final-requires-clause-program : goal.is_final-requires-clause-program
-is_final-requires-clause-program c = record { in_block = false; fits = c.requires.program }
+pub returns-clause-ends : goal.returns-clause-ends
+returns-clause-ends c =
+    let agent = c.args.agent.now in
+    let values = c.args.state.now in
+    let p = c.args.prog.now in
+    IfOk-weaker c.look.result (IsDecided agent values p true) (λ d. d ≡ Final → EndIsCertain agent values p)
+    (λ d told. ends_so agent values p c.requires.agent c.requires.program d true told) c.look.ensures
 
-pub first-requires-clause-program : goal.first-requires-clause-program
-first-requires-clause-program c = record { in_block = false; fits = c.requires.program }
+pub returns-clause-steps : goal.returns-clause-steps
+returns-clause-steps c =
+    let agent = c.args.agent.now in
+    let values = c.args.state.now in
+    let p = c.args.prog.now in
+    IfOk-weaker c.look.result (IsDecided agent values p true) (λ d. (m : Move) → d ≡ Step m → StepIsCertain agent values p m.label m.left)
+    (λ d told. steps_so agent values p c.requires.agent c.requires.program d true told) c.look.ensures
 
-pub returns-then-branch : goal.returns-then-branch
-returns-then-branch c = ends c.args.agent.now c.args.state.now c.args.prog.now (sym c.in_ok-is_final.ensures ∙ c.if-branch.true)
-
-pub returns-in-Some : goal.returns-in-Some
-returns-in-Some c =
-    c.step_along.ensures
-    ∙ steps_along c.args.agent.now c.args.state.now c.args.prog.now c.requires.blockless c.in-Some.way
-    (sym c.in_ok-is_final.ensures ∙ c.if-branch.false) (sym c.in_ok-way.ensures.way ∙ c.in-Some.is)
-
-pub returns-in_ok-blocked-in-None : goal.returns-in_ok-blocked-in-None
-returns-in_ok-blocked-in-None c =
-    ap Blocking c.in_ok-blocked-in-None.ensures
-    ∙ is_blocked c.args.agent.now c.args.state.now c.args.prog.now c.requires.blockless
-    (sym c.in_ok-is_final.ensures ∙ c.if-branch.false) (sym c.in_ok-way.ensures.way ∙ c.in-None.is)
+pub returns-clause-stuck : goal.returns-clause-stuck
+returns-clause-stuck c =
+    let agent = c.args.agent.now in
+    let values = c.args.state.now in
+    let p = c.args.prog.now in
+    IfOk-weaker c.look.result (IsDecided agent values p true) (λ d. d ≡ Blocking Stuck → StuckIsCertain agent values p)
+    (λ d told. stuck_so agent values p c.requires.agent c.requires.program d true told) c.look.ensures

@@ -11,5 +11,5 @@ pub returns : goal.returns
 returns c =
     c.holds.ensures
     ∙ ap (holds c.args.mode)
-    (c.value.ensures ∙ ap (λ (v : List ℕ). truth_of c.args.agent.now v c.args.front.now.cond c.new.result) c.values.ensures
+    (c.value.ensures.truth ∙ ap (λ (v : List ℕ). truth_of c.args.agent.now v c.args.front.now.cond c.new.result) c.values.ensures
     ∙ ap (truth_of c.args.agent.now c.args.state.now c.args.front.now.cond) c.new.ensures)

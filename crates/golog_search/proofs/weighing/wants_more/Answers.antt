@@ -6,5 +6,5 @@ use Rattle.golog_search.proofs.weighing.wants_more.Goals as goal
 
 pub returns : goal.returns
 returns c =
-    c.lacks_fuel.ensures ∙ ap lacks_fuel c.in_ok-found.ensures
+    c.lacks_fuel.ensures ∙ ap lacks_fuel c.in_ok-found.ensures.found
     ∙ lacks-found c.args.agent.now c.args.state.now (mode_of c.args.certain) c.args.block.now

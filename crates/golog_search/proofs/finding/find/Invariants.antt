@@ -1,5 +1,0 @@
-use Rattle.golog_search.proofs.Searching.{IsSearching}
-use Rattle.golog_search.proofs.finding.find.Given as goal
-
-abbrev pub invariant-loop-step : goal.invariant-loop-step
-invariant-loop-step l = IsSearching l.agent l.mode l.block l.state l._step l.fuel l.search

@@ -1,0 +1,58 @@
+use crate::block_steps::{block_of, first_of_block, reach_of_block};
+use crate::reach::FirstStep;
+use golog_progress::State;
+use golog_semantics::Move;
+use golog_tree::{Agent, Prog, Way};
+use golog_ways::{Blocks, Reach, Stop};
+use std::alloc::Global;
+
+/// Tells the steps of search blocks in a state by searching them, as far as their fuel suffices where the
+/// searches are bounded.
+#[derive(Clone, Copy)]
+pub struct Searches<'a> {
+    pub state: &'a State,
+    pub bounded: bool,
+}
+
+impl<'a> Blocks for Searches<'a> {
+    ghost use Rattle.golog_semantics.specs.Blocks.{block_moves};
+    ghost use Rattle.golog_search.specs.BlockSteps.{IsSearchedIn, wants_more};
+
+    ghost ready = { λ searches agent values. IsSearchedIn agent values searches.state.now };
+
+    ghost moves = { λ searches agent values. block_moves agent values };
+
+    ghost wants = { λ searches agent values m depth fuel body rest. wants_more searches.bounded agent values m
+        (record { depth = depth; fuel = fuel; body = body }) rest };
+
+    fn first(
+        &self,
+        alloc: Global,
+        agent: &Agent,
+        _values: &[u8],
+        depth: u32,
+        fuel: u32,
+        body: &Prog,
+        rest: &[Way],
+    ) -> Result<Option<Move>, Stop> {
+        let block = block_of(alloc, depth, fuel, body)?;
+        match first_of_block(alloc, agent, &block, rest, self.state, self.bounded)? {
+            FirstStep::Step(step) => Ok(step),
+            FirstStep::Fuel => Err(Stop::Fuel),
+        }
+    }
+
+    fn reach(
+        &self,
+        alloc: Global,
+        agent: &Agent,
+        _values: &[u8],
+        depth: u32,
+        fuel: u32,
+        body: &Prog,
+        rest: &[Way],
+    ) -> Result<Reach, Stop> {
+        let block = block_of(alloc, depth, fuel, body)?;
+        reach_of_block(alloc, agent, &block, rest, self.state, self.bounded)
+    }
+}
