@@ -54,7 +54,7 @@ pub enum Commit {
 }
 
 /// The entries from a place on: the first `count` of `entries`. `length` is the length of the journal.
-#[derive(Drop)]
+#[derive(Clone, Copy)]
 pub struct Batch {
     pub count: u32,
     pub entries: [Entry; BATCH],
