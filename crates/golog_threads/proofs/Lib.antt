@@ -1,0 +1,8 @@
+pub mod Lists
+pub mod Refusals
+pub mod Fitting
+pub mod Turning
+pub mod Driving
+pub mod Gathering
+pub mod Crossing
+pub mod TwoSeats

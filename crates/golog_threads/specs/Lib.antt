@@ -1,0 +1,8 @@
+pub mod Absurd
+pub mod NoAgent
+pub mod Laws
+pub mod Sharing
+pub mod Resting
+pub mod Driving
+pub mod Gathering
+pub mod Running
