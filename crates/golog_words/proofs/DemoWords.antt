@@ -1,0 +1,60 @@
+-- What `clap` makes of the words of a `demo`.
+use Rattle.std.proofs.Common.{◌≡◌, ap, refl, codes, ℕ, true, false, true≢false, sym, Bool, not, List, [], ◌∷◌, Option, Some, None, arith, nat_le}
+use Rattle.std.specs.Prelude.{◌==◌, drop, if◌then◌else◌}
+use Rattle.std.specs.List.{list_all}
+use Rattle.std.specs.Str.Parse.{digits_value}
+use Rattle.std.proofs.lemmas.Bool.Decides.{nat_tests}
+use Rattle.clap.proofs.TakesLemmas.{leaf_takes}
+use Rattle.clap.proofs.OnLiterals.{clap_on_literals}
+use Rattle.clap.specs.Words.{App, built, first_of, is_simple, matches_of, new_app, new_rule, takes, with_rule}
+use Rattle.clap.specs.Simple.{Shape}
+use Rattle.clap.specs.Walk.{nothing_held}
+use Rattle.golog_base.specs.Names.{is_digit}
+use Rattle.golog_words.specs.Commands.{Text, demo, demo_of, demo_in, is_positive, is_size, size_in}
+use Rattle.golog_words.proofs.Meeting.{Meets}
+use Rattle.golog_words.proofs.Conditions.{first, holds_under}
+use Rattle.golog_words.proofs.Walks.{rows_on, takes_on}
+
+abbrev pub demonstrating : App
+demonstrating = with_rule (new_app (codes "demo")) (new_rule (codes "size"))
+
+abbrev shape : Shape
+shape = (built demonstrating).top
+
+pub simple : is_simple demonstrating ≡ true
+unfolding clap_on_literals
+simple = refl
+
+module _ (name : Text) (x : ℕ) (xs : Text) (e : (x == 45) ≡ false) where
+  rows : first_of (codes "size") (matches_of demonstrating (name ∷ (x ∷ xs) ∷ [])) ≡ Some (x ∷ xs)
+  unfolding clap_on_literals
+  rows = ap (first_of (codes "size")) (rows_on shape x xs e nothing_held 1 [])
+
+  taken : takes demonstrating (name ∷ (x ∷ xs) ∷ []) ≡ true
+  unfolding clap_on_literals
+  taken = leaf_takes (built demonstrating) nothing_held ((x ∷ xs) ∷ []) refl
+      (takes_on shape x xs e nothing_held 1 [] refl)
+
+-- a digit is no `-`
+no_dash : (x : ℕ) → is_digit x ≡ true → (x == 45) ≡ false
+no_dash x digit = grind (arith, nat_tests)
+
+sized : (word : Text) → is_size word ≡ true → size_in word ≡ Some (digits_value 10 word)
+sized word fits = ap (λ (b : Bool). if b then Some (digits_value 10 word) else None) fits
+
+one : (name word : Text) → is_size word ≡ true
+    → Meets demonstrating (name ∷ word ∷ []) (Some (demo (digits_value 10 word)))
+one name [] fits = absurd (true≢false (sym fits))
+one name (x ∷ xs) fits =
+    let positive : is_positive (x ∷ xs) ≡ true = first _ (nat_le (digits_value 10 (x ∷ xs)) 200) fits in
+    let digits : list_all is_digit (x ∷ xs) ≡ true = first _ (not (x == 48)) positive in
+    let digit : is_digit x ≡ true = first _ (list_all is_digit xs) digits in
+    ((x ∷ xs, rows name x xs (no_dash x digit), sized (x ∷ xs) fits), taken name x xs (no_dash x digit))
+
+pub meets : (words : List Text) → Meets demonstrating words (demo_in (drop 1 words))
+meets [] = tt
+meets (name ∷ []) = tt
+meets (name ∷ word ∷ []) =
+    holds_under (λ (size : Option ℕ). Meets demonstrating (name ∷ word ∷ []) (demo_of size)) (is_size word)
+    (Some (digits_value 10 word)) tt (one name word)
+meets (name ∷ word ∷ other ∷ more) = tt

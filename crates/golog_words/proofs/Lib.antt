@@ -1,0 +1,11 @@
+mod AskWords
+mod CheckWords
+mod Conditions
+mod DemoWords
+mod Meeting
+mod Parts
+mod ReplayWords
+mod RunWords
+mod Runs
+mod Sizes
+mod Walks

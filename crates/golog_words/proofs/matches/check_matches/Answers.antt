@@ -1,0 +1,17 @@
+use Rattle.std.proofs.Common.{rules, ap₂, codes, map, string_bytes, ◌≡◌, ◌∙◌}
+use Rattle.clap.specs.Words.{app_of, new_rule, rule_of, with_rule}
+use Rattle.golog_words.proofs.Meeting.{found, fails}
+use Rattle.golog_words.proofs.CheckWords.{checking, meets, simple}
+use Rattle.golog_words.proofs.matches.check_matches.Goals as goal
+
+pub returns : goal.returns
+returns c =
+    let agent_is : rule_of c.new-agent.result ≡ new_rule (codes "agent") = search rules in
+    let same : app_of c.in_ok-command.command ≡ checking = c.in_ok-command.ensures.shape (search rules)
+    ∙ ap₂ with_rule c.new.ensures.app agent_is in
+    let words = map string_bytes c.args.words.now in
+    let parse = c.try_get_matches_from in
+    record {
+      found = found checking words _ (meets words) _ same simple _ parse.ensures.matches;
+      fails = fails checking words _ (meets words) _ same simple _ parse.ensures.passes;
+    }

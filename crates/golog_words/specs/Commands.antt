@@ -1,0 +1,96 @@
+-- The commands, and which words spell them.
+use Rattle.std.specs.Prelude.{ℕ, ◌==◌, ◌&&◌, ◌||◌, nat_le, Bool, false, not, if◌then◌else◌, List, [], ◌∷◌, Option, None, Some, codes, bytes_eq, count_by, filter}
+use Rattle.std.specs.List.{list_all, list_any}
+use Rattle.std.specs.Str.Parse.{digits_value}
+use Rattle.golog_base.specs.Names.{is_digit}
+
+-- the bytes of a word
+abbrev pub Text : Type 0
+Text = List ℕ
+
+-- what a command asks for
+pub data Command : Type 0 where
+  run : (agent : Text) (devices : Option Text) (is_inline : Bool) → Command
+  check : (agent : Text) → Command
+  replay : (agent journal : Text) → Command
+  ask : (agent journal condition : Text) → Command
+  demo : (size : ℕ) → Command
+
+-- A file word is not empty and does not begin with `-`.
+abbrev pub is_file_word : Text → Bool
+is_file_word [] = false
+is_file_word (byte ∷ bytes) = not (byte == 45)
+
+abbrev pub is_inline : Text → Bool
+is_inline word = bytes_eq word (codes "--inline")
+
+-- the run of one or two files
+abbrev pub run_of : List Text → Bool → Option Command
+run_of (agent ∷ []) inline = Some (run agent None inline)
+run_of (agent ∷ devices ∷ []) inline = Some (run agent (Some devices) inline)
+run_of files inline = None
+
+-- file words, and `--inline` at most once, in any place among them
+abbrev pub are_run_words : List Text → Bool
+are_run_words words =
+    list_all (λ word. is_inline word || is_file_word word) words && nat_le (count_by is_inline words) 1
+
+-- the words that name files
+abbrev pub files_in : List Text → List Text
+files_in words = filter (λ word. not (is_inline word)) words
+
+-- Behind `run` stand one or two file words, and `--inline` at most once, in any place among them.
+abbrev pub run_in : List Text → Option Command
+run_in words = if are_run_words words then run_of (files_in words) (list_any is_inline words) else None
+
+-- Behind `check` stands one file word.
+abbrev pub check_in : List Text → Option Command
+check_in (agent ∷ []) = if is_file_word agent then Some (check agent) else None
+check_in words = None
+
+-- Behind `replay` stand two file words.
+abbrev pub replay_in : List Text → Option Command
+replay_in (agent ∷ journal ∷ []) =
+    if is_file_word agent && is_file_word journal then Some (replay agent journal) else None
+replay_in words = None
+
+-- Behind `ask` stand two file words and a condition, which is neither empty nor begins with `-`.
+abbrev pub ask_in : List Text → Option Command
+ask_in (agent ∷ journal ∷ condition ∷ []) =
+    if is_file_word agent && is_file_word journal && is_file_word condition
+    then Some (ask agent journal condition)
+    else None
+ask_in words = None
+
+-- digits of which the first is not `0`
+abbrev pub is_positive : Text → Bool
+is_positive [] = false
+is_positive (byte ∷ bytes) = list_all is_digit (byte ∷ bytes) && not (byte == 48)
+
+-- the digits of a number from 1 to 200, without leading zeros
+abbrev pub is_size : Text → Bool
+is_size word = is_positive word && nat_le (digits_value 10 word) 200
+
+-- the number that a size's digits spell
+abbrev pub size_in : Text → Option ℕ
+size_in word = if is_size word then Some (digits_value 10 word) else None
+
+abbrev pub demo_of : Option ℕ → Option Command
+demo_of (Some size) = Some (demo size)
+demo_of None = None
+
+-- Behind `demo` stands a size.
+abbrev pub demo_in : List Text → Option Command
+demo_in (word ∷ []) = demo_of (size_in word)
+demo_in words = None
+
+-- The command that the words spell, if they spell one: the first word says what it does.
+abbrev pub command_in : List Text → Option Command
+command_in [] = None
+command_in (first ∷ words) =
+    if bytes_eq first (codes "run") then run_in words
+    else if bytes_eq first (codes "check") then check_in words
+    else if bytes_eq first (codes "replay") then replay_in words
+    else if bytes_eq first (codes "ask") then ask_in words
+    else if bytes_eq first (codes "demo") then demo_in words
+    else None

@@ -1,0 +1,52 @@
+use thiserror::Error;
+
+/// What the words of a command ask for. Its texts are the words themselves, lent.
+#[derive(Clone, Copy, Debug)]
+pub enum Order<'w> {
+    /// Runs the program of an agent file.
+    Run {
+        /// The agent file's name.
+        agent: &'w str,
+        /// The name of the file with the scripts of its devices, if there is one.
+        devices: Option<&'w str>,
+        /// Whether all runs on one thread.
+        inline: bool,
+    },
+    /// Checks an agent file.
+    Check {
+        /// Its name.
+        agent: &'w str,
+    },
+    /// Tests a journal against an agent file.
+    Replay {
+        /// The agent file's name.
+        agent: &'w str,
+        /// The journal file's name.
+        journal: &'w str,
+    },
+    /// Asks for the truth of a condition after the entries of a journal.
+    Ask {
+        /// The agent file's name.
+        agent: &'w str,
+        /// The journal file's name.
+        journal: &'w str,
+        /// The condition, as it is written.
+        condition: &'w str,
+    },
+    /// Runs the lift with so many levels, 1 to 200.
+    Demo {
+        /// How many levels it has.
+        size: u32,
+    },
+}
+
+/// Why words were not read as an order.
+#[derive(Debug, Drop, Error)]
+pub enum WordsFault {
+    /// They are no command.
+    #[error("words refused")]
+    Refused,
+    /// Memory ran out.
+    #[error("out of memory")]
+    Memory,
+}

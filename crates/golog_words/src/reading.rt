@@ -1,0 +1,108 @@
+ghost use Rattle.std.specs.Prelude.{◌≡◌, Some, IsSome, IfOk, drop, map, string_bytes};
+ghost use Rattle.golog_words.specs.Answers.{Answers, command_of};
+ghost use Rattle.golog_words.specs.Commands.{run_in, check_in, replay_in, ask_in, demo_in, command_in};
+
+use crate::command::is_command;
+use crate::matches::{ask_matches, check_matches, demo_matches, replay_matches, run_matches};
+use crate::order::{Order, WordsFault};
+use crate::size::size_in;
+use golog_base::NoMemory;
+use std::alloc::Global;
+
+/// The order that the words give, without the program's name before them. They are refused exactly where they
+/// are no command, for which no memory is wanted.
+pub fn order_of<'w>(alloc: Global, words: &'w [String]) -> Result<Order<'w>, WordsFault>
+    ensures { Answers result (command_in (map string_bytes words.entry.now)) }
+{
+    if !is_command(words) {
+        return Err(WordsFault::Refused);
+    }
+    match read(alloc, words) {
+        Ok(order) => Ok(order),
+        Err(NoMemory) => Err(WordsFault::Memory),
+    }
+}
+
+// The order of words that are a command.
+fn read<'w>(alloc: Global, words: &'w [String]) -> Result<Order<'w>, NoMemory>
+    requires { IsSome (command_in (map string_bytes words.now)) }
+    ensures { IfOk result (λ order. command_in (map string_bytes words.entry.now) ≡ Some (command_of order)) }
+{
+    let [first, ..] = words else {
+        return Err(NoMemory);
+    };
+    match first.as_str() {
+        "run" => read_run(alloc, words),
+        "check" => read_check(alloc, words),
+        "replay" => read_replay(alloc, words),
+        "ask" => read_ask(alloc, words),
+        "demo" => read_demo(alloc, words),
+        _ => Err(NoMemory),
+    }
+}
+
+fn read_run<'w>(alloc: Global, words: &'w [String]) -> Result<Order<'w>, NoMemory>
+    requires { IsSome (run_in (drop 1 (map string_bytes words.now))) }
+    ensures { IfOk result (λ order. run_in (drop 1 (map string_bytes words.entry.now)) ≡ Some (command_of order)) }
+{
+    let Ok(found) = run_matches(alloc, words) else {
+        return Err(NoMemory);
+    };
+    Ok(Order::Run {
+        agent: found.get_str("agent").unwrap(),
+        devices: found.get_str("devices"),
+        inline: found.get_flag("inline"),
+    })
+}
+
+fn read_check<'w>(alloc: Global, words: &'w [String]) -> Result<Order<'w>, NoMemory>
+    requires { IsSome (check_in (drop 1 (map string_bytes words.now))) }
+    ensures { IfOk result (λ order. check_in (drop 1 (map string_bytes words.entry.now)) ≡ Some (command_of order)) }
+{
+    let Ok(found) = check_matches(alloc, words) else {
+        return Err(NoMemory);
+    };
+    Ok(Order::Check {
+        agent: found.get_str("agent").unwrap(),
+    })
+}
+
+fn read_replay<'w>(alloc: Global, words: &'w [String]) -> Result<Order<'w>, NoMemory>
+    requires { IsSome (replay_in (drop 1 (map string_bytes words.now))) }
+    ensures { IfOk result (λ order. replay_in (drop 1 (map string_bytes words.entry.now)) ≡ Some (command_of order)) }
+{
+    let Ok(found) = replay_matches(alloc, words) else {
+        return Err(NoMemory);
+    };
+    Ok(Order::Replay {
+        agent: found.get_str("agent").unwrap(),
+        journal: found.get_str("journal").unwrap(),
+    })
+}
+
+fn read_ask<'w>(alloc: Global, words: &'w [String]) -> Result<Order<'w>, NoMemory>
+    requires { IsSome (ask_in (drop 1 (map string_bytes words.now))) }
+    ensures { IfOk result (λ order. ask_in (drop 1 (map string_bytes words.entry.now)) ≡ Some (command_of order)) }
+{
+    let Ok(found) = ask_matches(alloc, words) else {
+        return Err(NoMemory);
+    };
+    Ok(Order::Ask {
+        agent: found.get_str("agent").unwrap(),
+        journal: found.get_str("journal").unwrap(),
+        condition: found.get_str("condition").unwrap(),
+    })
+}
+
+fn read_demo<'w>(alloc: Global, words: &'w [String]) -> Result<Order<'w>, NoMemory>
+    requires { IsSome (demo_in (drop 1 (map string_bytes words.now))) }
+    ensures { IfOk result (λ order. demo_in (drop 1 (map string_bytes words.entry.now)) ≡ Some (command_of order)) }
+{
+    let Ok(found) = demo_matches(alloc, words) else {
+        return Err(NoMemory);
+    };
+    let word = found.get_str("size").unwrap();
+    Ok(Order::Demo {
+        size: size_in(word).unwrap(),
+    })
+}
