@@ -1,5 +1,5 @@
 -- What is decided after the entries so far keeps the rules there, and so does what a device posts.
-use Rattle.std.proofs.Common.{◌≡◌, ℕ, true, false, not, ◌&&◌, ◌||◌, List, [], ◌∷◌, ◌++◌, Some, None, inl, inr, refl, sym, ap, ◌∙◌, subst}
+use Rattle.std.proofs.Common.{◌≡◌, ℕ, true, false, not, ◌&&◌, ◌||◌, List, [], ◌∷◌, ◌++◌, Some, inl, inr, refl, sym, ap, ◌∙◌, subst}
 use Rattle.std.specs.Prelude.{nat_lt, nat_le, Contains}
 use Rattle.std.proofs.lemmas.Bool.{and_from, lt-ltb, le-leb, eq-eqb}
 use Rattle.std.proofs.lemmas.List.Elements.{Contains-append_left, Contains-push}
@@ -16,12 +16,13 @@ use Rattle.golog_semantics.specs.declared.journal.Answer.{Answer}
 use Rattle.golog_semantics.specs.declared.journal.Answer.TheVariants as answer
 use Rattle.golog_semantics.specs.Search.{final, nest_limit}
 use Rattle.golog_semantics.specs.Blocks.{moves}
-use Rattle.golog_semantics.specs.Same.{same_label, same_run}
-use Rattle.golog_semantics.specs.Journal.{Journal, count, has_end, is_close, is_settled, limit}
+use Rattle.golog_semantics.specs.Same.{same_label}
+use Rattle.golog_semantics.specs.Heavy.{heavy}
+use Rattle.golog_semantics.specs.Journal.{Journal, count, has_end, is_close, is_full, is_settled, limit}
 use Rattle.golog_semantics.specs.Progress.{values_after, left_after, left_at, left_by}
-use Rattle.golog_semantics.specs.Answer.{answer_after, answer_at}
+use Rattle.golog_semantics.specs.Answer.{answer_after, answer_at, is_unanswered}
 use Rattle.golog_semantics.specs.Reports.{fits_label}
-use Rattle.golog_semantics.specs.Online.{fault_at, is_first, may_end, may_step, run_of, same_answer}
+use Rattle.golog_semantics.specs.Online.{is_first, may_end, may_step, run_of, same_answer}
 use Rattle.golog_semantics.specs.FitLaws.{StepStays}
 use Rattle.golog_semantics.proofs.BlocksFit.{step_stays}
 use Rattle.golog_semantics.proofs.Grown.{progress_grows}
@@ -30,7 +31,7 @@ use Rattle.golog_journal.specs.Boards.{IsBoardList}
 use Rattle.golog_journal.specs.Commits.{IsOfProgram}
 use Rattle.golog_journal.specs.Leading.{is_of_program}
 use Rattle.golog_journal.proofs.Lawful.{lawful-last, lawful-parts}
-use Rattle.golog_agent.specs.Keeping.{IsUnderWay}
+use Rattle.golog_agent.specs.Keeping.{IsUnderWay, KeepsRules, begun_by}
 use Rattle.golog_agent.specs.Planned.{IsNextStep}
 use Rattle.golog_agent.specs.UnderWay.{entry_for}
 use Rattle.golog_agent.specs.Turns.{MayAnswer}
@@ -65,15 +66,12 @@ module _ (agent : Agent) (journal : Journal) where
         (and_from (is_settled agent journal) (not (final agent V Must P)) next.settled (ap not next.not_final)) (lt-ltb (count journal) limit next.room))
         first-so
 
-    run-so : same_run None (run_of agent journal (moves agent V Must P)) ≡ true
-    run-so = ap (λ ms. same_run None (run_of agent journal ms)) next.first ∙ ap (same_run None) next.no_run
-
-    by-label : (l : Label) → m.label ≡ l → has_end journal ≡ false → fault_at agent None [] journal (entry_for l) ≡ None
+    by-label : (l : Label) → m.label ≡ l → has_end journal ≡ false → KeepsRules agent journal (entry_for l)
     by-label (Doing a) e h =
-        no_fault agent journal (Do a) (after-so h (Do a)) refl refl refl (ap (may_step agent journal V P) (sym e) ∙ step-so) run-so refl refl
-    by-label Quiet e h = no_fault agent journal Test (after-so h Test) refl refl refl (ap (may_step agent journal V P) (sym e) ∙ step-so) run-so refl refl
+        no_fault agent journal (Do a) (after-so h (Do a)) refl refl refl (ap (may_step agent journal V P) (sym e) ∙ step-so) refl refl
+    by-label Quiet e h = no_fault agent journal Test (after-so h Test) refl refl refl (ap (may_step agent journal V P) (sym e) ∙ step-so) refl refl
 
-    pub step-online : has_end journal ≡ false → fault_at agent None [] journal (entry_for m.label) ≡ None
+    pub step-online : has_end journal ≡ false → KeepsRules agent journal (entry_for m.label)
     step-online h = by-label m.label refl h
 
     stays : IsUnderWay agent journal → StepStays agent m
@@ -87,6 +85,14 @@ module _ (agent : Agent) (journal : Journal) where
 
     pub step-own : IsUnderWay agent journal → IsOfProgram agent journal 0 (entry_for m.label) (entry_for m.label)
     step-own u = own-label m.label (stays u).label
+
+    run-label : (l : Label) → begun_by agent journal (entry_for l) ≡ m.run
+    run-label (Doing a) = ap (run_of agent journal) next.first
+    run-label Quiet = ap (run_of agent journal) next.first
+
+    -- the run that begins is that of the step
+    pub step-run : m.run ≡ begun_by agent journal (entry_for m.label)
+    step-run = sym (run-label m.label)
 
     left-label : (l : Label) → left_at agent V P (entry_for l) ≡ m.left
     left-label (Doing a) = ap (left_by agent P) next.first
@@ -104,46 +110,58 @@ module _ (agent : Agent) (journal : Journal) where
   may-end : (a : Answer) → MayAnswer agent journal a → may_end agent journal V P a ≡ true
   may-end answer.Memory h = refl
   may-end answer.Fuel (inl e) = absurd (cc)
-  may-end answer.Fuel (inr e) = absurd (never-fuel agent journal e)
+  may-end answer.Fuel (inr (inl f)) =
+      and_from (not (is_full journal) && not (is_unanswered agent journal) && is_settled agent journal) (heavy agent V P)
+      (and_from (not (is_full journal) && not (is_unanswered agent journal)) (is_settled agent journal)
+      (and_from (not (is_full journal)) (not (is_unanswered agent journal)) (ap not f.not_full) (ap not f.answered)) f.settled)
+      f.weighs
+  may-end answer.Fuel (inr (inr e)) = absurd (never-fuel agent journal e)
   may-end answer.Done (inl e) = absurd (cc)
-  may-end answer.Done (inr e) = by-answer answer.Done refl e
+  may-end answer.Done (inr (inl f)) = absurd (let e = f.is in cc)
+  may-end answer.Done (inr (inr e)) = by-answer answer.Done refl e
   may-end answer.Stuck (inl e) = absurd (cc)
-  may-end answer.Stuck (inr e) = by-answer answer.Stuck refl e
+  may-end answer.Stuck (inr (inl f)) = absurd (let e = f.is in cc)
+  may-end answer.Stuck (inr (inr e)) = by-answer answer.Stuck refl e
   may-end answer.Unknown (inl e) = absurd (cc)
-  may-end answer.Unknown (inr e) = by-answer answer.Unknown refl e
+  may-end answer.Unknown (inr (inl f)) = absurd (let e = f.is in cc)
+  may-end answer.Unknown (inr (inr e)) = by-answer answer.Unknown refl e
   may-end answer.Depth (inl e) = absurd (cc)
-  may-end answer.Depth (inr e) = by-answer answer.Depth refl e
+  may-end answer.Depth (inr (inl f)) = absurd (let e = f.is in cc)
+  may-end answer.Depth (inr (inr e)) = by-answer answer.Depth refl e
   may-end answer.Unanswered (inl e) = absurd (cc)
-  may-end answer.Unanswered (inr e) = by-answer answer.Unanswered refl e
+  may-end answer.Unanswered (inr (inl f)) = absurd (let e = f.is in cc)
+  may-end answer.Unanswered (inr (inr e)) = by-answer answer.Unanswered refl e
   may-end answer.Full (inl e) = absurd (cc)
-  may-end answer.Full (inr e) = by-answer answer.Full refl e
+  may-end answer.Full (inr (inl f)) = absurd (let e = f.is in cc)
+  may-end answer.Full (inr (inr e)) = by-answer answer.Full refl e
   may-end answer.Deep (inl e) = absurd (cc)
-  may-end answer.Deep (inr e) = by-answer answer.Deep refl e
+  may-end answer.Deep (inr (inl f)) = absurd (let e = f.is in cc)
+  may-end answer.Deep (inr (inr e)) = by-answer answer.Deep refl e
 
-  pub end-online : (a : Answer) → has_end journal ≡ false → MayAnswer agent journal a → fault_at agent None [] journal (End a) ≡ None
-  end-online a h may = no_fault agent journal (End a) (after-so h (End a)) refl refl refl refl refl (may-end a may) refl
+  pub end-online : (a : Answer) → has_end journal ≡ false → MayAnswer agent journal a → KeepsRules agent journal (End a)
+  end-online a h may = no_fault agent journal (End a) (after-so h (End a)) refl refl refl refl (may-end a may) refl
 
   pub end-left : (a : Answer) → left_after agent (journal ++ End a ∷ []) ≡ left_after agent journal
   end-left a = (progress_grows agent journal (End a)).left
 
   -- ---- what a device posts
 
-  pub device-online : (e : Entry) → is_of_program e ≡ false → IsBoardList agent (journal ++ e ∷ []) → fault_at agent None [] journal e ≡ None
+  pub device-online : (e : Entry) → is_of_program e ≡ false → IsBoardList agent (journal ++ e ∷ []) → KeepsRules agent journal e
   device-online (Do a) h lawful = absurd (cc)
   device-online Test h lawful = absurd (cc)
   device-online (End a) h lawful = absurd (cc)
   device-online (Exo p a) h lawful =
       let l = lawful-parts agent journal (Exo p a) (lawful-last agent journal (Exo p a) lawful) in
-      no_fault agent journal (Exo p a) l.after l.poster l.place l.taken refl refl refl l.close
+      no_fault agent journal (Exo p a) l.after l.poster l.place l.taken refl refl l.close
   device-online (Sense p at f v) h lawful =
       let l = lawful-parts agent journal (Sense p at f v) (lawful-last agent journal (Sense p at f v) lawful) in
-      no_fault agent journal (Sense p at f v) l.after l.poster l.place l.taken refl refl refl l.close
+      no_fault agent journal (Sense p at f v) l.after l.poster l.place l.taken refl refl l.close
   device-online (Rest p t) h lawful =
       let l = lawful-parts agent journal (Rest p t) (lawful-last agent journal (Rest p t) lawful) in
-      no_fault agent journal (Rest p t) l.after l.poster l.place l.taken refl refl refl l.close
+      no_fault agent journal (Rest p t) l.after l.poster l.place l.taken refl refl l.close
   device-online (Close p r t) h lawful =
       let l = lawful-parts agent journal (Close p r t) (lawful-last agent journal (Close p r t) lawful) in
-      no_fault agent journal (Close p r t) l.after l.poster l.place l.taken refl refl refl l.close
+      no_fault agent journal (Close p r t) l.after l.poster l.place l.taken refl refl l.close
 
   pub device-left : (e : Entry) → is_of_program e ≡ false → left_after agent (journal ++ e ∷ []) ≡ left_after agent journal
   device-left (Do a) h = absurd (cc)

@@ -9,13 +9,13 @@ use Rattle.std.proofs.lemmas.List.Elements.{filter-append}
 use Rattle.std.proofs.lemmas.List.Folds.{list_any-append, list_all-append}
 use Rattle.golog_tree.specs.declared.agent.Agent.{Agent}
 use Rattle.golog_semantics.specs.declared.journal.Entry.TheVariants.{End}
-use Rattle.golog_semantics.specs.declared.journal.Answer.TheVariants.{Memory}
+use Rattle.golog_semantics.specs.declared.journal.Answer.{Answer}
 use Rattle.golog_semantics.specs.Journal.{Journal, is_close, is_end, is_open, is_posted_by, has_end, commands, posted}
 use Rattle.golog_semantics.specs.Inline.{Scripted, Stage, turns_from, round, rounds}
 use Rattle.golog_semantics.specs.InlineText.{scripted as begun_script}
 use Rattle.golog_semantics.specs.Dealt.{Script}
 use Rattle.golog_semantics.specs.Online.{IsOnlineSoFar}
-use Rattle.golog_semantics.specs.OneMore.{with_runs}
+use Rattle.golog_semantics.specs.InlineText.{report_of}
 use Rattle.golog_journal.specs.Boards.{IsBoardList}
 use Rattle.golog_journal.specs.Taken.{IsReady}
 use Rattle.golog_device.specs.Dealing.{scripted, DealtIf, DealtNow}
@@ -93,8 +93,8 @@ module _ (agent : Agent) where
       step j a b c before now = by (nat_lt j (length agent.devices)) j a b c before now
 
   -- what stands ends with the end and closings
-  ended-then : (front closings : Journal) → has_end (front ++ End Memory ∷ closings) ≡ true
-  ended-then front closings = list_any-append is_end front (End Memory ∷ closings) ∙ or_right (list_any is_end front) (true || list_any is_end closings) refl
+  ended-then : (front closings : Journal) (a : Answer) → has_end (front ++ End a ∷ closings) ≡ true
+  ended-then front closings a = list_any-append is_end front (End a ∷ closings) ∙ or_right (list_any is_end front) (true || list_any is_end closings) refl
 
   -- one more round
   module _ (start mid new : Moment) (list : IsBoardList agent new.journal) (made : RoundsMade agent start mid) (one : RoundMade agent mid new) where
@@ -108,21 +108,23 @@ module _ (agent : Agent) where
         let again : round agent (record { journal = mid.journal; devices = s.devices }) ≡ rounds agent (k + 1) (begun ds) =
         ap (λ j. round agent (record { journal = j; devices = s.devices })) stage.entries ∙ ap (round agent) (sym is) ∙ sym (one_round_more agent k (begun ds)) in
         inl (subst (IsStage agent new) again next)
-    round-follows s stage k ds is (inr starves) =
+    round-follows s stage k ds is (inr ends) =
         inr (record {
           before = k;
           earlier = omega arith;
           closings = [];
           are_closings = refl;
-          is = starves ∙ ap (λ j. (turns_from agent 0 j s.devices).0 ++ End Memory ∷ []) stage.entries
-              ∙ ap (λ (t : Stage). (turns_from agent 0 t.journal t.devices).0 ++ End Memory ∷ []) (sym is);
+          answer = ends.answer;
+          short = ends.short;
+          is = ends.is ∙ ap (λ j. (turns_from agent 0 j s.devices).0 ++ End ends.answer ∷ []) stage.entries
+              ∙ ap (λ (t : Stage). (turns_from agent 0 t.journal t.devices).0 ++ End ends.answer ∷ []) (sym is);
         })
 
     -- after the end only devices are closed
     still-starved : (k : ℕ) (s : Stage) → Starved agent k s mid.journal → Starved agent (k + 1) s new.journal
     still-starved k s starved =
         let front = (turns_from agent 0 (rounds agent starved.before s).journal (rounds agent starved.before s).devices).0 in
-        let ended : has_end mid.journal ≡ true = ap has_end starved.is ∙ ended-then front starved.closings in
+        let ended : has_end mid.journal ≡ true = ap has_end starved.is ∙ ended-then front starved.closings starved.answer in
         let more = closes_follow agent mid.journal one.since (subst (IsBoardList agent) one.grows list) ended in
         let least = starved.earlier in
         record {
@@ -130,7 +132,9 @@ module _ (agent : Agent) where
           earlier = omega (arith, least);
           closings = starved.closings ++ one.since;
           are_closings = list_all-append is_close starved.closings one.since ∙ and_from _ _ starved.are_closings more;
-          is = one.grows ∙ ap (λ j. j ++ one.since) starved.is ∙ append_assoc front (End Memory ∷ starved.closings) one.since;
+          answer = starved.answer;
+          short = starved.short;
+          is = one.grows ∙ ap (λ j. j ++ one.since) starved.is ∙ append_assoc front (End starved.answer ∷ starved.closings) one.since;
         }
 
     next-are : (ds : List Scripted) → RoundsAre agent made.count (begun ds) mid → RoundsAre agent (made.count + 1) (begun ds) new
@@ -162,7 +166,7 @@ module _ (agent : Agent) where
 
   -- a run that is over
   module _ (start now : Moment) (none_taken : (device : ℕ) → taken_by start.taken device ≡ 0) (list : IsBoardList agent now.journal) (short : length now.journal ≤ 65553)
-      (online : IsOnlineSoFar agent (with_runs [] now.journal)) (over : IsOverAll now.journal (length agent.devices)) (made : RoundsMade agent start now) where
+      (online : IsOnlineSoFar agent (report_of agent now.journal)) (over : IsOverAll now.journal (length agent.devices)) (made : RoundsMade agent start now) where
     ran-slot : (j : ℕ) → j < length agent.devices → (a b : Standing) → StaysDealt agent start now j a b → HasServed agent start.journal now.journal j a b
     ran-slot j below a b stays = record {
       dealt = λ script far.
@@ -222,7 +226,7 @@ module _ (agent : Agent) where
         let few = few-rounds in
         let least = starved.earlier in
         let s = rounds agent starved.before (record { journal = start.journal; devices = map begun_script scripts }) in
-        follows_starved_at agent scripts start.journal now.journal starved.before s refl (omega (arith, few, least)) starved.closings starved.are_closings starved.is
+        follows_starved_at agent scripts start.journal now.journal starved.before s refl (omega (arith, few, least)) starved.closings starved.answer starved.are_closings starved.short starved.is
 
     pub runs-to-end : RunsToEnd agent start.journal now.journal start.standings now.standings
     runs-to-end = record {

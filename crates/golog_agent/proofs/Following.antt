@@ -5,12 +5,13 @@ use Rattle.std.specs.List.{list_all}
 use Rattle.std.proofs.lemmas.List.{length-map}
 use Rattle.golog_tree.specs.declared.agent.Agent.{Agent}
 use Rattle.golog_semantics.specs.declared.journal.Entry.TheVariants.{End}
-use Rattle.golog_semantics.specs.declared.journal.Answer.TheVariants.{Memory}
+use Rattle.golog_semantics.specs.declared.journal.Answer.{Answer}
 use Rattle.golog_semantics.specs.Journal.{Journal, is_close}
 use Rattle.golog_semantics.specs.Dealt.{Script}
 use Rattle.golog_semantics.specs.Inline.{Stage, rounds, turns_from}
 use Rattle.golog_semantics.specs.InlineText.{scripted}
 use Rattle.golog_agent.specs.Rounds.{FollowsRounds}
+use Rattle.golog_agent.specs.Short.{IsShort}
 use Rattle.golog_agent.proofs.Adding.{Adds, more_rounds, rounds_keep, turns_then_add}
 use Rattle.golog_agent.proofs.Over.{IsOverAll, over_rests}
 
@@ -20,8 +21,8 @@ module _ (agent : Agent) where
   FollowsSo n begun new =
       let whole = (rounds agent n begun).journal in
       (new ≡ whole)
-      ⊎ ((before later closings : Journal) × (whole ≡ before ++ later) × IsTrue (list_all is_close closings)
-      × (new ≡ before ++ End Memory ∷ closings))
+      ⊎ ((before later closings : Journal) × (answer : Answer) × IsShort answer × (whole ≡ before ++ later)
+      × IsTrue (list_all is_close closings) × (new ≡ before ++ End answer ∷ closings))
 
   -- what is over after some rounds stays so
   rounds-rest : (k n : ℕ) (begun s : Stage) → rounds agent k begun ≡ s → k ≤ n → IsOverAll s.journal (length begun.devices) → rounds agent n begun ≡ s
@@ -43,11 +44,11 @@ module _ (agent : Agent) where
             ∙ more.1,
       )
 
-  starved-so : (k n : ℕ) (begun s : Stage) (new closings : Journal) → rounds agent k begun ≡ s → k < n → list_all is_close closings ≡ true
-      → new ≡ (turns_from agent 0 s.journal s.devices).0 ++ End Memory ∷ closings → FollowsSo n begun new
-  starved-so k n begun s new closings is within closes same =
+  starved-so : (k n : ℕ) (begun s : Stage) (new closings : Journal) (answer : Answer) → rounds agent k begun ≡ s → k < n → list_all is_close closings ≡ true
+      → IsShort answer → new ≡ (turns_from agent 0 s.journal s.devices).0 ++ End answer ∷ closings → FollowsSo n begun new
+  starved-so k n begun s new closings answer is within closes short same =
       let more = turns-first k n begun s is within in
-      inr ((turns_from agent 0 s.journal s.devices).0, more.0, closings, more.1, closes, same)
+      inr ((turns_from agent 0 s.journal s.devices).0, more.0, closings, answer, short, more.1, closes, same)
 
 module _ (agent : Agent) (scripts : List Script) (old new : Journal) where
   -- the stage at which the run begins
@@ -58,13 +59,13 @@ module _ (agent : Agent) (scripts : List Script) (old new : Journal) where
   follows_whole_at k s is within over same =
       whole-so agent k 200000 begun s new is within (subst (IsOverAll s.journal) (sym (length-map scripts scripted)) over) same
 
-  pub follows_starved_at : (k : ℕ) (s : Stage) → rounds agent k begun ≡ s → k < 200000 → (closings : Journal) → list_all is_close closings ≡ true
-      → new ≡ (turns_from agent 0 s.journal s.devices).0 ++ End Memory ∷ closings → FollowsRounds agent scripts old new
-  follows_starved_at k s is within closings closes same = starved-so agent k 200000 begun s new closings is within closes same
+  pub follows_starved_at : (k : ℕ) (s : Stage) → rounds agent k begun ≡ s → k < 200000 → (closings : Journal) (answer : Answer) → list_all is_close closings ≡ true → IsShort answer
+      → new ≡ (turns_from agent 0 s.journal s.devices).0 ++ End answer ∷ closings → FollowsRounds agent scripts old new
+  follows_starved_at k s is within closings answer closes short same = starved-so agent k 200000 begun s new closings answer is within closes short same
 
   pub follows_whole : (k : ℕ) → k ≤ 200000 → IsOverAll (rounds agent k begun).journal (length scripts) → new ≡ (rounds agent k begun).journal → FollowsRounds agent scripts old new
   follows_whole k within over same = follows_whole_at k (rounds agent k begun) refl within over same
 
-  pub follows_starved : (k : ℕ) → k < 200000 → (closings : Journal) → list_all is_close closings ≡ true
-      → new ≡ (turns_from agent 0 (rounds agent k begun).journal (rounds agent k begun).devices).0 ++ End Memory ∷ closings → FollowsRounds agent scripts old new
-  follows_starved k within closings closes same = follows_starved_at k (rounds agent k begun) refl within closings closes same
+  pub follows_starved : (k : ℕ) → k < 200000 → (closings : Journal) (answer : Answer) → list_all is_close closings ≡ true → IsShort answer
+      → new ≡ (turns_from agent 0 (rounds agent k begun).journal (rounds agent k begun).devices).0 ++ End answer ∷ closings → FollowsRounds agent scripts old new
+  follows_starved k within closings answer closes short same = follows_starved_at k (rounds agent k begun) refl within closings answer closes short same

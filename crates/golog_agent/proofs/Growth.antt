@@ -1,6 +1,6 @@
 -- What a runner keeps, with one more entry.
 use Rattle.std.proofs.Common.{◌≡◌, ℕ, ◌<◌, Bool, true, false, not, ◌&&◌, ◌||◌, List, [], ◌∷◌, ◌++◌, length, Option, Some, None, refl, sym, ap, ◌∙◌, subst, arith}
-use Rattle.std.specs.Prelude.{slice_get, option_and_then, unwrap_or, nat_lt}
+use Rattle.std.specs.Prelude.{IsSome, slice_get, option_and_then, unwrap_or, nat_lt}
 use Rattle.std.specs.List.{list_any}
 use Rattle.std.specs.Option.{option_map_or}
 use Rattle.std.proofs.lemmas.Bool.{and_parts}
@@ -9,34 +9,38 @@ use Rattle.std.proofs.lemmas.List.Elements.{Contains-push, Contains-append_left}
 use Rattle.golog_tree.specs.declared.agent.Agent.{Agent}
 use Rattle.golog_tree.specs.declared.agent.ActionItem.{ActionItem}
 use Rattle.golog_tree.specs.declared.prog.Prog.{Prog}
+use Rattle.golog_tree.specs.declared.prog.Label.{Label}
 use Rattle.golog_tree.specs.declared.prog.Label.TheVariants.{Do as Doing}
 use Rattle.golog_tree.specs.Ground.{Ground, ground_actions}
 use Rattle.golog_semantics.specs.declared.journal.Entry.{Entry}
 use Rattle.golog_semantics.specs.declared.journal.Entry.TheVariants.{Do, Test, Exo, Sense, Rest, Close, End}
 use Rattle.golog_semantics.specs.declared.journal.Answer.{Answer}
+use Rattle.golog_semantics.specs.declared.journal.PlacedRun.{PlacedRun}
 use Rattle.golog_semantics.specs.declared.Mode.TheVariants.{Must}
 use Rattle.golog_semantics.specs.Search.{final}
 use Rattle.golog_semantics.specs.Ways.{is_empty}
 use Rattle.golog_semantics.specs.Journal.{Journal, action_item, commands, count, has_end, is_end, is_settled, limit}
 use Rattle.golog_semantics.specs.Progress.{after_entry, values_after, left_after}
-use Rattle.golog_semantics.specs.BlockFree.{has_block}
 use Rattle.golog_semantics.specs.WellFormed.{WellFormed}
-use Rattle.golog_semantics.specs.Online.{IsOnlineSoFar, fault_at, first_fault, is_first, is_result, keeps_step}
+use Rattle.golog_semantics.specs.Online.{IsOnlineSoFar, first_fault, is_first, is_result, keeps_step}
 use Rattle.golog_semantics.specs.OneMore.{and_then, with_runs}
+use Rattle.golog_semantics.specs.InlineText.{begun_runs, placed, report_of}
 use Rattle.golog_semantics.specs.Reports.{fits_entry, is_device, is_exogenous, is_value}
 use Rattle.golog_semantics.specs.SortLaws.{AreInSorts}
 use Rattle.golog_semantics.specs.Blocks.{moves}
-use Rattle.golog_semantics.proofs.Grown.{entries_grow, progress_grows, report_grows}
+use Rattle.golog_semantics.proofs.Grown.{entries_grow, progress_grows}
 use Rattle.golog_semantics.proofs.NoFaults.{so_far-no-fault}
 use Rattle.golog_semantics.proofs.OnlineSorts.{online_stays}
 use Rattle.golog_progress.specs.Entries.{EntryFits, EntriesFit}
 use Rattle.golog_journal.specs.Boards.{IsBoardList}
 use Rattle.golog_journal.proofs.Lawful.{lawful-last, lawful-parts}
 use Rattle.golog_journal.proofs.Serving.{well_formed_serves}
-use Rattle.golog_agent.specs.Keeping.{EndsBy, IsUnderWay, KeepsUp, awaited_by, ended_by}
+use Rattle.golog_agent.specs.Keeping.{EndsBy, IsUnderWay, KeepsRules, KeepsUp, awaited_by, begun_by, ended_by}
+use Rattle.golog_agent.specs.Run.{is_step_entry}
 use Rattle.golog_agent.specs.Turns.{Course}
 use Rattle.golog_agent.proofs.Awaiting.{awaits-after}
 use Rattle.golog_agent.proofs.Kept.{keeps_its_step}
+use Rattle.golog_agent.proofs.BegunRuns.{begun-push, begun-steps, few-runs, online-grows}
 
 module _ (agent : Agent) (journal : Journal) where
   -- ---- an entry of the agent
@@ -62,7 +66,7 @@ module _ (agent : Agent) (journal : Journal) where
   entries-fit e lawful = (entry-of-agent e (lawful-parts agent journal e (lawful-last agent journal e lawful)).of_agent, tt)
 
   pub sorted : (values : List ℕ) → values ≡ values_after agent journal → IsUnderWay agent journal → AreInSorts agent values
-  sorted values is u = subst (AreInSorts agent) (sym is) (online_stays agent u.formed (with_runs [] journal) u.online)
+  sorted values is u = subst (AreInSorts agent) (sym is) (online_stays agent u.formed (report_of agent journal) u.online)
 
   -- ---- the end
 
@@ -91,17 +95,17 @@ module _ (agent : Agent) (journal : Journal) where
       let three = and_parts (is_settled agent journal && not (final agent values Must p)) (nat_lt (count journal) limit) four.0 in
       (and_parts (is_settled agent journal) (not (final agent values Must p)) three.0).0
 
-  pub keeps-up : (e : Entry) (values : List ℕ) (left after : Prog) (awaited : Option ℕ) (ended : Option Answer) → KeepsUp agent journal values left awaited ended
-      → IsBoardList agent (journal ++ e ∷ []) → fault_at agent None [] journal e ≡ None → left_after agent (journal ++ e ∷ []) ≡ after
+  pub keeps-up : (e : Entry) (values : List ℕ) (left after : Prog) (awaited : Option ℕ) (ended : Option Answer) (runs : List PlacedRun) → KeepsUp agent journal values left awaited ended runs
+      → IsBoardList agent (journal ++ e ∷ []) → KeepsRules agent journal e → left_after agent (journal ++ e ∷ []) ≡ after
       → KeepsUp agent (journal ++ e ∷ []) (after_entry agent values e) after (awaited_by agent awaited e) (ended_by ended e)
-  keeps-up e values left after awaited ended k lawful h is =
+      (runs ++ placed (length journal) (begun_by agent journal e))
+  keeps-up e values left after awaited ended runs k lawful h is =
       let u = k.under_way in
       record {
         under_way = record {
           formed = u.formed;
-          blockless = u.blockless;
           lawful = lawful;
-          online = (report_grows agent journal e []).online u.online h;
+          online = online-grows agent journal e u.online h;
         };
         values_so = ap (λ vs. after_entry agent vs e) k.values_so ∙ sym (progress_grows agent journal e).values;
         left_so = sym is;
@@ -110,17 +114,19 @@ module _ (agent : Agent) (journal : Journal) where
             (λ action same. settled-step (values_after agent journal) (left_after agent journal) action
             (subst (λ x. keeps_step agent journal (values_after agent journal) (left_after agent journal) x ≡ true) same (keeps_its_step agent journal e h))) k.awaits;
         ends = ends-after ended e k.ends;
+        runs_so = ap (λ rs. rs ++ placed (length journal) (begun_by agent journal e)) k.runs_so ∙ sym (begun-push agent journal e);
       }
 
 -- the same of equal values
-pub kept-as : (agent : Agent) (j k : Journal) (v w : List ℕ) (p q : Prog) (a b : Option ℕ) (e f : Option Answer) → k ≡ j → w ≡ v → q ≡ p → b ≡ a → f ≡ e
-    → KeepsUp agent j v p a e → KeepsUp agent k w q b f
-kept-as agent j k v w p q a b e f kj wv qp ba fe h =
-    subst (λ x. KeepsUp agent x w q b f) (sym kj)
-    (subst (λ x. KeepsUp agent j x q b f) (sym wv)
-    (subst (λ x. KeepsUp agent j v x b f) (sym qp)
-    (subst (λ x. KeepsUp agent j v p x f) (sym ba)
-    (subst (λ x. KeepsUp agent j v p a x) (sym fe) h))))
+pub kept-as : (agent : Agent) (j k : Journal) (v w : List ℕ) (p q : Prog) (a b : Option ℕ) (e f : Option Answer) (r s : List PlacedRun) → k ≡ j → w ≡ v → q ≡ p → b ≡ a → f ≡ e → s ≡ r
+    → KeepsUp agent j v p a e r → KeepsUp agent k w q b f s
+kept-as agent j k v w p q a b e f r s kj wv qp ba fe sr h =
+    subst (λ x. KeepsUp agent x w q b f s) (sym kj)
+    (subst (λ x. KeepsUp agent j x q b f s) (sym wv)
+    (subst (λ x. KeepsUp agent j v x b f s) (sym qp)
+    (subst (λ x. KeepsUp agent j v p x f s) (sym ba)
+    (subst (λ x. KeepsUp agent j v p a x s) (sym fe)
+    (subst (λ x. KeepsUp agent j v p a e x) (sym sr) h)))))
 
 -- as contracts see it
 abbrev pub seen_as : Agent → Journal → Course
@@ -130,34 +136,59 @@ pub lawful-inside : (agent : Agent) (list : Journal) (value : Course) (e : Entry
 lawful-inside agent list value e is lawful = subst (λ (v : Course). IsBoardList v.agent (v.list ++ e ∷ [])) (sym is) lawful
 
 -- all that a runner keeps, after one more entry
-pub kept-then : (agent : Agent) (list after : Journal) (value : Course) (e : Entry) (state rolled : List ℕ) (left new : Prog) (given : Option Prog) (awaited next : Option ℕ) (ended last : Option Answer)
-    → seen_as agent list ≡ value → KeepsUp agent list state left awaited ended → IsBoardList value.agent (value.list ++ e ∷ [])
-    → fault_at value.agent None [] value.list e ≡ None → left_after value.agent (value.list ++ e ∷ []) ≡ unwrap_or given (left_after value.agent value.list)
+pub kept-then : (agent : Agent) (list after : Journal) (value : Course) (e : Entry) (state rolled : List ℕ) (left new : Prog) (given : Option Prog) (awaited next : Option ℕ) (ended last : Option Answer) (runs more : List PlacedRun)
+    → seen_as agent list ≡ value → KeepsUp agent list state left awaited ended runs → IsBoardList value.agent (value.list ++ e ∷ [])
+    → KeepsRules value.agent value.list e → left_after value.agent (value.list ++ e ∷ []) ≡ unwrap_or given (left_after value.agent value.list)
     → after ≡ list ++ e ∷ [] → rolled ≡ after_entry agent state e → new ≡ unwrap_or given left → next ≡ awaited_by agent awaited e → last ≡ ended_by ended e
-    → KeepsUp agent after rolled new next last
-kept-then agent list after value e state rolled left new given awaited next ended last is k lawful online goes la ra na aa ea =
-    kept-as agent (list ++ e ∷ []) after (after_entry agent state e) rolled (unwrap_or given left) new (awaited_by agent awaited e) next (ended_by ended e) last la ra na aa ea
-    (keeps-up agent list e state left (unwrap_or given left) awaited ended k (lawful-inside agent list value e is lawful)
-    (subst (λ (v : Course). fault_at v.agent None [] v.list e ≡ None) (sym is) online)
+    → more ≡ runs ++ placed (length list) (begun_by agent list e)
+    → KeepsUp agent after rolled new next last more
+kept-then agent list after value e state rolled left new given awaited next ended last runs more is k lawful online goes la ra na aa ea ma =
+    kept-as agent (list ++ e ∷ []) after (after_entry agent state e) rolled (unwrap_or given left) new (awaited_by agent awaited e) next (ended_by ended e) last
+    (runs ++ placed (length list) (begun_by agent list e)) more la ra na aa ea ma
+    (keeps-up agent list e state left (unwrap_or given left) awaited ended runs k (lawful-inside agent list value e is lawful)
+    (subst (λ (v : Course). KeepsRules v.agent v.list e) (sym is) online)
     (subst (λ (v : Course). left_after v.agent (v.list ++ e ∷ []) ≡ unwrap_or given (left_after v.agent v.list)) (sym is) goes ∙ ap (unwrap_or given) (sym k.left_so)))
+
+-- there is room for the run that begins
+pub run-room : (agent : Agent) (list : Journal) (value : Course) (e : Entry) (runs : List PlacedRun) (run : Option (List Label)) → seen_as agent list ≡ value
+    → runs ≡ begun_runs agent list → (is_step_entry e ≡ true → count value.list < limit) → run ≡ begun_by value.agent value.list e
+    → IsSome run → length runs < limit
+run-room agent list value e runs run is runs_so room begins some =
+    let few = few-runs agent list in
+    let many : length runs ≡ length (begun_runs agent list) = ap (λ rs. length rs) runs_so in
+    let below : count list < limit =
+    subst (λ (v : Course). count v.list < limit) (sym is) (room (begun-steps value.agent value.list e (subst IsSome begins some))) in
+    omega (arith, few, many, below)
+
+-- ---- the report
+
+module _ (agent : Agent) (list : Journal) (value : Course) (values : List ℕ) (left : Prog) (awaited : Option ℕ) (ended : Option Answer) (runs : List PlacedRun)
+    (is : seen_as agent list ≡ value) (k : KeepsUp agent list values left awaited ended runs) (es : Journal) (rs : List PlacedRun) (same : es ≡ list) (kept : rs ≡ runs) where
+  pub reported : with_runs rs es ≡ report_of value.agent value.list
+  reported = ap (with_runs rs) same ∙ ap (λ r. with_runs r list) (kept ∙ k.runs_so) ∙ ap (λ (v : Course). report_of v.agent v.list) is
+
+  pub reported-online : IsOnlineSoFar value.agent (with_runs rs es)
+  reported-online =
+      subst (IsOnlineSoFar value.agent) (sym reported) (subst (λ (v : Course). IsOnlineSoFar v.agent (report_of v.agent v.list)) is k.under_way.online)
 
 -- ---- before any entry
 
 first-rules : (agent : Agent) → IsBoardList agent []
 first-rules agent = record { lawful = refl; room = omega arith }
 
-first-online : (agent : Agent) → IsOnlineSoFar agent (with_runs [] [])
+first-online : (agent : Agent) → IsOnlineSoFar agent (report_of agent [])
 unfolding first_fault
-first-online agent = so_far-no-fault agent (with_runs [] []) refl
+first-online agent = so_far-no-fault agent (report_of agent []) refl
 
-pub kept-first : (agent : Agent) (list : Journal) (values : List ℕ) (left : Prog) → WellFormed agent → not (has_block agent agent.main) ≡ true
-    → list ≡ [] → values ≡ values_after agent [] → left ≡ agent.main → KeepsUp agent list values left None None
-kept-first agent list values left formed blockless empty v l =
-    kept-as agent [] list (values_after agent []) values agent.main left None None None None empty v l refl refl
+pub kept-first : (agent : Agent) (list : Journal) (values : List ℕ) (left : Prog) (runs : List PlacedRun) → WellFormed agent
+    → list ≡ [] → values ≡ values_after agent [] → left ≡ agent.main → runs ≡ [] → KeepsUp agent list values left None None runs
+kept-first agent list values left runs formed empty v l r =
+    kept-as agent [] list (values_after agent []) values agent.main left None None None None [] runs empty v l refl refl r
     (record {
-      under_way = record { formed = formed; blockless = blockless; lawful = first-rules agent; online = first-online agent };
+      under_way = record { formed = formed; lawful = first-rules agent; online = first-online agent };
       values_so = refl;
       left_so = refl;
       awaits = λ d. refl;
       ends = refl;
+      runs_so = refl;
     })

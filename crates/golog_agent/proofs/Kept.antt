@@ -1,5 +1,5 @@
 -- The rules of an entry that keeps them all.
-use Rattle.std.proofs.Common.{◌≡◌, ℕ, Bool, true, false, not, ◌&&◌, ◌||◌, List, [], ◌∷◌, length, None, refl, sym, ap, ◌∙◌}
+use Rattle.std.proofs.Common.{◌≡◌, ℕ, Bool, true, false, not, ◌&&◌, ◌||◌, List, [], ◌∷◌, ◌++◌, length, None, refl, sym, ap, ◌∙◌}
 use Rattle.std.specs.Prelude.{is_none, nat_lt}
 use Rattle.std.proofs.lemmas.Bool.{and_parts}
 use Rattle.golog_tree.specs.declared.agent.Agent.{Agent}
@@ -8,6 +8,7 @@ use Rattle.golog_tree.specs.declared.prog.Label.TheVariants.{Quiet, Do as Doing}
 use Rattle.golog_semantics.specs.declared.Mode.TheVariants.{Must}
 use Rattle.golog_semantics.specs.declared.search.Move.{Move}
 use Rattle.golog_semantics.specs.declared.journal.Entry.TheVariants.{Do, Test, Exo, Sense, Rest, Close, End}
+use Rattle.golog_semantics.specs.declared.journal.PlacedRun.{PlacedRun}
 use Rattle.golog_semantics.specs.declared.journal.Why.{Why}
 use Rattle.golog_semantics.specs.Ways.{is_empty}
 use Rattle.golog_semantics.specs.Search.{final}
@@ -17,10 +18,13 @@ use Rattle.golog_semantics.specs.declared.journal.Entry.{Entry}
 use Rattle.golog_semantics.specs.declared.journal.Why.TheVariants as why
 use Rattle.golog_semantics.specs.Journal.{Journal, count, has_end, is_close, is_quiet, is_settled, limit}
 use Rattle.golog_semantics.specs.Progress.{values_after, left_after}
+use Rattle.golog_semantics.specs.InlineText.{begun_runs}
 use Rattle.golog_semantics.specs.Text.{run_at}
-use Rattle.golog_semantics.specs.Online.{fault_among, fault_at, is_first, may_step, keeps_after, keeps_poster, keeps_place, keeps_taken, keeps_step, keeps_run, keeps_answer, keeps_close, keeps_text}
+use Rattle.golog_semantics.specs.Online.{fault_among, is_first, may_step, keeps_after, keeps_poster, keeps_place, keeps_taken, keeps_step, keeps_run, keeps_answer, keeps_close, keeps_text}
+use Rattle.golog_agent.specs.Keeping.{KeepsRules}
 use Rattle.golog_agent.specs.Run.{is_step_entry}
 use Rattle.golog_agent.specs.Waiting.{has_no_step, waits}
+use Rattle.golog_agent.proofs.BegunRuns.{run-kept}
 
 -- none fails exactly where each is kept
 pub all_kept : (n : ℕ) (a b c d e f g h i : Bool) → a ≡ true → b ≡ true → c ≡ true → d ≡ true → e ≡ true → f ≡ true → g ≡ true → h ≡ true → i ≡ true
@@ -38,35 +42,37 @@ step_kept n true false c d e f g h i k = absurd (cc)
 step_kept n false b c d e f g h i k = absurd (cc)
 
 module _ (agent : Agent) (journal : Journal) (e : Entry) where
-  pub keeps_its_step : fault_at agent None [] journal e ≡ None → keeps_step agent journal (values_after agent journal) (left_after agent journal) e ≡ true
+  abbrev runs : List PlacedRun
+  runs = begun_runs agent (journal ++ e ∷ [])
+
+  pub keeps_its_step : KeepsRules agent journal e → keeps_step agent journal (values_after agent journal) (left_after agent journal) e ≡ true
   keeps_its_step h =
       step_kept (length journal) (keeps_after agent journal e) (keeps_poster agent journal e) (keeps_place agent journal e) (keeps_taken agent journal e)
       (keeps_step agent journal (values_after agent journal) (left_after agent journal) e)
-      (keeps_run agent journal (run_at [] (length journal)) (values_after agent journal) (left_after agent journal) e)
-      (keeps_answer agent journal (values_after agent journal) (left_after agent journal) e) (keeps_close agent journal e) (keeps_text agent journal [] None e) h
+      (keeps_run agent journal (run_at runs (length journal)) (values_after agent journal) (left_after agent journal) e)
+      (keeps_answer agent journal (values_after agent journal) (left_after agent journal) e) (keeps_close agent journal e) (keeps_text agent journal runs None e) h
 
   pub no_fault : keeps_after agent journal e ≡ true → keeps_poster agent journal e ≡ true → keeps_place agent journal e ≡ true → keeps_taken agent journal e ≡ true
       → keeps_step agent journal (values_after agent journal) (left_after agent journal) e ≡ true
-      → keeps_run agent journal (run_at [] (length journal)) (values_after agent journal) (left_after agent journal) e ≡ true
       → keeps_answer agent journal (values_after agent journal) (left_after agent journal) e ≡ true → keeps_close agent journal e ≡ true
-      → fault_at agent None [] journal e ≡ None
-  no_fault a b c d s r n k = all_kept (length journal) _ _ _ _ _ _ _ _ true a b c d s r n k refl
+      → KeepsRules agent journal e
+  no_fault a b c d s n k = all_kept (length journal) _ _ _ _ _ _ _ _ true a b c d s (run-kept agent journal e) n k refl
 
   after_of : (n : ℕ) (a : Bool) (rules : List (Why × Bool)) → fault_among n ((why.After, a) ∷ rules) ≡ None → a ≡ true
   after_of n true rules k = refl
   after_of n false rules k = absurd (cc)
 
-  keeps_its_after : fault_at agent None [] journal e ≡ None → keeps_after agent journal e ≡ true
+  keeps_its_after : KeepsRules agent journal e → keeps_after agent journal e ≡ true
   keeps_its_after h =
       after_of (length journal) (keeps_after agent journal e)
       ((why.Poster, keeps_poster agent journal e)
       ∷ (why.Place, keeps_place agent journal e)
       ∷ (why.Taken, keeps_taken agent journal e)
       ∷ (why.Step, keeps_step agent journal (values_after agent journal) (left_after agent journal) e)
-      ∷ (why.Run, keeps_run agent journal (run_at [] (length journal)) (values_after agent journal) (left_after agent journal) e)
+      ∷ (why.Run, keeps_run agent journal (run_at runs (length journal)) (values_after agent journal) (left_after agent journal) e)
       ∷ (why.Answer, keeps_answer agent journal (values_after agent journal) (left_after agent journal) e)
       ∷ (why.Close, keeps_close agent journal e)
-      ∷ (why.Text, keeps_text agent journal [] None e)
+      ∷ (why.Text, keeps_text agent journal runs None e)
       ∷ []) h
 
   not_or : (b : Bool) → (not b || false) ≡ true → b ≡ false
@@ -89,7 +95,7 @@ module _ (agent : Agent) (journal : Journal) (e : Entry) where
       go (m ∷ ms) e k = absurd (cc)
 
   -- a program that takes a step does not wait there, and has not ended
-  pub stepping-ends-waits : is_step_entry e ≡ true → fault_at agent None [] journal e ≡ None → waits agent journal ≡ true → ⊥
+  pub stepping-ends-waits : is_step_entry e ≡ true → KeepsRules agent journal e → waits agent journal ≡ true → ⊥
   stepping-ends-waits is h w = by_entry e is (keeps_its_step h)
     where
       by_entry : (x : Entry) → is_step_entry x ≡ true → keeps_step agent journal (values_after agent journal) (left_after agent journal) x ≡ true → ⊥
@@ -101,7 +107,7 @@ module _ (agent : Agent) (journal : Journal) (e : Entry) where
       by_entry (Close p r t) is k = absurd (cc)
       by_entry (End a) is k = absurd (cc)
 
-  pub step-unended : is_step_entry e ≡ true → fault_at agent None [] journal e ≡ None → has_end journal ≡ false
+  pub step-unended : is_step_entry e ≡ true → KeepsRules agent journal e → has_end journal ≡ false
   step-unended is h = by_entry e is (keeps_its_after h)
     where
       by_entry : (x : Entry) → is_step_entry x ≡ true → (not (has_end journal) || is_close x) ≡ true → has_end journal ≡ false

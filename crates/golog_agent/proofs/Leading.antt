@@ -24,17 +24,19 @@ use Rattle.golog_semantics.specs.Journal.{Journal, count, devices, has_end, is_f
 use Rattle.golog_semantics.specs.Progress.{values_after, left_after}
 use Rattle.golog_semantics.specs.Answer.{answer_after, first_that_fits, is_deep, is_unanswered}
 use Rattle.golog_semantics.specs.Inline.{entry_for, lead, step_by}
-use Rattle.golog_semantics.specs.Online.{IsOnlineSoFar, fault_at, is_first, keeps_step, may_step}
-use Rattle.golog_semantics.specs.OneMore.{with_runs}
-use Rattle.golog_semantics.proofs.Grown.{report_grows}
+use Rattle.golog_semantics.specs.Online.{IsOnlineSoFar, is_first, keeps_step, may_step}
+use Rattle.golog_semantics.specs.InlineText.{report_of}
 use Rattle.golog_journal.specs.Growing.{Sight}
 use Rattle.golog_agent.specs.declared.runner.Stepped.{Stepped}
 use Rattle.golog_agent.specs.declared.runner.Stepped.TheVariants.{Step, Waiting, Ended}
 use Rattle.golog_agent.specs.Leading.{AddsOneAlone, LeadsAlone}
+use Rattle.golog_agent.specs.Keeping.{KeepsRules}
 use Rattle.golog_agent.specs.Run.{is_step_entry}
+use Rattle.golog_agent.specs.Short.{EndsShort}
 use Rattle.golog_agent.specs.Waiting.{has_no_step, waits}
 use Rattle.golog_agent.specs.Turns.{CommitsEnd, CommitsStep, EndStood, Follows, MayAnswer, StillWaits, TurnIs}
 use Rattle.golog_agent.proofs.Kept.{keeps_its_step, step-unended}
+use Rattle.golog_agent.proofs.BegunRuns.{keeps-rules}
 use Rattle.golog_agent.proofs.Turning.{alone-grows}
 
 -- ---- the answer where a step may be taken
@@ -155,7 +157,7 @@ module _ (agent : Agent) (journal : Journal) where
   step-kept (End a) is goes h = absurd (cc)
 
   -- a step that keeps the rules is the one that is taken
-  step-leads : (e : Entry) → is_step_entry e ≡ true → fault_at agent None [] journal e ≡ None → lead agent journal ≡ journal ++ e ∷ []
+  step-leads : (e : Entry) → is_step_entry e ≡ true → KeepsRules agent journal e → lead agent journal ≡ journal ++ e ∷ []
   step-leads e is h = step-kept e is (step-unended agent journal e is h) (keeps_its_step agent journal e h)
 
   none-so : (o : Option Answer) → is_none o ≡ true → o ≡ None
@@ -192,15 +194,16 @@ module _ (old new : Sight) (alone : old.alone ≡ true) where
       (subst (λ seen. MayAnswer old.agent seen a) (ap (λ xs. old.seen ++ xs) none ∙ append-nil old.seen) may)
 
   by-end : (agent : Agent) (a : Answer) → has_end old.seen ≡ false → MayAnswer agent old.seen a → new.seen ≡ old.seen ++ End a ∷ []
-      → (new.seen ≡ lead agent old.seen) ⊎ (new.seen ≡ old.seen ++ End answer.Memory ∷ [])
-  by-end agent a goes (inl is) e = inr (e ∙ ap (λ b. old.seen ++ End b ∷ []) is)
-  by-end agent a goes (inr is) e = inl (e ∙ sym (lead-goes agent old.seen (Some a) goes is))
+      → (new.seen ≡ lead agent old.seen) ⊎ EndsShort old.seen new.seen
+  by-end agent a goes (inl is) e = inr (record { answer = a; short = inl is; is = e })
+  by-end agent a goes (inr (inl lacks)) e = inr (record { answer = a; short = inr lacks.is; is = e })
+  by-end agent a goes (inr (inr is)) e = inl (e ∙ sym (lead-goes agent old.seen (Some a) goes is))
 
   module _ (agent : Agent) (same : agent ≡ old.agent) where
-    by-step : CommitsStep old new → IsOnlineSoFar agent (with_runs [] new.seen) → new.seen ≡ lead agent old.seen
+    by-step : CommitsStep old new → IsOnlineSoFar agent (report_of agent new.seen) → new.seen ≡ lead agent old.seen
     by-step t online =
         let one = alone-grows old new (t.entry ∷ []) t.follows alone in
-        one ∙ sym (step-leads agent old.seen t.entry t.is_step ((report_grows agent old.seen t.entry []).keeps_rules (subst (λ seen. IsOnlineSoFar agent (with_runs [] seen)) one online)))
+        one ∙ sym (step-leads agent old.seen t.entry t.is_step (keeps-rules agent old.seen t.entry (subst (λ seen. IsOnlineSoFar agent (report_of agent seen)) one online)))
 
     by-waiting : StillWaits old new → new.seen ≡ lead agent old.seen
     by-waiting t =
@@ -208,13 +211,13 @@ module _ (old new : Sight) (alone : old.alone ≡ true) where
         let w = ap (λ g. waits g old.seen) (same ∙ sym t.follows.same_agent) ∙ ap (waits new.agent) (sym none) ∙ t.is_waiting in
         none ∙ sym (waiting-leads agent old.seen (ap has_end (sym none) ∙ t.goes_on) w)
 
-    by-ended : (a : Answer) → EndStood old new ⊎ CommitsEnd a old new → (new.seen ≡ lead agent old.seen) ⊎ (new.seen ≡ old.seen ++ End answer.Memory ∷ [])
+    by-ended : (a : Answer) → EndStood old new ⊎ CommitsEnd a old new → (new.seen ≡ lead agent old.seen) ⊎ EndsShort old.seen new.seen
     by-ended a (inl e) = inl (adds-none e.follows ∙ sym (lead-ended agent old.seen e.ended))
     by-ended a (inr e) =
         by-end agent a e.goes_on (answered-here agent a e.follows.others same (e.follows.are_others.none alone) e.answered)
         (alone-grows old new (End a ∷ []) e.follows alone)
 
-    by-turn : (s : Stepped) → TurnIs old new s → IsOnlineSoFar agent (with_runs [] new.seen) → (new.seen ≡ lead agent old.seen) ⊎ (new.seen ≡ old.seen ++ End answer.Memory ∷ [])
+    by-turn : (s : Stepped) → TurnIs old new s → IsOnlineSoFar agent (report_of agent new.seen) → (new.seen ≡ lead agent old.seen) ⊎ EndsShort old.seen new.seen
     by-turn Step t online = inl (by-step t online)
     by-turn Waiting t online = inl (by-waiting t)
     by-turn (Ended a) t online = by-ended a t.how

@@ -1,3 +1,4 @@
+mod BegunRuns
 mod Kept
 mod Awaiting
 mod Growth

@@ -1,11 +1,11 @@
 -- When a run is over: the program has ended and each device is closed.
-use Rattle.std.proofs.Common.{◌≡◌, ℕ, zero, suc, ◌+◌, ◌≤◌, ◌<◌, Bool, true, false, not, ◌⊎◌, inl, inr, if◌then◌else◌, None, List, [], ◌∷◌, length, refl, ap, ◌∙◌, arith, subst}
+use Rattle.std.proofs.Common.{◌≡◌, ℕ, zero, suc, ◌+◌, ◌≤◌, ◌<◌, Bool, true, false, not, ◌⊎◌, inl, inr, if◌then◌else◌, List, [], ◌∷◌, length, refl, ap, ◌∙◌, arith, subst}
 use Rattle.std.specs.List.{list_any, range_with_len}
 use Rattle.std.proofs.lemmas.Bool.{and_from, and_parts, cases_lt, or_from, or_parts}
 use Rattle.golog_tree.specs.declared.agent.Agent.{Agent}
 use Rattle.golog_semantics.specs.Journal.{Journal, devices, has_end, is_open}
 use Rattle.golog_semantics.specs.Online.{IsOnline, IsOnlineSoFar, is_whole}
-use Rattle.golog_semantics.specs.OneMore.{with_runs}
+use Rattle.golog_semantics.specs.InlineText.{report_of}
 use Rattle.golog_semantics.specs.Inline.{Scripted, Stage, lead, led, round, rounds, turn, turns_from}
 use Rattle.golog_semantics.proofs.LaterRuns.{whole_is_online}
 
@@ -74,5 +74,5 @@ module _ (agent : Agent) where
         shut = λ d l. shut-in journal 0 (length agent.devices) (not-true _ parts.1) d (omega arith) (omega (arith, l));
       }
 
-  pub over_online : (journal : Journal) → IsOnlineSoFar agent (with_runs [] journal) → IsOverAll journal (length agent.devices) → IsOnline agent (with_runs [] journal)
-  over_online journal online over = (whole_is_online agent (with_runs [] journal)).whole online (whole_is journal over)
+  pub over_online : (journal : Journal) → IsOnlineSoFar agent (report_of agent journal) → IsOverAll journal (length agent.devices) → IsOnline agent (report_of agent journal)
+  over_online journal online over = (whole_is_online agent (report_of agent journal)).whole online (whole_is journal over)

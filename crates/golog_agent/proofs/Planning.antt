@@ -1,32 +1,31 @@
 -- What the program is to do is so of the entries.
 use Rattle.std.proofs.Common.{◌≡◌, ◌≢◌, ℕ, zero, suc, ◌+◌, ◌≤◌, ◌<◌, Bool, true, false, not, ◌&&◌, ◌||◌, if◌then◌else◌, List, [], ◌∷◌, length, Option, Some, None, ◌⊎◌, inl, inr, refl, sym, ap, ◌∙◌, subst, arith}
-use Rattle.std.specs.Prelude.{is_none, Contains, nat_lt}
+use Rattle.std.specs.Prelude.{is_none, nat_lt, option_map}
 use Rattle.std.specs.List.{list_all, range_with_len}
 use Rattle.std.proofs.lemmas.Bool.{cases_eq, cases_lt, lt-ltb, le-leb}
-use Rattle.std.proofs.lemmas.List.Elements.{Contains-append_left, Contains-push}
 use Rattle.golog_tree.specs.declared.agent.Agent.{Agent}
 use Rattle.golog_tree.specs.declared.prog.Prog.{Prog}
 use Rattle.golog_tree.specs.Nest.{nest}
 use Rattle.golog_semantics.specs.declared.Mode.TheVariants.{Must, May, Near}
 use Rattle.golog_semantics.specs.declared.search.Move.{Move}
 use Rattle.golog_semantics.specs.declared.journal.Answer.{Answer}
+use Rattle.golog_semantics.specs.declared.journal.PlacedRun.{PlacedRun}
 use Rattle.golog_semantics.specs.declared.journal.Answer.TheVariants as answer
 use Rattle.golog_semantics.specs.Ways.{is_empty}
 use Rattle.golog_semantics.specs.Search.{final, nest_limit}
 use Rattle.golog_semantics.specs.Blocks.{moves}
-use Rattle.golog_semantics.specs.BlockFree.{has_block}
 use Rattle.golog_semantics.specs.Journal.{Journal, count, is_at_rest, is_full, is_open, is_quiet, is_settled, limit, outstanding}
 use Rattle.golog_semantics.specs.Progress.{values_after, left_after}
 use Rattle.golog_semantics.specs.ProgFits.{fits}
 use Rattle.golog_semantics.specs.Answer.{answer_after, first_that_fits, is_deep, is_unanswered}
 use Rattle.golog_semantics.proofs.LeftFits.{left_after-fits}
+use Rattle.golog_ways.specs.First.{head_of}
 use Rattle.golog_search.specs.declared.decision.Blocked.{Blocked}
 use Rattle.golog_search.specs.declared.decision.Decision.{Decision}
 use Rattle.golog_search.specs.declared.decision.Decision.TheVariants.{Final, Step, Blocked as Blocking, Fuel, Deep}
-use Rattle.golog_search.specs.Decided.{along, decision}
+use Rattle.golog_search.specs.Decided.{IsAhead, IsDecided, LacksFuel, ahead, along, blocked, decision, stepping}
 use Rattle.golog_search.specs.Laws.{answer_of, blocked_answer}
 use Rattle.golog_search.proofs.Answering.{decided_answered}
-use Rattle.golog_search.proofs.LeftBlockless.{left_blockless, step_blockless}
 use Rattle.golog_journal.specs.Boards.{IsBoardList}
 use Rattle.golog_agent.specs.declared.plan.Plan.{Plan}
 use Rattle.golog_agent.specs.declared.plan.Plan.TheVariants as plan
@@ -97,10 +96,10 @@ module _ (agent : Agent) (journal : Journal) where
       ∙ ap (λ b. answer_cases full unanswered b E M Q N Y) s
 
   pub full-plan : is_full journal ≡ true → PlanIs agent journal (plan.End answer.Full)
-  full-plan h = inr (answer-by true (is_unanswered agent journal) (is_settled agent journal) h refl refl)
+  full-plan h = inr (inr (answer-by true (is_unanswered agent journal) (is_settled agent journal) h refl refl))
 
   pub unanswered-plan : is_full journal ≡ false → is_unanswered agent journal ≡ true → PlanIs agent journal (plan.End answer.Unanswered)
-  unanswered-plan f u = inr (answer-by false true (is_settled agent journal) f u refl)
+  unanswered-plan f u = inr (inr (answer-by false true (is_settled agent journal) f u refl))
 
   waits-so : is_quiet agent journal ≡ false → answer_after agent journal ≡ None → (not (is_settled agent journal) || has_no_step agent journal) ≡ true → waits agent journal ≡ true
   unfolding waits
@@ -130,9 +129,6 @@ module _ (agent : Agent) (journal : Journal) where
     pub left-fits : (left : Prog) → left ≡ left_after agent journal → fits agent left ≡ true
     left-fits left e = ap (fits agent) e ∙ left_after-fits agent under.formed journal
 
-    pub left-free : (left : Prog) → left ≡ left_after agent journal → not (has_block agent left) ≡ true
-    left-free left e = ap (λ p. not (has_block agent p)) e ∙ left_blockless agent under.blockless journal
-
   step-inside : (m : Move) (b : Bool) (ms : List Move) → (if b then Final else along agent V P ms) ≡ Step m
       → (b ≡ false) × (nest m.left ≤ nest_limit) × ((others : List Move) × (ms ≡ m ∷ others))
   step-inside m true ms e = absurd (cc)
@@ -146,14 +142,48 @@ module _ (agent : Agent) (journal : Journal) where
           let same : x ≡ m = cc in
           (refl, subst (λ (y : Move). nest y.left ≤ nest_limit) same (not-above nest_limit (nest x.left) k), (ms, ap (λ y. y ∷ ms) same))
 
-  none-inside : (b : Blocked) (e : Bool) (ms : List Move) → (if e then Final else along agent V P ms) ≡ Blocking b → ms ≡ []
-  none-inside b true ms h = absurd (cc)
-  none-inside b false [] h = refl
-  none-inside b false (x ∷ ms) h = go (nat_lt nest_limit (nest x.left)) refl
+  -- ---- the end or the first step, where one is certain
+
+  ahead-some : (b : Bool) (ms : List Move) (d : Decision) → Some d ≡ (if b then Some Final else option_map stepping (head_of ms))
+      → (if b then Final else along agent V P ms) ≡ d
+  ahead-some true ms d e = cc
+  ahead-some false [] d e = absurd (cc)
+  ahead-some false (m ∷ ms) d e = cc
+
+  ahead-none : (b : Bool) (ms : List Move) → None ≡ (if b then Some Final else option_map stepping (head_of ms)) → (b ≡ false) × (ms ≡ [])
+  ahead-none true ms e = absurd (cc)
+  ahead-none false [] e = (refl, refl)
+  ahead-none false (m ∷ ms) e = absurd (cc)
+
+  stepping-goes : (m : Move) (b : Blocked) → stepping m ≡ Blocking b → ⊥
+  stepping-goes m b e = go (nat_lt nest_limit (nest m.left)) refl
     where
-      go : (d : Bool) → nat_lt nest_limit (nest x.left) ≡ d → x ∷ ms ≡ []
-      go true k = absurd (let j = sym (ap (λ b. if b then Deep else Step x) k) ∙ h in cc)
-      go false k = absurd (let j = sym (ap (λ b. if b then Deep else Step x) k) ∙ h in cc)
+      go : (deep : Bool) → nat_lt nest_limit (nest m.left) ≡ deep → ⊥
+      go true k = absurd (let h = sym (ap (λ d. if d then Deep else Step m) k) ∙ e in cc)
+      go false k = absurd (let h = sym (ap (λ d. if d then Deep else Step m) k) ∙ e in cc)
+
+  ahead-goes : (b : Bool) (ms : List Move) (x : Blocked) → Some (Blocking x) ≡ (if b then Some Final else option_map stepping (head_of ms)) → ⊥
+  ahead-goes true ms x e = absurd (cc)
+  ahead-goes false [] x e = absurd (cc)
+  ahead-goes false (m ∷ ms) x e = stepping-goes m x (let h : Blocking x ≡ stepping m = cc in sym h)
+
+  decided-ahead : (d : Decision) → Some d ≡ ahead agent V P → decision agent V P ≡ d
+  unfolding decision ahead
+  decided-ahead d e = ahead-some (final agent V Must P) (moves agent V Must P) d e
+
+  pub none-ahead : None ≡ ahead agent V P → (final agent V Must P ≡ false) × (moves agent V Must P ≡ [])
+  unfolding ahead
+  none-ahead e = ahead-none (final agent V Must P) (moves agent V Must P) e
+
+  goes-ahead : (b : Blocked) → Some (Blocking b) ≡ ahead agent V P → ⊥
+  unfolding ahead
+  goes-ahead b e = ahead-goes (final agent V Must P) (moves agent V Must P) b e
+
+  is-blocked : None ≡ ahead agent V P → decision agent V P ≡ Blocking (blocked agent V P)
+  unfolding decision
+  is-blocked e =
+      let none = none-ahead e in
+      ap (λ b. if b then Final else along agent V P (moves agent V Must P)) none.0 ∙ ap (along agent V P) none.1
 
   module _ (under : IsUnderWay agent journal) (full : is_full journal ≡ false) (answered : is_unanswered agent journal ≡ false) (settled : is_settled agent journal ≡ true) where
     answer-so : (d : Decision) → decision agent V P ≡ d → answer_after agent journal ≡ answer_of (is_quiet agent journal) d
@@ -177,30 +207,47 @@ module _ (agent : Agent) (journal : Journal) where
           room = below-limit;
           others = inside.2.0;
           first = inside.2.1;
-          no_run = (step_blockless agent V Must P (left-free under P refl) m (subst (λ ms. Contains ms m) (sym inside.2.1) (Contains-append_left (m ∷ []) inside.2.0 m (Contains-push [] m)))).no_run;
           nests = inside.1;
         }
-
-    no-step : (b : Blocked) → decision agent V P ≡ Blocking b → has_no_step agent journal ≡ true
-    unfolding decision
-    no-step b e = ap is_empty (none-inside b (final agent V Must P) (moves agent V Must P) e)
 
     or-true : (b : Bool) → (b || true) ≡ true
     or-true true = refl
     or-true false = refl
 
-    blocked-plan : (b : Blocked) (quiet : Bool) → is_quiet agent journal ≡ quiet → decision agent V P ≡ Blocking b → PlanIs agent journal (plan_by quiet (Blocking b))
-    blocked-plan b true q e = inr (answer-so (Blocking b) e ∙ ap (λ k. if k then Some (blocked_answer b) else None) q)
-    blocked-plan b false q e =
-        waits-so q (answer-so (Blocking b) e ∙ ap (λ k. if k then Some (blocked_answer b) else None) q)
-        (ap (λ k. not (is_settled agent journal) || k) (no-step b e) ∙ or-true (not (is_settled agent journal)))
+    fuel-plan : (d : Decision) → LacksFuel agent V P true d → PlanIs agent journal (plan_by d)
+    fuel-plan d (bounded, is, weighs) =
+        subst (λ x. PlanIs agent journal (plan_by x)) (sym is)
+        (inr (inl (record { is = refl; not_full = full; answered = answered; settled = settled; weighs = weighs })))
 
-    pub decided-plan : (d : Decision) (quiet : Bool) → decision agent V P ≡ d → is_quiet agent journal ≡ quiet → PlanIs agent journal (plan_by quiet d)
-    decided-plan Final quiet e q = inr (answer-so Final e)
-    decided-plan (Step m) quiet e q = next-step m e
-    decided-plan (Blocking b) quiet e q = blocked-plan b quiet q e
-    decided-plan Fuel quiet e q = inr (answer-so Fuel e)
-    decided-plan Deep quiet e q = inr (answer-so Deep e)
+    so-plan : (d : Decision) → Some d ≡ ahead agent V P → PlanIs agent journal (plan_by d)
+    so-plan Final e = inr (inr (answer-so Final (decided-ahead Final e)))
+    so-plan (Step m) e = next-step m (decided-ahead (Step m) e)
+    so-plan (Blocking b) e = absurd (goes-ahead b e)
+    so-plan Fuel e = inr (inr (answer-so Fuel (decided-ahead Fuel e)))
+    so-plan Deep e = inr (inr (answer-so Deep (decided-ahead Deep e)))
+
+    -- what is decided at once
+    pub ahead-plan : (d : Decision) → IsAhead agent V P true (Some d) → PlanIs agent journal (plan_by d)
+    ahead-plan d (inl e) = so-plan d e
+    ahead-plan d (inr lacks) = fuel-plan d lacks
+
+    -- a blocked program waits while some device may still post
+    pub blocked-waits : IsAhead agent V P true None → is_quiet agent journal ≡ false → PlanIs agent journal plan.Wait
+    blocked-waits e q =
+        waits-so q (answer-so (Blocking (blocked agent V P)) (is-blocked e) ∙ ap (λ k. if k then Some (blocked_answer (blocked agent V P)) else None) q)
+        (ap (λ k. not (is_settled agent journal) || k) (ap is_empty (none-ahead e).1) ∙ or-true (not (is_settled agent journal)))
+
+    -- and else ends
+    quiet-plan : (d : Decision) → decision agent V P ≡ d → is_quiet agent journal ≡ true → PlanIs agent journal (plan_by d)
+    quiet-plan Final e q = inr (inr (answer-so Final e))
+    quiet-plan (Step m) e q = next-step m e
+    quiet-plan (Blocking b) e q = inr (inr (answer-so (Blocking b) e ∙ ap (λ k. if k then Some (blocked_answer b) else None) q))
+    quiet-plan Fuel e q = inr (inr (answer-so Fuel e))
+    quiet-plan Deep e q = inr (inr (answer-so Deep e))
+
+    pub blocked-plan : (d : Decision) → IsDecided agent V P true d → is_quiet agent journal ≡ true → PlanIs agent journal (plan_by d)
+    blocked-plan d (inl e) q = quiet-plan d (sym e) q
+    blocked-plan d (inr lacks) q = fuel-plan d lacks
 
 -- what is to be done, by the device whose result is awaited
 module _ (agent : Agent) (journal : Journal) (awaited : Option ℕ) (awaits : AwaitsFrom agent journal awaited) where
@@ -234,16 +281,54 @@ module _ (agent : Agent) (list : Journal) (value : Course) (is : seen_as agent l
     pub answered-seen : is_unanswered value.agent value.list ≡ false
     answered-seen = subst (λ (v : Course). is_unanswered v.agent v.list ≡ false) is (settled-plan agent list awaited awaits none).1
 
-  module _ (state : List ℕ) (left : Prog) (awaited : Option ℕ) (ended : Option Answer) (k : KeepsUp agent list state left awaited ended) where
-    decision-so : (d : Decision) → d ≡ decision agent state left → decision agent (values_after agent list) (left_after agent list) ≡ d
-    decision-so d e = sym (e ∙ ap (λ vs. decision agent vs left) k.values_so ∙ ap (decision agent (values_after agent list)) k.left_so)
+  module _ (state : List ℕ) (left : Prog) (awaited : Option ℕ) (ended : Option Answer) (runs : List PlacedRun) (k : KeepsUp agent list state left awaited ended runs) where
+    ahead-so : (o : Option Decision) → IsAhead agent state left true o → IsAhead agent (values_after agent list) (left_after agent list) true o
+    ahead-so o h = subst (λ p. IsAhead agent (values_after agent list) p true o) k.left_so (subst (λ vs. IsAhead agent vs left true o) k.values_so h)
 
-    pub decided-seen : is_settled value.agent value.list ≡ true → is_unanswered value.agent value.list ≡ false → is_full value.list ≡ false
-        → (d : Decision) (quiet : Bool) (given : Plan) → d ≡ decision agent state left → quiet ≡ is_quiet agent list → given ≡ plan_by quiet d
-        → PlanIs value.agent value.list given
-    decided-seen settled answered room d quiet given ds qs gs =
-        as-seen given
-        (subst (PlanIs agent list) (sym gs)
-        (decided-plan agent list k.under_way (subst (λ (v : Course). is_full v.list ≡ false) (sym is) room)
-        (subst (λ (v : Course). is_unanswered v.agent v.list ≡ false) (sym is) answered) (subst (λ (v : Course). is_settled v.agent v.list ≡ true) (sym is) settled)
-        d quiet (decision-so d ds) (sym qs)))
+    decided-so : (d : Decision) → IsDecided agent state left true d → IsDecided agent (values_after agent list) (left_after agent list) true d
+    decided-so d h = subst (λ p. IsDecided agent (values_after agent list) p true d) k.left_so (subst (λ vs. IsDecided agent vs left true d) k.values_so h)
+
+    -- no end and no step is certain
+    pub none-seen : IsAhead agent state left true None
+        → (final value.agent (values_after value.agent value.list) Must (left_after value.agent value.list) ≡ false)
+        × (moves value.agent (values_after value.agent value.list) Must (left_after value.agent value.list) ≡ [])
+    none-seen h =
+        subst (λ (v : Course). (final v.agent (values_after v.agent v.list) Must (left_after v.agent v.list) ≡ false)
+        × (moves v.agent (values_after v.agent v.list) Must (left_after v.agent v.list) ≡ [])) is
+        (none-ahead agent list (ahead-so None h))
+
+    pub open-inside : final value.agent (values_after value.agent value.list) Must (left_after value.agent value.list) ≡ false → final agent state Must left ≡ false
+    open-inside h =
+        ap (λ vs. final agent vs Must left) k.values_so ∙ ap (final agent (values_after agent list) Must) k.left_so
+        ∙ subst (λ (v : Course). final v.agent (values_after v.agent v.list) Must (left_after v.agent v.list) ≡ false) (sym is) h
+
+    pub stepless-inside : is_empty (moves value.agent (values_after value.agent value.list) Must (left_after value.agent value.list)) ≡ true
+        → is_empty (moves agent state Must left) ≡ true
+    stepless-inside h =
+        ap (λ vs. is_empty (moves agent vs Must left)) k.values_so ∙ ap (λ p. is_empty (moves agent (values_after agent list) Must p)) k.left_so
+        ∙ subst (λ (v : Course). is_empty (moves v.agent (values_after v.agent v.list) Must (left_after v.agent v.list)) ≡ true) (sym is) h
+
+    module _ (settled : is_settled value.agent value.list ≡ true) (answered : is_unanswered value.agent value.list ≡ false) (room : is_full value.list ≡ false) where
+      full-so : is_full list ≡ false
+      full-so = subst (λ (v : Course). is_full v.list ≡ false) (sym is) room
+
+      answered-so : is_unanswered agent list ≡ false
+      answered-so = subst (λ (v : Course). is_unanswered v.agent v.list ≡ false) (sym is) answered
+
+      settled-so : is_settled agent list ≡ true
+      settled-so = subst (λ (v : Course). is_settled v.agent v.list ≡ true) (sym is) settled
+
+      pub ahead-seen : (d : Decision) (given : Plan) → IsAhead agent state left true (Some d) → given ≡ plan_by d → PlanIs value.agent value.list given
+      ahead-seen d given h gs =
+          as-seen given (subst (PlanIs agent list) (sym gs) (ahead-plan agent list k.under_way full-so answered-so settled-so d (ahead-so (Some d) h)))
+
+      pub waits-seen : IsAhead agent state left true None → is_quiet agent list ≡ false → PlanIs value.agent value.list plan.Wait
+      waits-seen h q = as-seen plan.Wait (blocked-waits agent list k.under_way full-so answered-so settled-so (ahead-so None h) q)
+
+      pub blocked-seen : (d : Decision) (given : Plan) → IsDecided agent state left true d → is_quiet value.agent value.list ≡ true → given ≡ plan_by d
+          → PlanIs value.agent value.list given
+      blocked-seen d given h q gs =
+          as-seen given
+          (subst (PlanIs agent list) (sym gs)
+          (blocked-plan agent list k.under_way full-so answered-so settled-so d (decided-so d h)
+          (subst (λ (v : Course). is_quiet v.agent v.list ≡ true) (sym is) q)))

@@ -1,5 +1,5 @@
 -- A round of a run without threads, and the rounds so far.
-use Rattle.std.proofs.Common.{◌≡◌, ℕ, zero, suc, ◌+◌, ◌<◌, ◌≤◌, Bool, true, false, not, ◌||◌, ◌⊎◌, None, List, [], ◌∷◌, ◌++◌, length, length-append, drop, refl, sym, ap, ◌∙◌, subst, append_assoc, inl, inr, arith, nat_lt}
+use Rattle.std.proofs.Common.{◌≡◌, ℕ, zero, suc, ◌+◌, ◌<◌, ◌≤◌, Bool, true, false, not, ◌||◌, ◌⊎◌, List, [], ◌∷◌, ◌++◌, length, length-append, drop, refl, sym, ap, ◌∙◌, subst, append_assoc, inl, inr, arith, nat_lt}
 use Rattle.std.specs.Prelude.{slice_get, option_map, option_and_then}
 use Rattle.std.specs.List.{list_all, list_any, range_with_len, sum}
 use Rattle.std.proofs.lemmas.Bool.{and_from, and_left, or_left, or_right, or_from, cases_lt, false_from_ne_true}
@@ -10,7 +10,6 @@ use Rattle.golog_tree.specs.declared.agent.Agent.{Agent}
 use Rattle.golog_semantics.specs.declared.journal.Entry.{Entry}
 use Rattle.golog_semantics.specs.declared.journal.Entry.TheVariants.{Do, Test, Exo, Sense, Rest, Close, End}
 use Rattle.golog_semantics.specs.declared.journal.Answer.{Answer}
-use Rattle.golog_semantics.specs.declared.journal.Answer.TheVariants.{Memory}
 use Rattle.golog_semantics.specs.Journal.{Journal, devices, is_posted_by, is_open, is_at_rest, is_quiet, has_end}
 use Rattle.golog_semantics.specs.Inline.{Scripted, lead, led, turns_from}
 use Rattle.golog_semantics.specs.Online.{is_whole}
@@ -30,6 +29,7 @@ use Rattle.golog_agent.specs.Waiting.{waits}
 use Rattle.golog_agent.specs.Laws.{quiet_goes_on}
 use Rattle.golog_agent.specs.Turns.{Follows, EndStood, CommitsEnd, TurnIs}
 use Rattle.golog_agent.specs.Rounds.{is_refusal}
+use Rattle.golog_agent.specs.Short.{EndsShort}
 use Rattle.golog_agent.specs.Moments.{Moment, taken_by, progress, told_at, MayGoOn, RestsAt, StaysDealt, DealsOn, AreScripted, IsStage, turned, LeaveAll, TurnsMade, RoundIs, RoundMade}
 use Rattle.golog_agent.proofs.Over.{over_is, whole_is}
 use Rattle.golog_agent.proofs.OneTurn.{few-more}
@@ -203,19 +203,19 @@ module _ (agent : Agent) where
 
     -- scripted devices had a round
     rounded : (ds : List Scripted) → AreScripted agent old ds → IsStage agent mid (turned agent (length agent.devices) old.journal ds)
-        → (new.journal ≡ lead agent mid.journal) ⊎ (new.journal ≡ mid.journal ++ End Memory ∷ []) → RoundIs agent old.journal ds new
+        → (new.journal ≡ lead agent mid.journal) ⊎ EndsShort mid.journal new.journal → RoundIs agent old.journal ds new
     rounded ds are stage leads =
         by (turns_from agent 0 old.journal ds) refl
         (subst (IsStage agent mid) (turned-all old.journal ds are.one_each) stage) leads
       where
         by : (made : Journal × List Scripted) → turns_from agent 0 old.journal ds ≡ made
             → IsStage agent mid (record { journal = (turns_from agent 0 old.journal ds).0; devices = (turns_from agent 0 old.journal ds).1 })
-            → (new.journal ≡ lead agent mid.journal) ⊎ (new.journal ≡ mid.journal ++ End Memory ∷ []) → RoundIs agent old.journal ds new
+            → (new.journal ≡ lead agent mid.journal) ⊎ EndsShort mid.journal new.journal → RoundIs agent old.journal ds new
         by (j, es) is stage (inl leads) =
             let own : AreScripted agent new es = scripted-still es (subst (AreScripted agent mid) (ap (λ (m : Journal × List Scripted). m.1) is) stage.devices) in
             let here : mid.journal ≡ j = stage.entries ∙ ap (λ (m : Journal × List Scripted). m.0) is in
             inl (subst (IsStage agent new) (ap (led agent) (sym is)) (record { entries = leads ∙ ap (lead agent) here; devices = own }))
-        by (j, es) is stage (inr starves) = inr (starves ∙ ap (λ l. l ++ End Memory ∷ []) stage.entries)
+        by (j, es) is stage (inr ends) = inr (subst (λ l. EndsShort l new.journal) stage.entries ends)
 
   -- where all devices are closed or rest, and the program does nothing, the run is over
   goes-none : (journal : Journal) → ((device : ℕ) → device < length agent.devices → is_open device journal ≡ true → RestsAt agent journal device)
@@ -238,7 +238,7 @@ module _ (agent : Agent) where
   -- a round is made of the devices' turns and the program's
   pub round-made : (old mid new : Moment) → new.taken ≡ mid.taken → new.standings ≡ mid.standings → IsBoardList agent mid.journal
       → is_whole agent old.journal ≡ false → TurnsMade agent (length agent.devices) old mid → ProgramMade mid.journal new.journal
-      → (new.journal ≡ lead agent mid.journal) ⊎ (new.journal ≡ mid.journal ++ End Memory ∷ []) → RoundMade agent old new
+      → (new.journal ≡ lead agent mid.journal) ⊎ EndsShort mid.journal new.journal → RoundMade agent old new
   round-made old mid new same_taken same_standings list goes_on made turn leads = record {
     since = made.since ++ turn.since;
     grows = turn.grows ∙ ap (λ j. j ++ turn.since) made.grows ∙ append_assoc old.journal made.since turn.since;

@@ -1,5 +1,5 @@
 -- What came of what was planned at all that was seen.
-use Rattle.std.proofs.Common.{◌≡◌, ◌≤◌, ◌<◌, Bool, true, false, [], ◌∷◌, ◌++◌, length, length-append, Some, None, inr, refl, sym, ap, ◌∙◌, subst, arith}
+use Rattle.std.proofs.Common.{◌≡◌, ◌≤◌, ◌<◌, Bool, true, false, [], ◌∷◌, ◌++◌, length, length-append, Some, inr, refl, sym, ap, ◌∙◌, subst, arith}
 use Rattle.std.specs.Prelude.{IsTrue, Contains, unwrap_or}
 use Rattle.std.proofs.lemmas.List.{append-nil}
 use Rattle.std.proofs.lemmas.List.Elements.{Contains-push}
@@ -11,21 +11,20 @@ use Rattle.golog_semantics.specs.declared.journal.Entry.{Entry}
 use Rattle.golog_semantics.specs.declared.journal.Entry.TheVariants.{End}
 use Rattle.golog_semantics.specs.declared.journal.Answer.{Answer}
 use Rattle.golog_semantics.specs.Journal.{Journal, count, has_end, is_counted, limit}
-use Rattle.golog_semantics.specs.Online.{fault_at}
 use Rattle.golog_semantics.specs.Progress.{left_after}
 use Rattle.golog_journal.specs.Commits.{IsOfProgram}
 use Rattle.golog_journal.specs.Growing.{Sight}
 use Rattle.golog_agent.specs.declared.plan.Plan.{Plan}
 use Rattle.golog_agent.specs.declared.plan.Plan.TheVariants as plan
 use Rattle.golog_agent.specs.declared.runner.Stepped.TheVariants.{Step, Waiting, Ended}
-use Rattle.golog_agent.specs.Keeping.{IsUnderWay}
+use Rattle.golog_agent.specs.Keeping.{IsUnderWay, KeepsRules, begun_by}
 use Rattle.golog_agent.specs.Planned.{IsNextStep, PlanIs}
 use Rattle.golog_agent.specs.Run.{is_step_entry}
 use Rattle.golog_agent.specs.Turns.{AttemptIs, CommitGives, Course, IsCommitted, IsCurrent, MayAnswer}
 use Rattle.golog_agent.specs.UnderWay.{entry_for}
 use Rattle.golog_agent.specs.Waiting.{waits}
 use Rattle.golog_agent.proofs.Boarding.{no-change}
-use Rattle.golog_agent.proofs.Committing.{step-left, step-online, step-own}
+use Rattle.golog_agent.proofs.Committing.{step-left, step-online, step-own, step-run}
 
 -- ---- a step
 
@@ -37,8 +36,11 @@ module _ (agent : Agent) (list : Journal) (m : Move) (next : IsNextStep agent li
   pub entry-own : IsUnderWay agent list → IsOfProgram agent list 0 e e
   entry-own u = subst (λ x. IsOfProgram agent list 0 x x) (sym is) (step-own agent list m next u)
 
-  pub entry-online : has_end list ≡ false → fault_at agent None [] list e ≡ None
-  entry-online h = subst (λ x. fault_at agent None [] list x ≡ None) (sym is) (step-online agent list m next h)
+  pub entry-online : has_end list ≡ false → KeepsRules agent list e
+  entry-online h = subst (KeepsRules agent list) (sym is) (step-online agent list m next h)
+
+  pub entry-run : m.run ≡ begun_by agent list e
+  entry-run = step-run agent list m next ∙ ap (begun_by agent list) (sym is)
 
   pub entry-left : left_after agent (list ++ e ∷ []) ≡ unwrap_or (Some m.left) (left_after agent list)
   entry-left = ap (λ x. left_after agent (list ++ x ∷ [])) is ∙ step-left agent list m next

@@ -1,22 +1,35 @@
 -- Taking what devices have posted, entry by entry.
-use Rattle.std.proofs.Common.{◌≡◌, ℕ, zero, suc, ◌+◌, ◌<◌, Bool, false, [], ◌∷◌, ◌++◌, length, take, drop, get_or, None, sym, ap, ◌∙◌, subst, arith, append_assoc}
+use Rattle.std.proofs.Common.{◌≡◌, ℕ, zero, suc, ◌+◌, ◌<◌, Bool, true, false, [], ◌∷◌, ◌++◌, length, take, drop, get_or, None, refl, sym, ap, ◌∙◌, subst, arith, append_assoc}
 use Rattle.std.specs.List.{list_any}
 use Rattle.std.proofs.lemmas.Bool.{or_parts}
 use Rattle.std.proofs.lemmas.List.{take_more, take-append-drop}
 use Rattle.golog_semantics.specs.declared.journal.Entry.{Entry}
-use Rattle.golog_semantics.specs.Journal.{Journal}
+use Rattle.golog_semantics.specs.declared.journal.Entry.TheVariants.{Do, Test, Exo, Sense, Rest, Close, End}
+use Rattle.golog_semantics.specs.Journal.{Journal, count, limit}
 use Rattle.golog_semantics.specs.Progress.{left_after}
-use Rattle.golog_semantics.specs.Online.{fault_at}
 use Rattle.golog_journal.specs.Boards.{IsBoardList}
 use Rattle.golog_journal.specs.Leading.{is_of_program}
+use Rattle.golog_agent.specs.Keeping.{KeepsRules, begun_by}
+use Rattle.golog_agent.specs.Run.{is_step_entry}
 use Rattle.golog_agent.specs.Turns.{Course}
 use Rattle.golog_agent.proofs.Committing.{device-left, device-online}
 use Rattle.golog_agent.proofs.Copying.{lawful-prefix}
+use Rattle.golog_agent.proofs.BegunRuns.{begun-none}
 
 any-at : (p : Entry → Bool) (xs : Journal) (i : ℕ) (d : Entry) → list_any p xs ≡ false → i < length xs → p (get_or xs i d) ≡ false
 any-at p [] i d h inside = absurd (omega (arith, inside))
 any-at p (x ∷ xs) zero d h inside = (or_parts (p x) (list_any p xs) h).0
 any-at p (x ∷ xs) (suc i) d h inside = any-at p xs i d (or_parts (p x) (list_any p xs) h).1 (omega (arith, inside))
+
+-- an entry of a device is no step
+no-step : (e : Entry) → is_of_program e ≡ false → is_step_entry e ≡ false
+no-step (Do a) h = absurd (cc)
+no-step Test h = absurd (cc)
+no-step (Exo p a) h = refl
+no-step (Sense p at f v) h = refl
+no-step (Rest p t) h = refl
+no-step (Close p r t) h = refl
+no-step (End a) h = refl
 
 module _ (first : Course) (entries : Journal) (i : ℕ) (d : Entry) (inside : i < length entries) where
   abbrev e : Entry
@@ -39,8 +52,17 @@ module _ (first : Course) (entries : Journal) (i : ℕ) (d : Entry) (inside : i 
     pub taken-lawful : IsBoardList first.agent (first.list ++ entries) → IsBoardList course.agent (course.list ++ get_or entries i d ∷ [])
     taken-lawful h = subst (λ (c : Course). IsBoardList c.agent (c.list ++ get_or entries i d ∷ [])) (sym so) (more-lawful h)
 
-    pub taken-online : IsBoardList first.agent (first.list ++ entries) → list_any is_of_program entries ≡ false → fault_at course.agent None [] course.list (get_or entries i d) ≡ None
+    pub taken-online : IsBoardList first.agent (first.list ++ entries) → list_any is_of_program entries ≡ false → KeepsRules course.agent course.list (get_or entries i d)
     taken-online h devices = device-online course.agent course.list (get_or entries i d) (any-at is_of_program entries i d devices inside) (taken-lawful h)
 
     pub taken-left : list_any is_of_program entries ≡ false → left_after course.agent (course.list ++ get_or entries i d ∷ []) ≡ left_after course.agent course.list
     taken-left devices = device-left course.agent course.list (get_or entries i d) (any-at is_of_program entries i d devices inside)
+
+    taken-no-step : list_any is_of_program entries ≡ false → is_step_entry (get_or entries i d) ≡ false
+    taken-no-step devices = no-step (get_or entries i d) (any-at is_of_program entries i d devices inside)
+
+    pub taken-room : list_any is_of_program entries ≡ false → is_step_entry (get_or entries i d) ≡ true → count course.list < limit
+    taken-room devices step = absurd (let k = sym (taken-no-step devices) ∙ step in cc)
+
+    pub taken-run : list_any is_of_program entries ≡ false → None ≡ begun_by course.agent course.list (get_or entries i d)
+    taken-run devices = sym (begun-none course.agent course.list (get_or entries i d) (taken-no-step devices))

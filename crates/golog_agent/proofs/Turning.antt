@@ -19,12 +19,12 @@ use Rattle.golog_agent.specs.declared.runner.Stepped.TheVariants.{Step, Waiting,
 use Rattle.golog_agent.specs.Keeping.{EndsBy}
 use Rattle.golog_agent.specs.Run.{is_step_entry}
 use Rattle.golog_agent.specs.Waiting.{waits}
-use Rattle.golog_agent.specs.Turns.{AttemptIs, CommitsEnd, Course, EndStood, Follows, HasEnded, IsCurrent, IsOver, IsOvertaken, MayAnswer, StillWaits, TurnIs}
+use Rattle.golog_agent.specs.Turns.{AttemptIs, CommitsEnd, Course, EndStood, Follows, HasEnded, IsCurrent, IsOver, IsOvertaken, LacksFuel, MayAnswer, StillWaits, TurnIs}
 use Rattle.golog_semantics.specs.Online.{IsOnlineSoFar}
-use Rattle.golog_semantics.specs.OneMore.{with_runs}
+use Rattle.golog_semantics.specs.InlineText.{report_of}
 use Rattle.golog_semantics.proofs.Among.{among-contains, any-among}
-use Rattle.golog_semantics.proofs.Grown.{report_grows}
 use Rattle.golog_agent.proofs.Kept.{step-unended, stepping-ends-waits}
+use Rattle.golog_agent.proofs.BegunRuns.{keeps-rules}
 use Rattle.golog_agent.proofs.Boarding.{compose, end-as-before, no-change, others-come, over-whole, seen-so}
 
 -- ---- after others have added entries
@@ -37,9 +37,12 @@ module _ (a b c : Sight) (held : a.holds program ≡ true) (f : Follows a b []) 
 
   later-answer : (answer : Answer) (others : Journal) → MayAnswer b.agent (b.seen ++ others) answer → MayAnswer a.agent (a.seen ++ (f.others ++ others)) answer
   later-answer answer others (inl e) = inl e
-  later-answer answer others (inr e) =
-      inr (ap (λ g. answer_after g (a.seen ++ (f.others ++ others))) (sym f.same_agent)
-      ∙ ap (answer_after b.agent) (sym (ap (λ seen. seen ++ others) (seen-so a b f) ∙ append_assoc a.seen f.others others)) ∙ e)
+  later-answer answer others (inr (inl k)) =
+      inr (inl (subst (λ g. LacksFuel g (a.seen ++ (f.others ++ others)) answer) f.same_agent
+      (subst (λ seen. LacksFuel b.agent seen answer) (ap (λ seen. seen ++ others) (seen-so a b f) ∙ append_assoc a.seen f.others others) k)))
+  later-answer answer others (inr (inr e)) =
+      inr (inr (ap (λ g. answer_after g (a.seen ++ (f.others ++ others))) (sym f.same_agent)
+      ∙ ap (answer_after b.agent) (sym (ap (λ seen. seen ++ others) (seen-so a b f) ∙ append_assoc a.seen f.others others)) ∙ e))
 
   pub later-turn : (s : Stepped) → TurnIs b c s → TurnIs a c s
   unfolding compose
@@ -213,12 +216,12 @@ module _ (old new : Sight) where
           go (inl e) = absurd (contrary (has_end old.seen) e.ended whole)
           go (inr e) = longer (End answer) e.follows
 
-      no-step : (e : Entry) → is_step_entry e ≡ true → IsOnlineSoFar agent (with_runs [] (old.seen ++ e ∷ [])) → waits agent old.seen ≡ true → ⊥
-      no-step e is online w = stepping-ends-waits agent old.seen e is ((report_grows agent old.seen e []).keeps_rules online) w
+      no-step : (e : Entry) → is_step_entry e ≡ true → IsOnlineSoFar agent (report_of agent (old.seen ++ e ∷ [])) → waits agent old.seen ≡ true → ⊥
+      no-step e is online w = stepping-ends-waits agent old.seen e is (keeps-rules agent old.seen e online) w
 
-      rests-so : (s : Stepped) → TurnIs old new s → IsOnlineSoFar agent (with_runs [] new.seen) → waits agent old.seen ≡ true → AddsEndAtMost old.seen new.seen
+      rests-so : (s : Stepped) → TurnIs old new s → IsOnlineSoFar agent (report_of agent new.seen) → waits agent old.seen ≡ true → AddsEndAtMost old.seen new.seen
       rests-so Step t online w =
-          absurd (no-step t.entry t.is_step (subst (λ seen. IsOnlineSoFar agent (with_runs [] seen)) (alone-grows (t.entry ∷ []) t.follows alone) online) w)
+          absurd (no-step t.entry t.is_step (subst (λ seen. IsOnlineSoFar agent (report_of agent seen)) (alone-grows (t.entry ∷ []) t.follows alone) online) w)
       rests-so Waiting t online w = inl (commits-nothing t.follows)
       rests-so (Ended answer) t online w = go t.how
         where
@@ -226,19 +229,19 @@ module _ (old new : Sight) where
           go (inl e) = inl (commits-nothing e.follows)
           go (inr e) = inr (answer, alone-grows (End answer ∷ []) e.follows alone)
 
-  pub takes-turn : (mind : Mind) (s : Stepped) → mind.agent ≡ old.agent → mind.waits ≡ waits mind.agent → TurnIs old new s → IsOnlineSoFar mind.agent (with_runs [] new.seen) → TakesTurn mind old new
+  pub takes-turn : (mind : Mind) (s : Stepped) → mind.agent ≡ old.agent → mind.waits ≡ waits mind.agent → TurnIs old new s → IsOnlineSoFar mind.agent (report_of mind.agent new.seen) → TakesTurn mind old new
   takes-turn mind s same is t online = record {
     goes = λ alone whole w. goes-on whole alone mind.agent same s t (ap (λ f. f old.seen) (sym is) ∙ w);
     rests = λ alone whole w. rests-so whole alone mind.agent same s t online (ap (λ f. f old.seen) (sym is) ∙ w);
   }
 
   -- it answers that the program has ended exactly where the end stands
-  pub not-ended : (s : Stepped) → old.holds program ≡ true → TurnIs old new s → IsOnlineSoFar new.agent (with_runs [] new.seen) → ((answer : Answer) → s ≡ Ended answer → ⊥) → has_end new.seen ≡ false
+  pub not-ended : (s : Stepped) → old.holds program ≡ true → TurnIs old new s → IsOnlineSoFar new.agent (report_of new.agent new.seen) → ((answer : Answer) → s ≡ Ended answer → ⊥) → has_end new.seen ≡ false
   not-ended Waiting held t online other = t.goes_on
   not-ended (Ended answer) held t online other = absurd (other answer refl)
   not-ended Step held t online other =
       let before = old.seen ++ t.follows.others in
-      let rules = (report_grows new.agent before t.entry []).keeps_rules (subst (λ seen. IsOnlineSoFar new.agent (with_runs [] seen)) t.follows.grows online) in
+      let rules = keeps-rules new.agent before t.entry (subst (λ seen. IsOnlineSoFar new.agent (report_of new.agent seen)) t.follows.grows online) in
       ap has_end t.follows.grows ∙ list_any-append is_end before (t.entry ∷ [])
       ∙ none-ended (has_end before) (is_end t.entry) (step-unended new.agent before t.entry t.is_step rules) (step-goes-on t.entry t.is_step)
     where
@@ -258,15 +261,15 @@ pub whole-behind : (course : Course) (sight : Sight) → course.list ≡ sight.s
 whole-behind course sight whole = record { since = []; front = sym whole ∙ sym (append-nil course.list); of_devices = refl }
 
 module _ (first later : Course) (old new : Sight) (agent : first.agent ≡ old.agent) (held : old.holds program ≡ true) (same : later.agent ≡ first.agent)
-    (whole : later.list ≡ new.seen) (online : IsOnlineSoFar later.agent (with_runs [] later.list)) (s : Stepped) (t : TurnIs old new s) where
-  online-seen : IsOnlineSoFar later.agent (with_runs [] new.seen)
-  online-seen = subst (λ seen. IsOnlineSoFar later.agent (with_runs [] seen)) whole online
+    (whole : later.list ≡ new.seen) (online : IsOnlineSoFar later.agent (report_of later.agent later.list)) (s : Stepped) (t : TurnIs old new s) where
+  online-seen : IsOnlineSoFar later.agent (report_of later.agent new.seen)
+  online-seen = subst (λ seen. IsOnlineSoFar later.agent (report_of later.agent seen)) whole online
 
   agent-so : later.agent ≡ new.agent
   agent-so = same ∙ agent ∙ sym (turn-leads old new s t).same_agent
 
   pub lead-turn : TakesTurn (mind_of first) old new
-  lead-turn = takes-turn old new (mind_of first) s agent refl t (subst (λ g. IsOnlineSoFar g (with_runs [] new.seen)) same online-seen)
+  lead-turn = takes-turn old new (mind_of first) s agent refl t (subst (λ g. IsOnlineSoFar g (report_of g new.seen)) same online-seen)
 
   pub lead-ended : (answer : Answer) → s ≡ Ended answer → (led.Ended ≡ led.Ended) ↔ IsTrue (has_end new.seen)
   lead-ended answer is = (λ e. ended-so old new held answer (subst (TurnIs old new) is t), λ h. refl)
@@ -276,7 +279,7 @@ module _ (first later : Course) (old new : Sight) (agent : first.agent ≡ old.a
   other-than-end (inr e) answer is = absurd (let k = sym e ∙ is in cc)
 
   goes-on-so : ((answer : Answer) → s ≡ Ended answer → ⊥) → has_end new.seen ≡ false
-  goes-on-so other = not-ended old new s held t (subst (λ g. IsOnlineSoFar g (with_runs [] new.seen)) agent-so online-seen) other
+  goes-on-so other = not-ended old new s held t (subst (λ g. IsOnlineSoFar g (report_of g new.seen)) agent-so online-seen) other
 
   pub lead-more : (s ≡ Step) ⊎ (s ≡ Waiting) → (led.More ≡ led.Ended) ↔ IsTrue (has_end new.seen)
   lead-more is = (λ e. absurd (cc), λ h. absurd (let k = sym h ∙ goes-on-so (other-than-end is) in cc))

@@ -1,16 +1,17 @@
 -- What a runner keeps of the entries so far.
-use Rattle.std.specs.Prelude.{◌≡◌, ◌≢◌, ℕ, ◌<◌, false, not, IsTrue, Option, Some, None, [], ◌∷◌, length, Contains}
+use Rattle.std.specs.Prelude.{◌≡◌, ◌≢◌, ℕ, ◌<◌, false, Option, Some, None, List, [], ◌∷◌, ◌++◌, length, Contains}
 use Rattle.golog_tree.specs.declared.agent.Agent.{Agent}
 use Rattle.golog_tree.specs.declared.prog.Prog.{Prog}
+use Rattle.golog_tree.specs.declared.prog.Label.{Label}
 use Rattle.golog_semantics.specs.declared.journal.Entry.{Entry}
 use Rattle.golog_semantics.specs.declared.journal.Entry.TheVariants.{Do, Sense, End}
 use Rattle.golog_semantics.specs.declared.journal.Answer.{Answer}
+use Rattle.golog_semantics.specs.declared.journal.PlacedRun.{PlacedRun}
 use Rattle.golog_semantics.specs.Truth.{Values}
 use Rattle.golog_semantics.specs.Journal.{Journal, Command, has_end, outstanding}
 use Rattle.golog_semantics.specs.Progress.{values_after, left_after}
-use Rattle.golog_semantics.specs.Online.{IsOnlineSoFar}
-use Rattle.golog_semantics.specs.OneMore.{with_runs}
-use Rattle.golog_semantics.specs.BlockFree.{has_block}
+use Rattle.golog_semantics.specs.Online.{IsOnlineSoFar, begun, fault_at}
+use Rattle.golog_semantics.specs.InlineText.{begun_runs, report_of}
 use Rattle.golog_semantics.specs.WellFormed.{WellFormed}
 use Rattle.golog_journal.specs.Boards.{IsBoardList}
 use Rattle.golog_journal.specs.Quiet.{asked_of}
@@ -45,17 +46,28 @@ ended_by ended (End answer) = Some answer
 ended_by ended _ = ended
 
 module _ (agent : Agent) (journal : Journal) where
-  -- a well-formed agent without search blocks, and an online execution of it so far
+  -- the run that begins with the entry after these
+  abbrev pub begun_by : Entry → Option (List Label)
+  begun_by e = begun agent journal (values_after agent journal) (left_after agent journal) e
+
+  -- the entry keeps the rules after these
+  abbrev pub KeepsRules : Entry → Type 0
+  KeepsRules e = fault_at agent None (begun_runs agent (journal ++ e ∷ [])) journal e ≡ None
+
+  -- a well-formed agent, and an online execution of it so far
   pub record IsUnderWay : Type 0 where
     pub formed : WellFormed agent
-    pub blockless : IsTrue (not (has_block agent agent.main))
     pub lawful : IsBoardList agent journal
-    pub online : IsOnlineSoFar agent (with_runs [] journal)
+    pub online : IsOnlineSoFar agent (report_of agent journal)
 
-  -- the values, the program left, the result that is still to come, and the answer are those of the entries
-  pub record KeepsUp (values : Values) (left : Prog) (awaited : Option ℕ) (ended : Option Answer) : Type 0 where
+  -- the values, the program left, the result that is still to come, the answer and the runs are those of the
+  -- entries
+  pub record KeepsUp
+      (values : Values) (left : Prog) (awaited : Option ℕ) (ended : Option Answer) (runs : List PlacedRun)
+      : Type 0 where
     pub under_way : IsUnderWay
     pub values_so : values ≡ values_after agent journal
     pub left_so : left ≡ left_after agent journal
     pub awaits : AwaitsFrom agent journal awaited
     pub ends : EndsBy journal ended
+    pub runs_so : runs ≡ begun_runs agent journal

@@ -4,21 +4,21 @@ use Rattle.golog_tree.specs.declared.agent.Agent.{Agent}
 use Rattle.golog_semantics.specs.declared.journal.Entry.{Entry}
 use Rattle.golog_semantics.specs.declared.journal.Entry.TheVariants.{End}
 use Rattle.golog_semantics.specs.declared.journal.Answer.{Answer}
-use Rattle.golog_semantics.specs.declared.journal.Answer.TheVariants.{Memory}
 use Rattle.golog_semantics.specs.Inline.{lead}
 use Rattle.golog_semantics.specs.Online.{IsOnlineSoFar}
-use Rattle.golog_semantics.specs.OneMore.{with_runs}
+use Rattle.golog_semantics.specs.InlineText.{report_of}
 use Rattle.golog_journal.specs.Growing.{Sight}
 use Rattle.golog_agent.specs.declared.runner.Stepped.{Stepped}
 use Rattle.golog_agent.specs.Run.{is_step_entry}
+use Rattle.golog_agent.specs.Short.{EndsShort}
 use Rattle.golog_agent.specs.Turns.{CommitsEnd, CommitsStep, EndStood, StillWaits, TurnIs}
 
--- the turn is that of the program in a round, or memory was wanted
+-- the turn is that of the program in a round, or memory or fuel was wanted
 abbrev pub LeadsAlone : Type 0
 LeadsAlone =
     (agent : Agent) (old new : Sight) (stepped : Stepped)
-    → agent ≡ old.agent → old.alone ≡ true → TurnIs old new stepped → IsOnlineSoFar agent (with_runs [] new.seen)
-    → (new.seen ≡ lead agent old.seen) ⊎ (new.seen ≡ old.seen ++ End Memory ∷ [])
+    → agent ≡ old.agent → old.alone ≡ true → TurnIs old new stepped → IsOnlineSoFar agent (report_of agent new.seen)
+    → (new.seen ≡ lead agent old.seen) ⊎ EndsShort old.seen new.seen
 
 -- a step was added and no more
 pub record AddsStep (old new : Sight) : Type 0 where

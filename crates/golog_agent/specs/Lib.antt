@@ -7,5 +7,6 @@ pub mod Keeping
 pub mod Planned
 pub mod Deciding
 pub mod Moments
+pub mod Short
 pub mod Rounds
 pub mod Leading

@@ -1,12 +1,12 @@
 -- Moments of a run without threads, and what a turn of a device, the turns of all devices, a round, and the
 -- rounds so far make of them. (This project's own.)
-use Rattle.std.specs.Prelude.{◌≡◌, ◌⊎◌, ℕ, ◌+◌, ◌<◌, ◌≤◌, nat_lt, Bool, true, false, IsTrue, Option, List, [], ◌∷◌, ◌++◌, length, take, drop, option_map, option_and_then, slice_get, slice_index_or}
+use Rattle.std.specs.Prelude.{◌≡◌, ◌⊎◌, ℕ, ◌+◌, ◌<◌, ◌≤◌, nat_lt, Bool, true, false, IsTrue, Option, List, ◌∷◌, ◌++◌, length, take, drop, option_map, option_and_then, slice_get, slice_index_or}
 use Rattle.std.specs.List.{list_all, list_any, sum}
 use Rattle.std.specs.Option.{option_map_or}
 use Rattle.golog_tree.specs.declared.agent.Agent.{Agent}
 use Rattle.golog_semantics.specs.declared.journal.Entry.{Entry}
 use Rattle.golog_semantics.specs.declared.journal.Entry.TheVariants.{End}
-use Rattle.golog_semantics.specs.declared.journal.Answer.TheVariants.{Memory}
+use Rattle.golog_semantics.specs.declared.journal.Answer.{Answer}
 use Rattle.golog_semantics.specs.Journal.{Journal, commands, poster_of, is_posted_by, is_close, is_open, is_at_rest, has_end}
 use Rattle.golog_semantics.specs.Inline.{Scripted, Stage, turns_from, round, rounds}
 use Rattle.golog_semantics.specs.Dealt.{Script}
@@ -14,6 +14,7 @@ use Rattle.golog_journal.specs.Taken.{IsReady}
 use Rattle.golog_device.specs.Dealing.{scripted, DealtNow, ScriptedTurn}
 use Rattle.golog_device.specs.Slots.{Standing, EachSlot, ChangesIf}
 use Rattle.golog_agent.specs.Rounds.{is_refusal}
+use Rattle.golog_agent.specs.Short.{EndsShort, IsShort}
 
 -- a moment of a run: the entries so far, how many commands each device has taken, and how the devices stand
 pub record Moment : Type 0 where
@@ -132,11 +133,11 @@ module _ (agent : Agent) where
         → IsStage new (turned count old.journal devices)
     pub goes : (progress old < progress new) ⊎ LeaveAll count old new
 
-  -- scripted devices had a round, or memory was wanted for the program's turn in it
+  -- scripted devices had a round, or memory or fuel was wanted for the program's turn in it
   abbrev pub RoundIs : Journal → List Scripted → Moment → Type 0
   RoundIs journal devices new =
       IsStage new (round agent (record { journal = journal; devices = devices }))
-      ⊎ (new.journal ≡ (turns_from agent 0 journal devices).0 ++ End Memory ∷ [])
+      ⊎ EndsShort (turns_from agent 0 journal devices).0 new.journal
 
   -- what a round made: it added entries, of which none refuses a script, and went forward
   pub record RoundMade (old new : Moment) : Type 0 where
@@ -148,18 +149,20 @@ module _ (agent : Agent) where
     pub scripted : (devices : List Scripted) → AreScripted old devices → RoundIs old.journal devices new
     pub goes : progress old < progress new
 
-  -- after fewer rounds than so many, memory was wanted for the program's turn in the next; devices were
-  -- closed since
+  -- after fewer rounds than so many, memory or fuel was wanted for the program's turn in the next; devices
+  -- were closed since
   pub record Starved (count : ℕ) (stage : Stage) (journal : Journal) : Type 0 where
     pub before : ℕ
     pub earlier : before < count
     pub closings : Journal
     pub are_closings : IsTrue (list_all is_close closings)
+    pub answer : Answer
+    pub short : IsShort answer
     pub is :
         let last = rounds agent before stage in
-        journal ≡ (turns_from agent 0 last.journal last.devices).0 ++ End Memory ∷ closings
+        journal ≡ (turns_from agent 0 last.journal last.devices).0 ++ End answer ∷ closings
 
-  -- scripted devices had so many rounds, or memory was wanted in one of these
+  -- scripted devices had so many rounds, or memory or fuel was wanted in one of these
   abbrev pub RoundsAre : ℕ → Stage → Moment → Type 0
   RoundsAre count stage new = IsStage new (rounds agent count stage) ⊎ Starved count stage new.journal
 

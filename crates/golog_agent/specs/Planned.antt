@@ -1,5 +1,5 @@
 -- What the program is to do after the entries so far.
-use Rattle.std.specs.Prelude.{◌≡◌, ◌<◌, ◌≤◌, false, IsTrue, None, List, ◌∷◌}
+use Rattle.std.specs.Prelude.{◌≡◌, ◌<◌, ◌≤◌, false, IsTrue, List, ◌∷◌}
 use Rattle.golog_tree.specs.declared.agent.Agent.{Agent}
 use Rattle.golog_tree.specs.Nest.{nest}
 use Rattle.golog_semantics.specs.declared.Mode.TheVariants.{Must}
@@ -21,7 +21,6 @@ module _ (agent : Agent) (journal : Journal) where
     pub room : count journal < limit
     pub others : List Move
     pub first : moves agent (values_after agent journal) Must (left_after agent journal) ≡ step ∷ others
-    pub no_run : step.run ≡ None
     pub nests : nest step.left ≤ nest_limit
 
   abbrev pub PlanIs : Plan → Type 0

@@ -1,21 +1,21 @@
 -- A run without threads: each open device in order has one turn, and then the program has one, until the
 -- program has ended and each device is closed. (This project's own.)
-use Rattle.std.specs.Prelude.{◌≡◌, ◌⊎◌, ℕ, ◌<◌, nat_lt, Bool, true, false, IsTrue, IsSomeAnd, List, [], ◌∷◌, ◌++◌, length, map, slice_get}
+use Rattle.std.specs.Prelude.{◌≡◌, ◌⊎◌, ℕ, ◌<◌, nat_lt, Bool, true, false, IsTrue, IsSomeAnd, List, ◌∷◌, ◌++◌, length, map, slice_get}
 use Rattle.std.specs.List.{list_all, list_any}
 use Rattle.golog_tree.specs.declared.agent.Agent.{Agent}
 use Rattle.golog_semantics.specs.declared.journal.Entry.{Entry}
 use Rattle.golog_semantics.specs.declared.journal.Entry.TheVariants.{Close, End}
 use Rattle.golog_semantics.specs.declared.journal.Reason.TheVariants.{Refused}
-use Rattle.golog_semantics.specs.declared.journal.Answer.TheVariants.{Memory}
+use Rattle.golog_semantics.specs.declared.journal.Answer.{Answer}
 use Rattle.golog_semantics.specs.Journal.{Journal, is_open, is_close}
-use Rattle.golog_semantics.specs.OneMore.{with_runs}
 use Rattle.golog_semantics.specs.Online.{IsOnline}
 use Rattle.golog_semantics.specs.Inline.{rounds, round_limit}
-use Rattle.golog_semantics.specs.InlineText.{scripted}
+use Rattle.golog_semantics.specs.InlineText.{report_of, scripted}
 use Rattle.golog_semantics.specs.Dealt.{Script, Dealt}
 use Rattle.golog_journal.specs.Taken.{IsReady}
 use Rattle.golog_device.specs.Dealing.{DealtNow}
 use Rattle.golog_device.specs.Slots.{Standing, EachSlot, ChangesIf}
+use Rattle.golog_agent.specs.Short.{IsShort}
 
 -- each open device may have its first turn
 abbrev pub AreReady : Agent → Journal → Type 0
@@ -50,14 +50,14 @@ TellLeft standings scripts =
     (slot : ℕ) → slot < length scripts
     → IsSomeAnd (slice_get standings slot) (λ s. s.meaning.left ≡ slice_get scripts slot)
 
--- Behind these entries stand those of the rounds with these scripts; or memory was wanted, and then the
--- first of those stand, with the end and the closings behind it.
+-- Behind these entries stand those of the rounds with these scripts; or memory or fuel was wanted, and then
+-- the first of those stand, with the end and the closings behind it.
 abbrev pub FollowsRounds : Agent → List Script → Journal → Journal → Type 0
 FollowsRounds agent scripts old new =
     let whole = (rounds agent round_limit (record { journal = old; devices = map scripted scripts })).journal in
     (new ≡ whole)
-    ⊎ ((before later closings : Journal) × (whole ≡ before ++ later) × IsTrue (list_all is_close closings)
-    × (new ≡ before ++ End Memory ∷ closings))
+    ⊎ ((before later closings : Journal) × (answer : Answer) × IsShort answer × (whole ≡ before ++ later)
+    × IsTrue (list_all is_close closings) × (new ≡ before ++ End answer ∷ closings))
 
 -- what a run has made of the journal and the devices, all of which had begun: none refuses its script any
 -- more
@@ -65,7 +65,7 @@ pub record RunsToEnd (agent : Agent) (old new : Journal) (olds news : List Stand
   pub since : Journal
   pub grows : new ≡ old ++ since
   pub unrefused : list_any is_refusal since ≡ false
-  pub online : IsOnline agent (with_runs [] new)
+  pub online : IsOnline agent (report_of agent new)
   pub run : EachSlot (HasRun agent old new) olds news
   pub scripted : (scripts : List Script) → length scripts ≡ length agent.devices → TellLeft olds scripts
       → FollowsRounds agent scripts old new

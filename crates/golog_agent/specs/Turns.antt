@@ -4,9 +4,11 @@ use Rattle.golog_tree.specs.declared.agent.Agent.{Agent}
 use Rattle.golog_semantics.specs.declared.journal.Entry.{Entry}
 use Rattle.golog_semantics.specs.declared.journal.Entry.TheVariants.{End}
 use Rattle.golog_semantics.specs.declared.journal.Answer.{Answer}
-use Rattle.golog_semantics.specs.declared.journal.Answer.TheVariants.{Memory}
-use Rattle.golog_semantics.specs.Journal.{Journal, has_end, longest}
-use Rattle.golog_semantics.specs.Answer.{answer_after}
+use Rattle.golog_semantics.specs.declared.journal.Answer.TheVariants.{Fuel, Memory}
+use Rattle.golog_semantics.specs.Heavy.{heavy}
+use Rattle.golog_semantics.specs.Journal.{Journal, has_end, is_full, is_settled, longest}
+use Rattle.golog_semantics.specs.Progress.{values_after, left_after}
+use Rattle.golog_semantics.specs.Answer.{answer_after, is_unanswered}
 use Rattle.golog_journal.specs.Growing.{Sight, AreOthers, program}
 use Rattle.golog_journal.specs.Leading.{IsBehind}
 use Rattle.golog_agent.specs.declared.runner.Stepped.{Stepped}
@@ -57,9 +59,18 @@ pub record EndStood (old new : Sight) : Type 0 where
   pub ended : has_end old.seen ≡ true
   pub follows : Follows old new []
 
--- the answer is that of the program where memory was wanted, or after all entries before
+-- the fuel of a search block was wanted: the program is heavy, and goes on or waits for no result
+pub record LacksFuel (agent : Agent) (journal : Journal) (answer : Answer) : Type 0 where
+  pub is : answer ≡ Fuel
+  pub not_full : is_full journal ≡ false
+  pub answered : is_unanswered agent journal ≡ false
+  pub settled : IsTrue (is_settled agent journal)
+  pub weighs : IsTrue (heavy agent (values_after agent journal) (left_after agent journal))
+
+-- the answer is that of the program where memory or fuel was wanted, or after all entries before
 abbrev pub MayAnswer : Agent → Journal → Answer → Type 0
-MayAnswer agent journal answer = (answer ≡ Memory) ⊎ (answer_after agent journal ≡ Some answer)
+MayAnswer agent journal answer =
+    (answer ≡ Memory) ⊎ (LacksFuel agent journal answer ⊎ (answer_after agent journal ≡ Some answer))
 
 -- the end was committed
 pub record CommitsEnd (answer : Answer) (old new : Sight) : Type 0 where

@@ -5,6 +5,7 @@ mod laws;
 mod plan;
 mod rounds;
 mod runner;
+mod runs;
 
 pub use laws::leads_alone;
 pub use rounds::run_inline;

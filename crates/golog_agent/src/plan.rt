@@ -1,5 +1,6 @@
 //! What the program is to do next.
 ghost use Rattle.std.specs.Prelude.{◌≡◌};
+ghost use Rattle.golog_search.specs.Laws.{blocked_answer};
 ghost use Rattle.golog_agent.specs.Deciding.{plan_by};
 
 use golog_search::{Blocked, Decision};
@@ -16,30 +17,27 @@ pub(crate) enum Plan {
     Step(Move),
 }
 
-/// What the program is to do that decides so where no result is awaited. While some device may still post, a
-/// blocked program waits.
-pub(crate) fn planned(decision: Decision, quiet: bool) -> Plan
-    ensures { result ≡ plan_by quiet decision }
+/// What the program is to do that decides so where no result is awaited, and, if it is blocked, no device
+/// may post any more.
+pub(crate) fn planned(decision: Decision) -> Plan
+    ensures { result ≡ plan_by decision }
 {
     match decision {
         Decision::Final => Plan::End(Answer::Done),
         Decision::Deep => Plan::End(Answer::Deep),
         Decision::Fuel => Plan::End(Answer::Fuel),
         Decision::Step(step) => Plan::Step(step),
-        Decision::Blocked(blocked) => blocked_plan(blocked, quiet),
+        Decision::Blocked(blocked) => Plan::End(answer_of(blocked)),
     }
 }
 
-/// What a blocked program is to do.
-fn blocked_plan(blocked: Blocked, quiet: bool) -> Plan
-    ensures { result ≡ plan_by quiet (Decision.Blocked blocked) }
+/// The answer of a blocked program.
+fn answer_of(blocked: Blocked) -> Answer
+    ensures { result ≡ blocked_answer blocked }
 {
-    if !quiet {
-        return Plan::Wait;
-    }
     match blocked {
-        Blocked::Unknown => Plan::End(Answer::Unknown),
-        Blocked::Depth => Plan::End(Answer::Depth),
-        Blocked::Stuck => Plan::End(Answer::Stuck),
+        Blocked::Unknown => Answer::Unknown,
+        Blocked::Depth => Answer::Depth,
+        Blocked::Stuck => Answer::Stuck,
     }
 }

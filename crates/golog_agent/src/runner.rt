@@ -1,28 +1,32 @@
 //! What drives a program over a board.
-ghost use Rattle.std.specs.Prelude.{◌≡◌, ◌≢◌, ◌<◌, ◌≤◌, ◌⊎◌, ℕ, IfOk, IfSome, IsTrue, true, false, not, None, Some, [], ◌∷◌, ◌++◌, length, unwrap_or};
+ghost use Rattle.std.specs.Prelude.{◌≡◌, ◌≢◌, ◌<◌, ◌≤◌, ◌⊎◌, ℕ, IfOk, IfSome, IsTrue, true, false, None, Some, [], ◌∷◌, ◌++◌, length, unwrap_or};
 ghost use Rattle.std.specs.List.{list_any};
-ghost use Rattle.golog_semantics.specs.BlockFree.{has_block};
-ghost use Rattle.golog_semantics.specs.Journal.{has_end, is_open, count, limit, is_counted, is_full, is_settled, longest};
+ghost use Rattle.golog_semantics.specs.Blocks.{moves};
+ghost use Rattle.golog_semantics.specs.Journal.{has_end, is_open, count, limit, is_counted, is_full, is_quiet, is_settled, longest};
 ghost use Rattle.golog_semantics.specs.Answer.{is_unanswered};
-ghost use Rattle.golog_semantics.specs.OneMore.{with_runs};
-ghost use Rattle.golog_semantics.specs.Online.{IsOnlineSoFar, fault_at};
-ghost use Rattle.golog_semantics.specs.Progress.{left_after};
+ghost use Rattle.golog_semantics.specs.InlineText.{report_of};
+ghost use Rattle.golog_semantics.specs.Online.{IsOnlineSoFar};
+ghost use Rattle.golog_semantics.specs.Progress.{values_after, left_after};
+ghost use Rattle.golog_semantics.specs.Search.{final};
+ghost use Rattle.golog_semantics.specs.Ways.{is_empty};
 ghost use Rattle.golog_semantics.specs.WellFormed.{WellFormed};
 ghost use Rattle.golog_journal.specs.Boards.{IsBoardList};
 ghost use Rattle.golog_journal.specs.Commits.{IsOfProgram};
 ghost use Rattle.golog_journal.specs.Growing.{program};
 ghost use Rattle.golog_journal.specs.Leading.{IsBehind, is_of_program};
-ghost use Rattle.golog_agent.specs.Keeping.{awaited_by, ended_by, EndsBy, IsUnderWay};
+ghost use Rattle.golog_agent.specs.Keeping.{awaited_by, begun_by, ended_by, EndsBy, IsUnderWay, KeepsRules};
 ghost use Rattle.golog_agent.specs.Planned.{PlanIs, IsNextStep};
+ghost use Rattle.golog_agent.specs.Run.{is_step_entry};
 ghost use Rattle.golog_agent.specs.UnderWay.{entry_for};
 ghost use Rattle.golog_agent.specs.Turns.{AttemptIs, CommitGives, Follows, IsCurrent, IsOver, MayAnswer, TurnIs};
 
 use crate::plan::{Plan, planned};
+use crate::runs::Runs;
 use golog_base::{List, NoMemory};
 use golog_journal::{Board, Commit, Journal, Lead, Led, Report};
 use golog_progress::{State, start};
-use golog_search::decide;
-use golog_semantics::{Answer, Entry, Move};
+use golog_search::{decide_blocked, decide_step};
+use golog_semantics::{Answer, Entry, Mode, Move};
 use golog_tree::{Agent, Label, Prog, copy_prog};
 use std::alloc::Global;
 use std::marker::Model;
@@ -38,8 +42,8 @@ pub enum Stepped {
     Ended(Answer),
 }
 
-/// Drives the program of an agent without search blocks: it copies what devices post, and commits what it
-/// decides at the whole list that it has seen. Contracts see it as the agent and the entries so far.
+/// Drives the program of an agent: it copies what devices post, and commits what it decides at the whole list
+/// that it has seen. Contracts see it as the agent and the entries so far.
 #[derive(Drop)]
 pub struct Runner<'a> {
     agent: &'a Agent,
@@ -53,6 +57,8 @@ pub struct Runner<'a> {
     awaited: Option<u8>,
     /// How the program ended.
     ended: Option<Answer>,
+    /// The runs that its steps began.
+    runs: Runs,
 }
 
 impl<'a> Model for Runner<'a> {
@@ -73,7 +79,7 @@ impl<'a> Model for Runner<'a> {
 
     ghost invariant = { λ runner.
         (runner.journal.agent ≡ runner.agent.now)
-        × KeepsUp runner.agent.now runner.journal.entries runner.state runner.left runner.awaited runner.ended };
+        × KeepsUp runner.agent.now runner.journal.entries runner.state runner.left runner.awaited runner.ended runner.runs };
 }
 
 /// The device whose result is still to come after one more entry.
@@ -126,15 +132,15 @@ fn replace(left: &mut Prog, new: Option<Prog>)
 }
 
 impl<'a> Runner<'a> {
-    /// A runner of this agent that has seen nothing, with room for the longest journal.
+    /// A runner of this agent that has seen nothing, with room for the longest journal and its runs.
     pub fn new(alloc: Global, agent: &'a Agent) -> Result<Runner<'a>, NoMemory>
-        requires formed { WellFormed agent.now }
-        requires blockless { IsTrue (not (has_block agent.now agent.now.main)) }
+        requires { WellFormed agent.now }
         ensures { IfOk result (λ runner. runner ≡ record { agent = agent.now; list = [] }) }
     {
         let journal = Journal::new(alloc, agent)?;
         let state = start(alloc, agent)?;
         let left = copy_prog(alloc, &agent.main)?;
+        let runs = Runs::new(alloc)?;
         Ok(Runner {
             agent,
             alloc,
@@ -143,19 +149,19 @@ impl<'a> Runner<'a> {
             left,
             awaited: None,
             ended: None,
+            runs,
         })
     }
 
-    /// The report of the run so far, an online execution so far: without search blocks it begins no run.
-    /// Takes no memory.
+    /// The report of the run so far, with the runs that its steps began: an online execution so far. Takes no
+    /// memory.
     pub fn report(self) -> Report
-        ensures entries { result ≡ with_runs [] self.entry.list }
+        ensures entries { result ≡ report_of self.entry.agent self.entry.list }
         ensures online { IsOnlineSoFar self.entry.agent result }
     {
-        let runs = List::new(self.alloc);
         Report {
             entries: self.journal.into_entries(),
-            runs,
+            runs: self.runs.into_list(),
         }
     }
 
@@ -175,17 +181,21 @@ impl<'a> Runner<'a> {
         self.journal.len()
     }
 
-    // Takes one more entry, which keeps the rules, and the program left after it, where that is another.
-    fn take(&mut self, entry: Entry, left: Option<Prog>)
+    // Takes one more entry, which keeps the rules, the program left after it, where that is another, and the
+    // run that begins with it.
+    fn take(&mut self, entry: Entry, left: Option<Prog>, run: Option<List<Label>>)
         requires lawful { IsBoardList self.old.agent (self.old.list ++ entry ∷ []) }
-        requires online { fault_at self.old.agent None [] self.old.list entry ≡ None }
+        requires room { IsTrue (is_step_entry entry) → count self.old.list < limit }
+        requires online { KeepsRules self.old.agent self.old.list entry }
         requires left { left_after self.old.agent (self.old.list ++ entry ∷ [])
             ≡ unwrap_or left (left_after self.old.agent self.old.list) }
+        requires run { run ≡ begun_by self.old.agent self.old.list entry }
         ensures { self.new ≡ record { agent = self.old.agent; list = self.old.list ++ entry ∷ [] } }
     {
         let awaited = awaited_after(&self.journal, self.awaited, entry);
         let ended = ended_after(self.ended, entry);
         self.state.roll(self.agent, &[entry]);
+        self.runs.keep(self.journal.len(), run);
         self.journal.add(entry);
         replace(&mut self.left, left);
         self.awaited = awaited;
@@ -199,7 +209,7 @@ impl<'a> Runner<'a> {
         ensures { self.new ≡ record { agent = self.old.agent; list = self.old.list ++ entries.now } }
     {
         for entry in entries {
-            self.take(*entry, None);
+            self.take(*entry, None, None);
         }
     }
 
@@ -231,8 +241,28 @@ impl<'a> Runner<'a> {
         requires room { is_full self.now.list ≡ false }
         ensures { PlanIs self.now.agent self.now.list result }
     {
-        match decide(self.alloc, self.agent, &self.left, &self.state) {
-            Ok(decision) => planned(decision, self.journal.is_quiet()),
+        match decide_step(self.alloc, self.agent, &self.left, &self.state) {
+            Ok(Some(decision)) => planned(decision),
+            Ok(None) if self.journal.is_quiet() => self.blocked_plan(),
+            Ok(None) => Plan::Wait,
+            Err(_) => Plan::End(Answer::Memory),
+        }
+    }
+
+    // What the program is to do that neither certainly ends nor steps, where no device may post any more.
+    fn blocked_plan(&self) -> Plan
+        requires settled { IsTrue (is_settled self.now.agent self.now.list) }
+        requires answered { is_unanswered self.now.agent self.now.list ≡ false }
+        requires room { is_full self.now.list ≡ false }
+        requires quiet { IsTrue (is_quiet self.now.agent self.now.list) }
+        requires unended { final self.now.agent (values_after self.now.agent self.now.list) Mode.Must
+            (left_after self.now.agent self.now.list) ≡ false }
+        requires stepless { IsTrue (is_empty (moves self.now.agent (values_after self.now.agent self.now.list)
+            Mode.Must (left_after self.now.agent self.now.list))) }
+        ensures { PlanIs self.now.agent self.now.list result }
+    {
+        match decide_blocked(self.alloc, self.agent, &self.left, &self.state) {
+            Ok(decision) => planned(decision),
             Err(_) => Plan::End(Answer::Memory),
         }
     }
@@ -254,14 +284,21 @@ impl<'a> Runner<'a> {
 
     // Commits what was decided for all that it has seen, and takes it into its copy. Nothing where entries
     // came before it.
-    fn commit<B: Board>(&mut self, board: &mut B, entry: Entry, left: Option<Prog>) -> bool
+    fn commit<B: Board>(
+        &mut self,
+        board: &mut B,
+        entry: Entry,
+        left: Option<Prog>,
+        run: Option<List<Label>>,
+    ) -> bool
         requires current { IsCurrent self.old (B.sight board.old) }
         requires goes_on { has_end self.old.list ≡ false }
         requires of_program { IsOfProgram self.old.agent self.old.list 0 entry entry }
         requires room { IsTrue (is_counted entry) → count self.old.list < limit }
-        requires online { fault_at self.old.agent None [] self.old.list entry ≡ None }
+        requires online { KeepsRules self.old.agent self.old.list entry }
         requires left { left_after self.old.agent (self.old.list ++ entry ∷ [])
             ≡ unwrap_or left (left_after self.old.agent self.old.list) }
+        requires run { run ≡ begun_by self.old.agent self.old.list entry }
         ensures same { self.new.agent ≡ self.old.agent }
         ensures commits { CommitGives entry (B.sight board.old) (B.sight board.new) result }
         ensures behind { IsOver self.new (B.sight board.new) }
@@ -270,7 +307,7 @@ impl<'a> Runner<'a> {
         let at = self.len();
         match board.commit(at, entry) {
             Commit::Taken => {
-                self.take(entry, left);
+                self.take(entry, left, run);
                 true
             }
             Commit::Moved { .. } => false,
@@ -287,7 +324,7 @@ impl<'a> Runner<'a> {
         ensures behind { IsOver self.new (B.sight board.new) }
         ensures whole { IfSome result (λ _. self.new.list ≡ (B.sight board.new).seen) }
     {
-        if self.commit(board, Entry::End { answer }, None) {
+        if self.commit(board, Entry::End { answer }, None, None) {
             Some(Stepped::Ended(answer))
         } else {
             None
@@ -305,7 +342,7 @@ impl<'a> Runner<'a> {
         ensures whole { IfSome result (λ _. self.new.list ≡ (B.sight board.new).seen) }
     {
         self.keeps_rules();
-        if self.commit(board, entry_of(step.label), Some(step.left)) {
+        if self.commit(board, entry_of(step.label), Some(step.left), step.run) {
             Some(Stepped::Step)
         } else {
             None
@@ -347,8 +384,9 @@ impl<'a> Runner<'a> {
     /// others added entries meanwhile, it copies and decides again. `Step` exactly where it committed an
     /// action or a test; `Waiting` exactly where it committed nothing and no end stands, and then the
     /// program waits for a device at all that was seen; `Ended` exactly where the end stands, with its
-    /// answer. The end is the answer after all entries before it, or `Memory` for want of memory. Its copy
-    /// is then all that was seen, and an online execution so far.
+    /// answer. The end is the answer after all entries before it, or `Memory` for want of memory, or `Fuel`
+    /// where the program is heavy and the fuel of a search block was wanted. Its copy is then all that was
+    /// seen, and an online execution so far.
     pub fn turn<B: Board>(&mut self, board: &mut B) -> Stepped
         requires agent { self.old.agent ≡ (B.sight board.old).agent }
         requires held { (B.sight board.old).holds program ≡ true }
@@ -356,7 +394,7 @@ impl<'a> Runner<'a> {
         ensures same { self.new.agent ≡ self.old.agent }
         ensures whole { self.new.list ≡ (B.sight board.new).seen }
         ensures turn { TurnIs (B.sight board.old) (B.sight board.new) result }
-        ensures online { IsOnlineSoFar self.new.agent (with_runs [] self.new.list) }
+        ensures online { IsOnlineSoFar self.new.agent (report_of self.new.agent self.new.list) }
     {
         loop {
             if let Some(stepped) = self.attempt(board) {

@@ -1,5 +1,5 @@
 -- What a reader of files answers, stage by stage.
-use Rattle.std.proofs.Common.{◌≡◌, ℕ, true, false, List, sym, ap, ◌∙◌, Result, Ok, Err}
+use Rattle.std.proofs.Common.{◌≡◌, ℕ, List, Result, Ok, Err}
 use Rattle.golog_form.specs.declared.form.Form.{Form}
 use Rattle.golog_form.specs.declared.fault.FormFault.{FormFault}
 use Rattle.golog_form.specs.declared.fault.FormFault.TheVariants as form
@@ -19,20 +19,15 @@ use Rattle.golog_check.specs.Check.{Checks}
 use Rattle.golog_check.specs.Order.{all_rows, IsLeastRow as IsLeastChecked}
 use Rattle.golog_file.specs.declared.fault.AgentFault.{AgentFault}
 use Rattle.golog_file.specs.declared.fault.AgentFault.TheVariants.{Refused, Memory}
-use Rattle.golog_file.specs.declared.fault.TheConstants.{UNBUILT}
 use Rattle.golog_file.specs.Faults.{fault_of_form, fault_of_theory, fault_of_check}
-use Rattle.golog_file.specs.Built.{is_unbuilt}
-use Rattle.golog_file.specs.Spelled.{DraftSpells, DraftRefuses, DraftAnswers, of_check, of_stage, SpellsDraft, of_theory, of_program, of_draft, FormAnswers, of_bytes, of_form, Reads}
+use Rattle.golog_file.specs.Spelled.{DraftSpells, DraftAnswers, SpellsDraft, of_theory, of_program, of_draft, FormAnswers, of_bytes, of_form, Reads}
 
 module _ (theory : DraftTheory) (program : DraftProgram) where
-  pub spells : (agent : Agent) → Checks (Ok agent) theory program → IsLeastChecked {A = Agent} (Ok agent) (all_rows theory program) → is_unbuilt agent ≡ false → DraftSpells theory program agent
-  spells agent c l f = record { unrefused = l; built = f; is = c.1 }
-
-  pub later : (agent : Agent) → Checks (Ok agent) theory program → IsLeastChecked {A = Agent} (Ok agent) (all_rows theory program) → is_unbuilt agent ≡ true → DraftRefuses theory program UNBUILT 0
-  later agent c l f = of_stage l (ap is_unbuilt (sym c.1) ∙ f)
+  pub spells : (agent : Agent) → Checks (Ok agent) theory program → IsLeastChecked {A = Agent} (Ok agent) (all_rows theory program) → DraftSpells theory program agent
+  spells agent c l = record { unrefused = l; is = c.1 }
 
   pub refused : (fault : CheckFault) → IsLeastChecked {A = Agent} (Err fault) (all_rows theory program) → DraftAnswers theory program (Err (fault_of_check fault))
-  refused (check.Refused code at) l = of_check code at l
+  refused (check.Refused code at) l = l
   refused check.Memory l = tt
 
 pub draft-read : (form : Form) (theory : DraftTheory) (program : DraftProgram) (result : Result Agent AgentFault) → SpellsDraft form theory program → DraftAnswers theory program result → FormAnswers result form

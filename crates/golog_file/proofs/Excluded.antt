@@ -1,5 +1,5 @@
 -- Bytes that spell an agent are not refused.
-use Rattle.std.proofs.Common.{◌≡◌, ℕ, true, false, List, length, refl, sym, ap, ◌∙◌, subst, arith, inl, inr, Result, Ok, Err}
+use Rattle.std.proofs.Common.{◌≡◌, ℕ, List, length, refl, sym, ap, ◌∙◌, subst, arith, inl, inr, Result, Ok, Err}
 use Rattle.golog_form.specs.declared.form.Form.{Form}
 use Rattle.golog_form.specs.declared.fault.FormFault.TheVariants.{Refused as FormRefused}
 use Rattle.golog_form.specs.Gives.{Fault}
@@ -17,8 +17,7 @@ use Rattle.golog_theory.specs.Items.{theory_of}
 use Rattle.golog_rows.specs.Order.{IsLeast, Fits as FitsIn}
 use Rattle.golog_rows.proofs.Chain.{none-fits}
 use Rattle.golog_prog.specs.Items.{program_of}
-use Rattle.golog_file.specs.Built.{is_unbuilt}
-use Rattle.golog_file.specs.Spelled.{DraftSpells, DraftRefuses, of_check, of_stage, FormSpells, FormRefuses, of_theory, of_program, of_draft, SpellsForm, SpellsAgent, IsFirstRefusal, of_bytes, of_form}
+use Rattle.golog_file.specs.Spelled.{DraftSpells, DraftRefuses, FormSpells, FormRefuses, of_theory, of_program, of_draft, SpellsForm, SpellsAgent, IsFirstRefusal, of_bytes, of_form}
 
 -- ---- forms
 
@@ -47,8 +46,7 @@ unfit-rows reading x e code at h =
     none-fits reading.rows (reading.agrees ∙ ap refusal_in e) code at c.0 c.1 c.2
 
 draft-excluded : (theory : DraftTheory) (program : DraftProgram) (agent : Agent) → DraftSpells theory program agent → (code at : ℕ) → DraftRefuses theory program code at → ⊥
-draft-excluded theory program agent s _ _ (of_check code at least) = s.unrefused code at least.fits
-draft-excluded theory program agent s _ _ (of_stage none unbuilt) = let k : false ≡ true = sym s.built ∙ ap is_unbuilt s.is ∙ unbuilt in cc
+draft-excluded theory program agent s code at least = s.unrefused code at least.fits
 
 pub theory-same : (form : Form) (one other : DraftTheory) → (theory_of form).outcome ≡ Ok one → (theory_of form).outcome ≡ Ok other → one ≡ other
 theory-same form one other e h = let k : Ok one ≡ Ok other = sym e ∙ h in cc

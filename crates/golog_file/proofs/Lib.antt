@@ -1,4 +1,3 @@
-pub mod Unblocked
 pub mod Answers
 pub mod Excluded
 mod Asked

@@ -1,5 +1,5 @@
 -- Laws of agents that are read.
-use Rattle.std.specs.Prelude.{◌≡◌, ℕ, List, Ok, false}
+use Rattle.std.specs.Prelude.{◌≡◌, ℕ, List, Ok}
 use Rattle.golog_form.specs.declared.form.Form.{Form}
 use Rattle.golog_form.specs.Spelling.{Spells}
 use Rattle.golog_tree.specs.declared.agent.Agent.{Agent}
@@ -7,7 +7,6 @@ use Rattle.golog_tree.specs.declared.draft.DraftTheory.{DraftTheory}
 use Rattle.golog_tree.specs.declared.draft_cond.DraftCond.{DraftCond}
 use Rattle.golog_draft.specs.Drafts.{CondKeeps, AgentCondKeeps}
 use Rattle.golog_theory.specs.Items.{theory_of}
-use Rattle.golog_file.specs.Built.{is_unbuilt, IsBuilt}
 use Rattle.golog_file.specs.Spelled.{SpellsAgent, IsFirstRefusal}
 
 -- bytes that spell an agent have no first refusal
@@ -27,7 +26,3 @@ ReadConditionsStayKept =
     (bytes : List ℕ) (agent : Agent) → SpellsAgent bytes agent → (form : Form) → Spells bytes form
     → (theory : DraftTheory) → (theory_of form).outcome ≡ Ok theory
     → (cond : DraftCond) → CondKeeps theory cond → AgentCondKeeps agent cond
-
--- where nothing is unbuilt, the program reaches no search block
-abbrev pub AllIsBuilt : Type 0
-AllIsBuilt = (agent : Agent) → is_unbuilt agent ≡ false → IsBuilt agent

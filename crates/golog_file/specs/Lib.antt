@@ -1,4 +1,3 @@
-pub mod Built
 pub mod Faults
 pub mod Spelled
 pub mod Laws

@@ -1,8 +1,7 @@
 -- The agent that the bytes of a file spell, and the first refusal of bytes that spell none.
 --
--- A file is read in stages: the form, the theory, the program, the check of both, and then whether all that
--- stands in the file can be run.
-use Rattle.std.specs.Prelude.{◌≡◌, ◌≤◌, ◌^◌, ℕ, IsTrue, IsFalse, List, length, Result, Ok, Err}
+-- A file is read in stages: the form, the theory, the program, and the check of both.
+use Rattle.std.specs.Prelude.{◌≡◌, ◌≤◌, ◌^◌, ℕ, List, length, Result, Ok, Err}
 use Rattle.golog_form.specs.declared.form.Form.{Form}
 use Rattle.golog_form.specs.declared.fault.FormFault.TheVariants.{Refused as FormRefused}
 use Rattle.golog_form.specs.Spelling.{Spells}
@@ -18,8 +17,6 @@ use Rattle.golog_check.specs.Check.{agent_of}
 use Rattle.golog_check.specs.Order.{all_rows, IsLeastRow}
 use Rattle.golog_file.specs.declared.fault.AgentFault.{AgentFault}
 use Rattle.golog_file.specs.declared.fault.AgentFault.TheVariants.{Refused, Memory}
-use Rattle.golog_file.specs.declared.fault.TheConstants.{UNBUILT}
-use Rattle.golog_file.specs.Built.{is_unbuilt}
 
 module _ (theory : DraftTheory) (program : DraftProgram) where
   -- no row of the check fits
@@ -29,14 +26,11 @@ module _ (theory : DraftTheory) (program : DraftProgram) where
   -- the theory and the program make the agent
   pub record DraftSpells (agent : Agent) : Type 0 where
     pub unrefused : IsUnrefused
-    pub built : IsFalse (is_unbuilt agent)
     pub is : agent ≡ agent_of theory program
 
-  -- their first refusal: the least row of the check that fits, and else that something can't be run
-  pub data DraftRefuses : ℕ → ℕ → Type 0 where
-    of_check : (code at : ℕ) → IsLeastRow {A = Agent} (Err (CheckRefused code at)) (all_rows theory program)
-        → DraftRefuses code at
-    of_stage : IsUnrefused → IsTrue (is_unbuilt (agent_of theory program)) → DraftRefuses UNBUILT 0
+  -- their first refusal: the least row of the check that fits
+  abbrev pub DraftRefuses : ℕ → ℕ → Type 0
+  DraftRefuses code at = IsLeastRow {A = Agent} (Err (CheckRefused code at)) (all_rows theory program)
 
   -- the agent, or the first refusal, unless memory ran out
   abbrev pub DraftAnswers : Result Agent AgentFault → Type 0

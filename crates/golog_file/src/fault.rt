@@ -8,9 +8,6 @@ use golog_form::FormFault;
 use golog_theory::TheoryFault;
 use thiserror::Error;
 
-/// The code of a file that spells an agent of which a part is not built yet.
-pub const UNBUILT: u8 = 29;
-
 /// Why the bytes of a file were not read as an agent.
 #[derive(Debug, Drop, Error)]
 pub enum AgentFault {

@@ -1,4 +1,4 @@
-ghost use Rattle.golog_file.specs.Laws.{AllIsBuilt, OneAgentIsSpelled, ReadConditionsStayKept, SpelledIsUnrefused};
+ghost use Rattle.golog_file.specs.Laws.{OneAgentIsSpelled, ReadConditionsStayKept, SpelledIsUnrefused};
 
 /// Bytes that spell an agent are not refused.
 pub fn spelled_is_unrefused()
@@ -14,9 +14,4 @@ pub fn one_agent_is_spelled()
 /// `check_condition` may take it.
 pub fn read_conditions_stay_kept()
     ensures { ReadConditionsStayKept }
-{}
-
-/// An agent in whose programs no search block stands reaches none by its program.
-pub fn all_is_built()
-    ensures { AllIsBuilt }
 {}

@@ -5,28 +5,15 @@ ghost use Rattle.golog_draft.specs.DraftOrder.{TheoryInOrder, ProgramInOrder};
 ghost use Rattle.golog_draft.specs.Drafts.{TheoryKeeps, ProgramKeeps};
 ghost use Rattle.golog_semantics.specs.WellFormed.{WellFormed};
 ghost use Rattle.golog_theory.specs.Items.{theory_of as spec_theory_of};
-ghost use Rattle.golog_file.specs.declared.fault.AgentFault.TheVariants.{Refused};
-ghost use Rattle.golog_file.specs.Built.{IsBuilt};
 ghost use Rattle.golog_file.specs.Spelled.{DraftAnswers, FormAnswers, Reads};
 
-use crate::built::is_unbuilt;
-use crate::fault::{AgentFault, UNBUILT};
+use crate::fault::AgentFault;
 use golog_check::check;
 use golog_form::{Form, read_form};
 use golog_prog::program_of;
 use golog_theory::theory_of;
 use golog_tree::{Agent, DraftProgram, DraftTheory};
 use std::alloc::Global;
-
-/// The refusal of a file in which something can't be run yet.
-fn unbuilt() -> AgentFault
-    ensures { result ≡ Refused UNBUILT 0 }
-{
-    AgentFault::Refused {
-        code: UNBUILT,
-        at: 0,
-    }
-}
 
 /// The agent that a theory and a program make, which were read from one file.
 fn agent_of(
@@ -40,17 +27,9 @@ fn agent_of(
     requires program_in_order { ProgramInOrder program.now }
     ensures answer { DraftAnswers theory.now program.now result }
     ensures formed { IfOk result WellFormed }
-    ensures built { IfOk result IsBuilt }
 {
     match check(alloc, theory, program) {
-        Ok(agent) => {
-            if is_unbuilt(&agent) {
-                drop(agent);
-                Err(unbuilt())
-            } else {
-                Ok(agent)
-            }
-        }
+        Ok(agent) => Ok(agent),
         Err(fault) => Err(AgentFault::from(fault)),
     }
 }
@@ -63,7 +42,6 @@ fn agent_over(alloc: Global, theory: &DraftTheory, form: &Form) -> Result<Agent,
     requires in_order { TheoryInOrder theory.now }
     ensures answer { FormAnswers result form.now }
     ensures formed { IfOk result WellFormed }
-    ensures built { IfOk result IsBuilt }
 {
     match program_of(alloc, theory, form) {
         Ok(program) => {
@@ -80,7 +58,6 @@ fn agent_in(alloc: Global, form: &Form) -> Result<Agent, AgentFault>
     requires { IsInOrder form.now }
     ensures answer { FormAnswers result form.now }
     ensures formed { IfOk result WellFormed }
-    ensures built { IfOk result IsBuilt }
 {
     match theory_of(alloc, form) {
         Ok(theory) => {
@@ -94,14 +71,12 @@ fn agent_in(alloc: Global, form: &Form) -> Result<Agent, AgentFault>
 
 /// The agent that the bytes of a file spell, or the first refusal, with its code and its place. It is
 /// looked for in stages, and in each the least place counts, and there the least code: 1 to 6, the bytes
-/// spell no form; 20 to 26, the form spells no theory; 20 to 27, it spells no program over the theory; 30
-/// to 38, the theory and the program are not well-formed; and 29 at 0, the file has a `search` form, which
-/// can't be run yet. `Memory` where memory runs out.
+/// spell no form; 20 to 26, the form spells no theory; 20 to 27, it spells no program over the theory; and
+/// 30 to 38, the theory and the program are not well-formed. `Memory` where memory runs out.
 pub fn read_agent(alloc: Global, bytes: &[u8]) -> Result<Agent, AgentFault>
     ensures answer { Reads result bytes.now }
     // What a run asks of its agent.
     ensures formed { IfOk result WellFormed }
-    ensures built { IfOk result IsBuilt }
 {
     match read_form(alloc, bytes) {
         Ok(form) => {

@@ -55,22 +55,22 @@ run_status Memory = inl refl
 -- ---- what comes of an agent
 
 module _ (held : Option (List HeldFile)) (first now : ℕ) (olds news : List Standing) (agent : Agent) where
-  agent-fault : (named : Option Text) → ComesOfAgent held first now olds news agent named (ReadFault DevicesFile)
+  pub agent-fault : (named : Option Text) → ComesOfAgent held first now olds news agent named (ReadFault DevicesFile)
       → (name : Text) × (named ≡ Some name) × IsUnread held name first now
   agent-fault None comes = absurd comes
   agent-fault (Some name) (unread, same) = (name, refl, unread)
 
-  agent-refusal : (named : Option Text) (text : Text) → ComesOfAgent held first now olds news agent named (Refused DevicesFile text)
+  pub agent-refusal : (named : Option Text) (text : Text) → ComesOfAgent held first now olds news agent named (Refused DevicesFile text)
       → (name : Text) × (named ≡ Some name) × FileHas held name (λ bytes. Tells DevicesFile (RefusesScripts agent bytes) text)
   agent-refusal None text comes = absurd comes
   agent-refusal (Some name) text (refused, same) = (name, refl, refused)
 
-  agent-run : (named : Option Text) (text : Text) (answer : Answer) → ComesOfAgent held first now olds news agent named (Ran text answer)
+  pub agent-run : (named : Option Text) (text : Text) (answer : Answer) → ComesOfAgent held first now olds news agent named (Ran text answer)
       → RunsScripts held first now olds news agent named text (answer_status answer)
   agent-run None text answer comes = comes
   agent-run (Some name) text answer comes = comes
 
-  agent-no-words : (named : Option Text) → ComesOfAgent held first now olds news agent named WordsRefused → ⊥
+  pub agent-no-words : (named : Option Text) → ComesOfAgent held first now olds news agent named WordsRefused → ⊥
   agent-no-words None comes = comes
   agent-no-words (Some name) comes = comes
 
@@ -81,7 +81,7 @@ held_or_not None name P none has = none
 held_or_not (Some files) name P none has = rw none at has
 
 module _ (name bytes : Text) (before after : Outside) (read : IsRead name bytes before after) where
-  read_has : (P : Text → Type 0) → FileHas before.held name P → P bytes
+  pub read_has : (P : Text → Type 0) → FileHas before.held name P → P bytes
   read_has P has = rw (read.told, read.has) at has
 
   read_is_there : HasNone before.held name → ⊥
@@ -90,7 +90,7 @@ module _ (name bytes : Text) (before after : Outside) (read : IsRead name bytes 
       let there : bytes_of read.files name ≡ Some bytes = read.has in
       cc
 
-  no_fault : IsUnread before.held name before.file_faults after.file_faults → ⊥
+  pub no_fault : IsUnread before.held name before.file_faults after.file_faults → ⊥
   no_fault (inl none) = read_is_there none
   no_fault (inr rose) = read.unfailed rose
 
@@ -248,7 +248,7 @@ module _ (status : ℕ) (names : Names) (before after : Outside) where
   abbrev RefusesAgent : Text → Text → Type 0
   RefusesAgent text bytes = Tells AgentFile (IsFirstRefusal bytes) text
 
-  spelled-or-refused : (text : Text) → FileHas before.held names.agent (RefusesAgent text) → (agent : Agent) → GivesAgent names before after agent → ⊥
+  pub spelled-or-refused : (text : Text) → FileHas before.held names.agent (RefusesAgent text) → (agent : Agent) → GivesAgent names before after agent → ⊥
   spelled-or-refused text has agent gives =
       let refuses = read_has names.agent gives.bytes before after gives.read (RefusesAgent text) has in
       excluded gives.bytes agent gives.spells refuses.code refuses.at refuses.refused
@@ -271,7 +271,7 @@ module _ (status : ℕ) (names : Names) (before after : Outside) where
     unrefused : (bytes : Text) (code at : ℕ) → IsRead names.agent bytes before after → IsFirstRefusal bytes code at → ⊥
     unrefused bytes code at read refused = excluded bytes one (read_so names.agent bytes before after read (λ told. SpellsAgent told one) reads) code at refused
 
-    the-one : (agent : Agent) → GivesAgent names before after agent → agent ≡ one
+    pub the-one : (agent : Agent) → GivesAgent names before after agent → agent ≡ one
     the-one agent gives = one-agent gives.bytes agent one gives.spells (read_so names.agent gives.bytes before after gives.read (λ told. SpellsAgent told one) reads)
 
     of-agent : ((name : Text) → names.devices ≡ Some name → HasNone before.held name → Answers status 4 before after)
@@ -292,7 +292,7 @@ module _ (status : ℕ) (names : Names) (before after : Outside) where
     named-same : (one other : Text) → names.devices ≡ Some one → names.devices ≡ Some other → one ≡ other
     named-same one other e h = let k : Some one ≡ Some other = sym e ∙ h in cc
 
-    gives-named : (name : Text) (listed : List Script) → names.devices ≡ Some name → GivesScripts names.devices before after one listed
+    pub gives-named : (name : Text) (listed : List Script) → names.devices ≡ Some name → GivesScripts names.devices before after one listed
         → (bytes : Text) × IsRead name bytes before after × SpellsScripts one bytes listed
     gives-named name listed named gives = subst (λ o. GivesScripts o before after one listed) named gives
 
@@ -308,7 +308,7 @@ module _ (status : ℕ) (names : Names) (before after : Outside) where
     abbrev RefusesThem : Text → Text → Type 0
     RefusesThem text bytes = Tells DevicesFile (RefusesScripts one bytes) text
 
-    spelled-once : (bytes : Text) (listed : List Script) (code at : ℕ) → SpellsScripts one bytes listed → RefusesScripts one bytes code at → ⊥
+    pub spelled-once : (bytes : Text) (listed : List Script) (code at : ℕ) → SpellsScripts one bytes listed → RefusesScripts one bytes code at → ⊥
     spelled-once bytes listed _ _ spells (too_long long) = let small = spells.small in absurd (omega (arith, small, long))
     spelled-once bytes listed _ _ spells (of_row code at small refused row) = let k : Ok listed ≡ Err (code, at) = sym spells.spelled ∙ refused in absurd (cc)
 
@@ -330,7 +330,7 @@ module _ (status : ℕ) (names : Names) (before after : Outside) where
     scripts-there None listed reads name e = absurd (cc)
     scripts-there (Some other) listed reads name e = let k : other ≡ name = cc in subst (λ x. Reads before.held x (λ bytes. SpellsScripts one bytes listed)) k reads
 
-    the-scripts : (named : Option Text) (a b : List Script) → ReadsScripts before.held one named a → GivesScripts named before after one b → b ≡ a
+    pub the-scripts : (named : Option Text) (a b : List Script) → ReadsScripts before.held one named a → GivesScripts named before after one b → b ≡ a
     the-scripts None a b reads gives = gives ∙ sym reads
     the-scripts (Some name) a b reads (bytes, read, spells) =
         same-scripts bytes b a spells (read_so name bytes before after read (λ told. SpellsScripts one told a) reads)

@@ -1,8 +1,12 @@
 pub mod InputLemmas
 pub mod OutcomeLemmas
 pub mod ExactLemmas
+pub mod InWorlds
+pub mod CutShort
 pub mod Begun
 pub mod Inlined
+mod RunsBegun
+mod RunsFit
 pub mod Reported
 pub mod Fresh
 pub mod Searchless

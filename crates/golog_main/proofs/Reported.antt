@@ -8,26 +8,26 @@ use Rattle.golog_tree.specs.declared.agent.Agent.{Agent}
 use Rattle.golog_semantics.specs.declared.journal.Entry.{Entry}
 use Rattle.golog_semantics.specs.declared.journal.Entry.TheVariants.{End}
 use Rattle.golog_semantics.specs.declared.journal.Answer.{Answer}
-use Rattle.golog_semantics.specs.declared.journal.Answer.TheVariants.{Memory}
 use Rattle.golog_semantics.specs.declared.journal.Report.{Report}
-use Rattle.golog_semantics.specs.BlockFree.{has_block}
 use Rattle.golog_semantics.specs.Journal.{Journal, devices, has_end, is_end, is_close, is_open}
-use Rattle.golog_semantics.specs.OneMore.{with_runs}
 use Rattle.golog_semantics.specs.Inline.{rounds, inline_journal, Scripted}
-use Rattle.golog_semantics.specs.InlineText.{scripted}
+use Rattle.golog_semantics.specs.InlineText.{report_of, scripted}
 use Rattle.golog_semantics.specs.Dealt.{Script}
 use Rattle.golog_semantics.specs.Text.{Text, at_each, report_text}
 use Rattle.golog_semantics.specs.Reports.{fits_entry, IsReport}
+use Rattle.golog_semantics.specs.WellFormed.{WellFormed}
 use Rattle.golog_semantics.specs.Execution.{status_of}
 use Rattle.golog_semantics.proofs.Tests.{and_both, and_cases, or_first, or_second}
 use Rattle.golog_semantics.proofs.LaterRuns.{whole_is_online}
+use Rattle.golog_certain.proofs.JournalSo.{journal_so}
 use Rattle.golog_journal.specs.Boards.{IsBoardList, is_lawful}
 use Rattle.golog_journal.proofs.Lawful.{lawful-parts}
 use Rattle.golog_device.specs.Slots.{Standing, HaveBegun}
 use Rattle.golog_agent.specs.Rounds.{FollowsRounds}
-use Rattle.golog_main.specs.Runs.{FollowsScripts, IsReportOf, IsRunOf, ReportsRun, RunsOn}
+use Rattle.golog_main.specs.Runs.{FollowsScripts, IsCutShort, IsReportOf, IsRunOf, ReportsRun, RunsOn}
 use Rattle.golog_main.proofs.Begun.{as-many, dealt-with, tell-left, none-stands}
 use Rattle.golog_main.proofs.Inlined.{all-the-way, at_each-append, cut-short}
+use Rattle.golog_main.proofs.RunsFit.{runs-fit, runs-grow}
 
 -- ---- the report of a journal
 
@@ -39,21 +39,21 @@ module _ (agent : Agent) where
       and_both (fits_entry agent before e) (list_all (λ b. b) (at_each (fits_entry agent) (before ++ e ∷ []) rest))
       (lawful-parts agent before e k.0).of_agent (fits-each (before ++ e ∷ []) rest k.1)
 
-  is-report : (journal : Journal) → IsBoardList agent journal → length journal ≤ 65553 → IsReport agent (with_runs [] journal)
-  is-report journal lawful short = record {
+  is-report : (journal : Journal) → WellFormed agent → IsBoardList agent journal → length journal ≤ 65553 → IsReport agent (report_of agent journal)
+  is-report journal formed lawful short = record {
     entries = fits-each [] journal lawful.lawful;
-    runs = refl;
-    in_order = refl;
+    runs = runs-fit agent formed [] journal;
+    in_order = runs-grow agent [] journal 0 (omega arith);
     in_bounds = le-leb (length journal) 1048576 (omega (arith, short));
   }
 
   -- what has been run is reported
-  pub reports-run : (texts : List Text) (before : Journal) (olds mids news : List Standing) (report : Report) → length texts ≡ length agent.devices
+  pub reports-run : (texts : List Text) (before : Journal) (olds mids news : List Standing) (report : Report) → WellFormed agent → length texts ≡ length agent.devices
       → HaveBegun (length texts) texts before olds mids → RunsOn agent before mids news report → ReportsRun agent texts olds news report
-  reports-run texts before olds mids news report one_each begun_texts on scripts are = record {
+  reports-run texts before olds mids news report formed one_each begun_texts on scripts are = record {
     journal = on.journal;
     is = on.is;
-    fits = is-report on.journal on.lawful on.short;
+    fits = is-report on.journal formed on.lawful on.short;
     lawful = on.lawful;
     online = on.ran.online;
     dealt = dealt-with agent texts scripts are before olds mids begun one_each on.journal on.ran.since on.ran.grows on.ran.unrefused news on.ran.run;
@@ -111,35 +111,37 @@ module _ (agent : Agent) where
   unfolding inline_journal
   inline-is scripts = refl
 
-  follows : not (has_block agent agent.main) ≡ true → (scripts : List Script) (journal : Journal) (text : Text) (answer : Answer)
-      → IsBoardList agent journal → Contains journal (End answer) → text ≡ report_text agent (with_runs [] journal)
+  follows : (scripts : List Script) (journal : Journal) (text : Text) (answer : Answer)
+      → IsBoardList agent journal → Contains journal (End answer) → text ≡ report_text agent (report_of agent journal)
       → FollowsRounds agent scripts [] journal → FollowsScripts agent scripts text (status_of answer)
-  follows free scripts journal text answer lawful ends is (inl whole) =
-      inl (all-the-way agent free scripts journal text (status_of answer) (whole ∙ inline-is (map scripted scripts)) is (record { answer = answer; stands = ends; shown = refl }))
-  follows free scripts journal text answer lawful ends is (inr (before, later, closings, whole, closes, cut)) =
-      let memory : answer ≡ Memory =
-      only-end before closings Memory answer (subst (IsBoardList agent) cut lawful) closes (subst (λ j. Contains j (End answer)) cut ends) in
+  follows scripts journal text answer lawful ends is (inl whole) =
+      inl (all-the-way agent scripts journal text (status_of answer) (whole ∙ inline-is (map scripted scripts)) is (record { answer = answer; stands = ends; shown = refl }))
+  follows scripts journal text answer lawful ends is (inr (before, later, closings, a, short, whole, closes, cut)) =
+      let same : answer ≡ a =
+      only-end before closings a answer (subst (IsBoardList agent) cut lawful) closes (subst (λ j. Contains j (End answer)) cut ends) in
       inr
-      (cut-short agent free scripts before later closings text (status_of answer) (sym (inline-is (map scripted scripts)) ∙ whole)
-      (is ∙ ap (λ j. report_text agent (with_runs [] j)) cut) (ap status_of memory))
+      (subst (λ b. IsCutShort agent scripts text (status_of b)) (sym same)
+      (cut-short agent scripts before later closings text a (sym (inline-is (map scripted scripts)) ∙ whole) short
+      (is ∙ ap (λ j. report_text agent (report_of agent j)) cut)))
 
   -- what a report comes to that is written
-  pub run-of : not (has_block agent agent.main) ≡ true → (scripts : List Script) (olds news : List Standing) (report : Report) (text : Text) (answer : Answer)
-      → IsReportOf agent scripts olds news report → text ≡ report_text agent report → Contains report.entries (End answer)
+  pub run-of : (scripts : List Script) (olds news : List Standing) (report : Report) (text : Text) (answer : Answer)
+      → WellFormed agent → IsReportOf agent scripts olds news report → text ≡ report_text agent report → Contains report.entries (End answer)
       → IsRunOf agent scripts olds news text (status_of answer)
-  run-of free scripts olds news report text answer of_journal is ends =
+  run-of scripts olds news report text answer formed of_journal is ends =
       let journal = of_journal.journal in
-      let text_is : text ≡ report_text agent (with_runs [] journal) = is ∙ ap (report_text agent) of_journal.is in
+      let text_is : text ≡ report_text agent (report_of agent journal) = is ∙ ap (report_text agent) of_journal.is in
       let there : Contains journal (End answer) = subst (λ (r : Report). Contains r.entries (End answer)) of_journal.is ends in
       record {
         online = record {
-          report = with_runs [] journal;
+          report = report_of agent journal;
           spelled = record { fits = of_journal.fits; text = text_is };
           online = of_journal.online;
           ended = record { answer = answer; stands = there; shown = refl };
         };
+        so = journal_so agent formed (report_of agent journal) (record { entries = of_journal.online.entries });
         dealt = of_journal.dealt;
-        scripted = λ tell. follows free scripts journal text answer of_journal.lawful there text_is (of_journal.scripted tell);
+        scripted = λ tell. follows scripts journal text answer of_journal.lawful there text_is (of_journal.scripted tell);
       }
 
 -- a report of a run has ended
@@ -147,5 +149,5 @@ pub ended : (agent : Agent) (scripts : List Script) (olds news : List Standing) 
     → has_end report.entries ≡ true
 ended agent scripts olds news report of_journal =
     let journal = of_journal.journal in
-    let whole = (whole_is_online agent (with_runs [] journal)).ended of_journal.online in
+    let whole = (whole_is_online agent (report_of agent journal)).ended of_journal.online in
     ap (λ (r : Report). has_end r.entries) of_journal.is ∙ (and_cases (has_end journal) (not (list_any (λ d. is_open d journal) (devices agent))) whole).0

@@ -1,8 +1,8 @@
--- A run of a program without search blocks ends neither for the depth of a search nor for its fuel.
-use Rattle.std.proofs.Common.{◌≡◌, inl, inr, ℕ, zero, suc, ◌+◌, ◌<◌, Bool, true, false, ◌&&◌, ◌||◌, if◌then◌else◌, List, [], ◌∷◌, ◌++◌, Option, Some, None, refl, sym, ap, ◌∙◌, subst, arith}
-use Rattle.std.specs.Prelude.{not, length}
+-- A run of a program without search blocks ends neither for the depth of a search nor for its fuel, and one that
+-- ends for want of fuel is of a program that is heavy there.
+use Rattle.std.proofs.Common.{◌≡◌, ℕ, zero, suc, ◌+◌, ◌<◌, Bool, true, false, ◌&&◌, ◌||◌, if◌then◌else◌, List, [], ◌∷◌, ◌++◌, Some, None, refl, sym, ap, ◌∙◌, subst, arith}
+use Rattle.std.specs.Prelude.{not, Contains}
 use Rattle.std.specs.List.{flat_map, list_any, range_with_len}
-use Rattle.std.specs.Option.{option_or}
 use Rattle.golog_tree.specs.declared.agent.Agent.{Agent}
 use Rattle.golog_tree.specs.declared.prog.Prog.{Prog}
 use Rattle.golog_tree.specs.declared.prog.Prog.TheOpen.{Nil, Act, Test, Seq, Choice, Pick, Star, If, While, Conc, Prio, Cstar, Call, Search, Follow}
@@ -14,8 +14,6 @@ use Rattle.golog_semantics.specs.declared.journal.Answer.{Answer}
 use Rattle.golog_semantics.specs.declared.journal.Answer.TheVariants.{Done, Stuck, Unknown, Depth, Fuel, Unanswered, Full, Deep, Memory}
 use Rattle.golog_semantics.specs.declared.journal.Entry.{Entry}
 use Rattle.golog_semantics.specs.declared.journal.Entry.TheVariants.{End}
-use Rattle.golog_semantics.specs.declared.journal.PlacedRun.{PlacedRun}
-use Rattle.golog_semantics.specs.declared.journal.Report.{Report}
 use Rattle.golog_semantics.specs.Truth.{Values}
 use Rattle.golog_semantics.specs.Program.{put_arg, body_of}
 use Rattle.golog_semantics.specs.Ways.{is_empty}
@@ -27,19 +25,16 @@ use Rattle.golog_semantics.specs.Heavy.{Reached, blocks_step, blocks_to, front_b
 use Rattle.golog_semantics.specs.Journal.{Journal, is_full, is_quiet, is_settled}
 use Rattle.golog_semantics.specs.Progress.{values_after, left_after}
 use Rattle.golog_semantics.specs.Answer.{answer_at, first_that_fits, is_deep, is_unanswered}
-use Rattle.golog_semantics.specs.Online.{Fault, IsOnline, fault_at, first_fault, first_some, keeps_answer, may_end, same_answer}
-use Rattle.golog_semantics.specs.Text.{Text, at_each}
+use Rattle.golog_semantics.specs.Online.{may_end, same_answer}
+use Rattle.golog_semantics.specs.Text.{Text}
 use Rattle.golog_semantics.specs.Execution.{IsOnlineRun, status_of}
-use Rattle.golog_semantics.proofs.Among.{Among, among-contains}
 use Rattle.golog_semantics.proofs.NoBlocks.{blockless_steps, blockless, not_so}
-use Rattle.golog_semantics.proofs.NoFaults.{faults_tell, no-fault-so_far}
 use Rattle.golog_semantics.proofs.StepsInModes.{plain_steps-ordered}
 use Rattle.golog_semantics.proofs.StepsKeep.{InParts}
 use Rattle.golog_semantics.proofs.Tests.{and_cases}
 use Rattle.golog_search.proofs.Blockless.{P, blockless_parts}
 use Rattle.golog_search.proofs.LeftBlockless.{left_blockless}
-use Rattle.golog_file.proofs.Unblocked.{built}
-use Rattle.golog_file.specs.Spelled.{SpellsAgent}
+use Rattle.golog_main.specs.Searchless.{FuelIsHeavy}
 
 -- ---- no block is at the front
 
@@ -146,33 +141,25 @@ module _ (agent : Agent) where
 
 -- ---- an end that stands in an execution was allowed at its place
 
-first-none : {A : Type 0} (o : Option A) (os : List (Option A)) → option_or o (first_some os) ≡ None → (o ≡ None) × (first_some os ≡ None)
-first-none None os h = (refl, h)
-first-none (Some x) os h = absurd (cc)
+-- where an entry stands, there are those before it and those behind
+record StandsAt (entries : Journal) (e : Entry) : Type 0 where
+  before : Journal
+  later : Journal
+  is : entries ≡ before ++ e ∷ later
 
-module _ (agent : Agent) (runs : List PlacedRun) where
-  answer-kept : (before : Journal) (e : Entry) → fault_at agent None runs before e ≡ None
-      → keeps_answer agent before (values_after agent before) (left_after agent before) e ≡ true
-  answer-kept before e h = ((faults_tell agent None runs before e).kept h).answer
+stands-at : (entries : Journal) (e : Entry) → Contains entries e → StandsAt entries e
+stands-at [] e (k, l, is) = absurd (omega (arith, l))
+stands-at (x ∷ entries) e (zero, l, is) = record { before = []; later = entries; is = ap (λ y. y ∷ entries) is }
+stands-at (x ∷ entries) e (suc k, l, is) =
+    let rest = stands-at entries e (k, omega (arith, l), is) in
+    record { before = x ∷ rest.before; later = rest.later; is = ap (λ ys. x ∷ ys) rest.is }
 
-  abbrev faults : Journal → Journal → List (Option Fault)
-  faults before entries = at_each (fault_at agent None runs) before entries
+module _ (agent : Agent) (text : Text) (status : ℕ) (run : IsOnlineRun agent text status) where
+  the-end : StandsAt run.report.entries (End run.ended.answer)
+  the-end = stands-at run.report.entries (End run.ended.answer) run.ended.stands
 
-  kept-somewhere : (a : Answer) (before entries : Journal) → first_some (faults before entries) ≡ None → Among entries (End a)
-      → (at : Journal) × (may_end agent at (values_after agent at) (left_after agent at) a ≡ true)
-  kept-somewhere a before [] h c = absurd c
-  kept-somewhere a before (e ∷ entries) h (inl same) =
-      let here = first-none (fault_at agent None runs before e) (faults (before ++ e ∷ []) entries) h in (
-        before,
-        subst (λ x. keeps_answer agent before (values_after agent before) (left_after agent before) x ≡ true) same (answer-kept before e here.0),
-      )
-  kept-somewhere a before (e ∷ entries) h (inr c) =
-      let here = first-none (fault_at agent None runs before e) (faults (before ++ e ∷ []) entries) h in
-      kept-somewhere a (before ++ e ∷ []) entries here.1 c
-
-no-fault : (agent : Agent) (report : Report) → IsOnline agent report → first_some (faults agent report.runs [] report.entries) ≡ None
-unfolding first_fault
-no-fault agent report h = no-fault-so_far agent report (record { entries = h.entries })
+  allowed : may_end agent the-end.before (values_after agent the-end.before) (left_after agent the-end.before) run.ended.answer ≡ true
+  allowed = (run.online.entries the-end.before (End run.ended.answer) the-end.later the-end.is).answer
 
 -- ---- the status
 
@@ -187,13 +174,37 @@ status-plain Full h k = ((λ e. absurd (omega arith)), (λ e. absurd (omega arit
 status-plain Deep h k = ((λ e. absurd (omega arith)), (λ e. absurd (omega arith)))
 status-plain Memory h k = ((λ e. absurd (omega arith)), (λ e. absurd (omega arith)))
 
-pub searchless : (bytes : Text) (agent : Agent) (text : Text) (status : ℕ) → SpellsAgent bytes agent → IsOnlineRun agent text status
+pub searchless : (agent : Agent) (text : Text) (status : ℕ) → not (has_block agent agent.main) ≡ true → IsOnlineRun agent text status
     → (¬ (status ≡ 12)) × (¬ (status ≡ 13))
-searchless bytes agent text status spells run =
-    let at = kept-somewhere agent run.report.runs run.ended.answer [] run.report.entries (no-fault agent run.report run.online)
-    (among-contains run.report.entries (End run.ended.answer) run.ended.stands) in
-    let left = left_blockless agent (built agent spells.form_spells.draft.built) at.0 in
-    let p = plain agent at.0 (values_after agent at.0) (left_after agent at.0) left run.ended.answer at.1 in
+searchless agent text status free run =
+    let at = (the-end agent text status run).before in
+    let p = plain agent at (values_after agent at) (left_after agent at) (left_blockless agent free at) run.ended.answer (allowed agent text status run) in
     let s = status-plain run.ended.answer p.0 p.1 in
     let e = run.ended.shown in
     ((λ k. s.0 (sym e ∙ k)), (λ k. s.1 (sym e ∙ k)))
+
+status-fuel : (a : Answer) → 13 ≡ status_of a → a ≡ Fuel
+status-fuel Done e = absurd (omega (arith, e))
+status-fuel Stuck e = absurd (omega (arith, e))
+status-fuel Unknown e = absurd (omega (arith, e))
+status-fuel Depth e = absurd (omega (arith, e))
+status-fuel Fuel e = refl
+status-fuel Unanswered e = absurd (omega (arith, e))
+status-fuel Full e = absurd (omega (arith, e))
+status-fuel Deep e = absurd (omega (arith, e))
+status-fuel Memory e = absurd (omega (arith, e))
+
+-- where fuel was wanted the program is heavy
+pub fuel-heavy : FuelIsHeavy
+fuel-heavy agent text run =
+    let end = the-end agent text 13 run in
+    let fuel = status-fuel run.ended.answer run.ended.shown in
+    let may = subst (λ a. may_end agent end.before (values_after agent end.before) (left_after agent end.before) a ≡ true) fuel (allowed agent text 13 run) in
+    record {
+      before = end.before;
+      later = end.later;
+      is = end.is ∙ ap (λ a. end.before ++ End a ∷ end.later) fuel;
+      weighs =
+          (and_cases (not (is_full end.before) && not (is_unanswered agent end.before) && is_settled agent end.before)
+          (heavy agent (values_after agent end.before) (left_after agent end.before)) may).1;
+    }

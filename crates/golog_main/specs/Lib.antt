@@ -3,4 +3,6 @@ pub mod Inputs
 pub mod Runs
 pub mod Outcome
 pub mod Exact
+pub mod InWorlds
+pub mod CutShort
 pub mod Searchless

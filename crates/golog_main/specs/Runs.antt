@@ -2,21 +2,23 @@
 use Rattle.std.specs.Prelude.{◌≡◌, ◌⊎◌, ℕ, ◌<◌, ◌≤◌, nat_lt, IsSome, IfSome, Some, List, [], ◌∷◌, ◌++◌, Contains, length, map, codes, decimal, slice_get}
 use Rattle.std.specs.List.{flat_map}
 use Rattle.golog_tree.specs.declared.agent.Agent.{Agent}
+use Rattle.golog_semantics.specs.declared.journal.Answer.{Answer}
 use Rattle.golog_semantics.specs.declared.journal.Entry.TheVariants.{Close}
 use Rattle.golog_semantics.specs.declared.journal.Reason.TheVariants.{Refused}
 use Rattle.golog_semantics.specs.declared.journal.Report.{Report}
 use Rattle.golog_semantics.specs.Journal.{Journal, longest}
-use Rattle.golog_semantics.specs.Text.{Text, with_line_feed}
+use Rattle.golog_semantics.specs.Text.{Text, answer_text, with_line_feed}
 use Rattle.golog_semantics.specs.Reports.{IsReport}
 use Rattle.golog_semantics.specs.Online.{IsOnline}
-use Rattle.golog_semantics.specs.Execution.{IsOnlineRun, Ends}
-use Rattle.golog_semantics.specs.OneMore.{with_runs}
-use Rattle.golog_semantics.specs.InlineText.{inline_report, inline_text}
+use Rattle.golog_semantics.specs.Certain.{JournalIsSo}
+use Rattle.golog_semantics.specs.Execution.{IsOnlineRun, Ends, status_of}
+use Rattle.golog_semantics.specs.InlineText.{inline_report, inline_text, report_of}
 use Rattle.golog_semantics.specs.Dealt.{Script, Dealt}
 use Rattle.golog_journal.specs.Boards.{IsBoardList}
 use Rattle.golog_device.specs.Scripts.{script_spelled}
 use Rattle.golog_device.specs.Slots.{Standing, EachSlot, ChangesIf, HasAt}
 use Rattle.golog_agent.specs.Rounds.{FollowsRounds, RunsToEnd}
+use Rattle.golog_agent.specs.Short.{IsShort}
 
 -- ---- the devices
 
@@ -44,15 +46,17 @@ pub record IsInline (agent : Agent) (scripts : List Script) (text : Text) (statu
   pub is : text ≡ inline_text agent scripts
   pub ended : Ends (inline_report agent scripts).entries status
 
--- memory was wanted, and the lines before `end memory` are the first lines of the text of the rounds
+-- memory or fuel was wanted, and the lines before the end are the first lines of the text of the rounds
 pub record IsCutShort (agent : Agent) (scripts : List Script) (text : Text) (status : ℕ) : Type 0 where
   pub before : List Text
   pub later : List Text
   pub closings : List Text
   pub whole : inline_text agent scripts ≡ flat_map (with_line_feed agent) (before ++ later)
+  pub answer : Answer
+  pub short : IsShort answer
   pub is : text ≡ flat_map (with_line_feed agent)
-      (before ++ (decimal (length before) ++ codes " end memory") ∷ closings)
-  pub wanted : status ≡ 6
+      (before ++ (decimal (length before) ++ (codes " end " ++ answer_text answer)) ∷ closings)
+  pub shown : status ≡ status_of answer
 
 abbrev pub FollowsScripts : Agent → List Script → Text → ℕ → Type 0
 FollowsScripts agent scripts text status =
@@ -60,12 +64,14 @@ FollowsScripts agent scripts text status =
 
 -- ---- a run
 
--- The text is that of an online execution of the agent's program, and the status that of its end. Each
--- device was dealt with, with its script. Where all devices tell what is left of their scripts, the text is
--- that of the rounds.
+-- The text is that of an online execution of the agent's program, and the status that of its end. In each
+-- world that agrees with the entries before it, each entry is so: a step is a step of the program left, which
+-- may end where the journal says done, and may neither step nor end where it says stuck. Each device was dealt
+-- with, with its script. Where all devices tell what is left of their scripts, the text is that of the rounds.
 pub record IsRunOf (agent : Agent) (scripts : List Script) (olds news : List Standing) (text : Text) (status : ℕ)
     : Type 0 where
   pub online : IsOnlineRun agent text status
+  pub so : JournalIsSo agent online.report.entries
   pub dealt : AreDealtWith agent scripts online.report.entries olds news
   pub scripted : AllTellLeft agent olds → FollowsScripts agent scripts text status
 
@@ -73,14 +79,14 @@ pub record IsRunOf (agent : Agent) (scripts : List Script) (olds news : List Sta
 abbrev pub AreTextsOf : List Text → List Script → Type 0
 AreTextsOf texts scripts = map script_spelled texts ≡ map Some scripts
 
--- the same of a report, that of a journal without runs
+-- the same of a report, that of a journal with the runs that its steps begin
 pub record IsReportOf (agent : Agent) (scripts : List Script) (olds news : List Standing) (report : Report)
     : Type 0 where
   pub journal : Journal
-  pub is : report ≡ with_runs [] journal
-  pub fits : IsReport agent (with_runs [] journal)
+  pub is : report ≡ report_of agent journal
+  pub fits : IsReport agent (report_of agent journal)
   pub lawful : IsBoardList agent journal
-  pub online : IsOnline agent (with_runs [] journal)
+  pub online : IsOnline agent (report_of agent journal)
   pub dealt : AreDealtWith agent scripts journal olds news
   pub scripted : AllTellLeft agent olds → FollowsRounds agent scripts [] journal
 
@@ -89,10 +95,10 @@ abbrev pub ReportsRun : Agent → List Text → List Standing → List Standing 
 ReportsRun agent texts olds news report =
     (scripts : List Script) → AreTextsOf texts scripts → IsReportOf agent scripts olds news report
 
--- the report is of a journal, without runs, to which a run has gone on from these entries
+-- the report is of a journal to which a run has gone on from these entries
 pub record RunsOn (agent : Agent) (before : Journal) (olds news : List Standing) (report : Report) : Type 0 where
   pub journal : Journal
-  pub is : report ≡ with_runs [] journal
+  pub is : report ≡ report_of agent journal
   pub lawful : IsBoardList agent journal
   pub short : length journal ≤ longest
   pub ran : RunsToEnd agent before journal olds news

@@ -1,5 +1,6 @@
 ghost use Rattle.golog_main.specs.Exact.{StatusesAreExact};
-ghost use Rattle.golog_main.specs.Searchless.{SearchlessEnds};
+ghost use Rattle.golog_main.specs.CutShort.{CutShortBeginsOnline};
+ghost use Rattle.golog_main.specs.Searchless.{FuelIsHeavy, SearchlessEnds};
 
 /// A refusal comes exactly where it has its cause, and so does a run, unless the outside fails or memory
 /// runs out.
@@ -7,8 +8,17 @@ pub fn each_status_where_its_cause_is()
     ensures { StatusesAreExact }
 {}
 
-/// No run of an agent that a file spells ends for the depth of a search or for its fuel, as such an agent
-/// has no search blocks.
+/// Where a write fails, what a run has written is the beginning of the text of an online execution.
+pub fn cut_short_begins_online()
+    ensures { CutShortBeginsOnline }
+{}
+
+/// No run of an agent without search blocks ends for the depth of a search or for its fuel.
 pub fn searchless_runs_end_plainly()
     ensures { SearchlessEnds }
+{}
+
+/// A run that ends for want of fuel has a program that is heavy there.
+pub fn fuel_is_heavy()
+    ensures { FuelIsHeavy }
 {}

@@ -9,6 +9,9 @@ mod top;
 mod words;
 
 pub use devices::script_devices;
-pub use laws::{each_status_where_its_cause_is, searchless_runs_end_plainly};
+pub use laws::{
+    cut_short_begins_online, each_status_where_its_cause_is, fuel_is_heavy,
+    searchless_runs_end_plainly,
+};
 pub use outcome::{Input, Outcome};
 pub use top::{NO_MEMORY, golog};

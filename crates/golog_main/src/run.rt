@@ -1,8 +1,7 @@
 // A run of an agent whose devices follow scripts, or are handed in.
-ghost use Rattle.std.specs.Prelude.{◌≡◌, ◌≤◌, true, All, IfOk, IsTrue, IsSome, Contains, Some, [], length, not, find};
+ghost use Rattle.std.specs.Prelude.{◌≡◌, ◌≤◌, true, All, IfOk, IsSome, Contains, Some, [], length, find};
 ghost use Rattle.std.specs.Option.{option_copied};
 ghost use Rattle.golog_semantics.specs.declared.journal.Entry.TheVariants.{End};
-ghost use Rattle.golog_semantics.specs.BlockFree.{has_block};
 ghost use Rattle.golog_semantics.specs.Journal.{has_end};
 ghost use Rattle.golog_semantics.specs.WellFormed.{WellFormed};
 ghost use Rattle.golog_semantics.specs.Same.{same_values};
@@ -37,7 +36,6 @@ pub fn run_program<D: Device>(
     devices: &mut [D],
 ) -> Result<Outcome, NoMemory>
     requires formed { WellFormed agent.now }
-    requires blockless { IsTrue (not (has_block agent.now agent.now.main)) }
     requires texts { All HasTexts listed.now }
     requires boxes { 16 ≤ length devices.old }
     requires fresh { FreshBelow 16 (standings D.fresh D.meaning devices.old) }
@@ -106,7 +104,6 @@ fn report_of<D: Device>(
     devices: &mut [D],
 ) -> Result<Report, NoMemory>
     requires formed { WellFormed agent.now }
-    requires blockless { IsTrue (not (has_block agent.now agent.now.main)) }
     requires boxes { 16 ≤ length devices.old }
     requires fresh { FreshBelow 16 (standings D.fresh D.meaning devices.old) }
     requires one_each { length texts.now ≡ length agent.now.devices }

@@ -1,8 +1,8 @@
 // The top call.
-ghost use Rattle.std.specs.Prelude.{◌≡◌, ◌≤◌, map, string_bytes, option_map, IsSome, IfOk, OnErr, IsTrue, length, not};
-ghost use Rattle.golog_semantics.specs.BlockFree.{has_block};
+ghost use Rattle.std.specs.Prelude.{◌≡◌, ◌≤◌, map, string_bytes, option_map, IsSome, IfOk, OnErr, length};
 ghost use Rattle.golog_semantics.specs.WellFormed.{WellFormed};
 ghost use Rattle.golog_device.specs.Slots.{standings, FreshBelow};
+ghost use Rattle.golog_main.specs.InWorlds.{RunsAreSo};
 ghost use Rattle.golog_main.specs.Inputs.{refusal_text};
 ghost use Rattle.golog_main.specs.Outcome.{Comes, ComesOfAgent, ComesOfBytes, ComesOfScripts, Ends, Reports, outside, text_of, status_of};
 ghost use Rattle.golog_main.specs.Words.{files_named};
@@ -49,7 +49,10 @@ pub const NO_MEMORY: u8 = 6;
 /// - 0, or 10 to 16, the journal of an online execution of the agent's program, which ends `done`, `stuck`,
 ///   `unknown`, `depth`, `fuel`, `unanswered`, `full` or `deep`. Each device that tells it was dealt with
 ///   as the journal says, with its script, the empty one where the devices file has none. Where all tell
-///   what is left of their scripts, it is the journal of the rounds of these scripts.
+///   what is left of their scripts, it is the journal of the rounds of these scripts; one that ends `fuel`
+///   has the first lines of that. In each world that agrees with the entries before it, each step of the
+///   journal is a step of the program left, which may end there where the journal says done, and may
+///   neither step nor end where it says stuck.
 ///
 /// Each line ends with a line feed. Where a write fails the answer is 5, and a prefix of the text is
 /// written. Where memory runs out the answer is 6; nothing is written, or the journal of a run that ends
@@ -63,7 +66,12 @@ pub fn golog<F: Files, K: Sink, D: Device>(
 ) -> u8
     requires boxes { 16 ≤ length devices.old }
     requires fresh { FreshBelow 16 (standings D.fresh D.meaning devices.old) }
-    ensures { Ends result (files_named (map string_bytes words.now))
+    ensures ends { Ends result (files_named (map string_bytes words.now))
+        (outside (F.held files.old) (F.faults files.old) (K.taken out.old) (K.faults out.old)
+        (standings D.fresh D.meaning devices.old))
+        (outside (F.held files.new) (F.faults files.new) (K.taken out.new) (K.faults out.new)
+        (standings D.fresh D.meaning devices.new)) }
+    ensures so { RunsAreSo result (files_named (map string_bytes words.now))
         (outside (F.held files.old) (F.faults files.old) (K.taken out.old) (K.faults out.old)
         (standings D.fresh D.meaning devices.old))
         (outside (F.held files.new) (F.faults files.new) (K.taken out.new) (K.faults out.new)
@@ -135,7 +143,6 @@ fn run_agent<F: Files, D: Device>(
     devices: &mut [D],
 ) -> Result<Outcome, NoMemory>
     requires formed { WellFormed agent.now }
-    requires blockless { IsTrue (not (has_block agent.now agent.now.main)) }
     requires boxes { 16 ≤ length devices.old }
     requires fresh { FreshBelow 16 (standings D.fresh D.meaning devices.old) }
     ensures { IfOk result (ComesOfAgent (F.held files.old) (F.faults files.old) (F.faults files.new)
@@ -161,7 +168,6 @@ fn over_scripts<D: Device>(
     devices: &mut [D],
 ) -> Result<Outcome, NoMemory>
     requires formed { WellFormed agent.now }
-    requires blockless { IsTrue (not (has_block agent.now agent.now.main)) }
     requires small { length bytes.now ≤ LONGEST_FILE }
     requires boxes { 16 ≤ length devices.old }
     requires fresh { FreshBelow 16 (standings D.fresh D.meaning devices.old) }

@@ -1,6 +1,6 @@
-use Rattle.std.proofs.Common.{◌≡◌, [], ◌++◌, length, refl, sym, ap, ◌∙◌, subst, arith}
+use Rattle.std.proofs.Common.{◌≡◌, ◌++◌, length, refl, sym, ap, ◌∙◌, subst, arith}
 use Rattle.golog_semantics.specs.Online.{IsOnlineSoFar}
-use Rattle.golog_semantics.specs.OneMore.{with_runs}
+use Rattle.golog_semantics.specs.InlineText.{report_of}
 use Rattle.golog_journal.specs.Boards.{IsBoardList}
 use Rattle.golog_journal.specs.Growing.{program}
 use Rattle.golog_device.specs.Slots.{standings}
@@ -35,8 +35,8 @@ returns g c =
     let runner = c.turn.ensures.same ∙ c.requires.agent in
     let whole = c.turn.ensures.whole in
     let after = turn-board agent mid new c.turn.result c.turn.ensures.turn in
-    let online : IsOnlineSoFar agent (with_runs [] new.seen) =
-    subst (λ a. IsOnlineSoFar a (with_runs [] new.seen)) runner (subst (λ j. IsOnlineSoFar c.turn.new.self.agent (with_runs [] j)) whole c.turn.ensures.online) in
+    let online : IsOnlineSoFar agent (report_of agent new.seen) =
+    subst (λ a. IsOnlineSoFar a (report_of a new.seen)) runner (subst (λ j. IsOnlineSoFar c.turn.new.self.agent (report_of c.turn.new.self.agent j)) whole c.turn.ensures.online) in
     record {
       same = runner;
       same_board = record {

@@ -1,7 +1,7 @@
-use Rattle.std.proofs.Common.{◌≡◌, ◌≤◌, true, None, [], length, refl, sym, ap, ◌∙◌, subst, arith}
+use Rattle.std.proofs.Common.{◌≡◌, ◌≤◌, true, length, refl, sym, ap, ◌∙◌, subst, arith}
 use Rattle.golog_semantics.specs.WellFormed.{WellFormed}
 use Rattle.golog_semantics.specs.Online.{IsOnlineSoFar, is_whole}
-use Rattle.golog_semantics.specs.OneMore.{with_runs}
+use Rattle.golog_semantics.specs.InlineText.{report_of}
 use Rattle.golog_journal.specs.Boards.{IsBoardList}
 use Rattle.golog_journal.specs.Growing.{program}
 use Rattle.golog_device.specs.Slots.{standings}
@@ -91,9 +91,9 @@ returns g c =
     let same : first.seen ≡ (g.B.Board.sight c.args.board.now).seen = c.gather.ensures.watches.alone_same c.requires.alone in
     let olds = standings g.D.Device.fresh g.D.Device.meaning c.args.devices.now in
     let news = standings g.D.Device.fresh g.D.Device.meaning c.loop-taken.devices in
-    let online : IsOnlineSoFar agent (with_runs [] last.seen) =
-    subst (λ a. IsOnlineSoFar a (with_runs [] last.seen)) now.same_agent
-    (subst (λ j. IsOnlineSoFar c.loop-taken.runner.agent (with_runs [] j)) now.whole c.keeps_rules-2.ensures.under_way.online) in
+    let online : IsOnlineSoFar agent (report_of agent last.seen) =
+    subst (λ a. IsOnlineSoFar a (report_of a last.seen)) now.same_agent
+    (subst (λ j. IsOnlineSoFar c.loop-taken.runner.agent (report_of c.loop-taken.runner.agent j)) now.whole c.keeps_rules-2.ensures.under_way.online) in
     let whole : is_whole agent last.seen ≡ true = ap (is_whole agent) (sym now.whole) ∙ sym c.is_over.ensures ∙ c.loop-taken-test.false in
     record {
       same = now.same_agent;

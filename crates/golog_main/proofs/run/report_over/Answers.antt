@@ -34,4 +34,4 @@ pub returns-in-Ok : goal.returns-in-Ok
 returns-in-Ok g c =
     let stand = standings g.D.Device.fresh g.D.Device.meaning in
     reports-run c.args.agent.now c.args.texts.now c.begin_all.new.board.entries (stand c.args.devices.now) (stand c.begin_all.new.devices) (stand c.run_on.new.devices)
-    c.run_on.result c.requires.one_each c.in-Ok.ensures.begun c.run_on.ensures
+    c.run_on.result c.requires.formed c.requires.one_each c.in-Ok.ensures.begun c.run_on.ensures

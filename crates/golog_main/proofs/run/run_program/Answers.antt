@@ -12,7 +12,6 @@ report_of-requires g c =
     let scripts = scripts_for c.args.agent.now c.args.listed.now in
     record {
       formed = c.requires.formed;
-      blockless = c.requires.blockless;
       boxes = c.requires.boxes;
       fresh = c.requires.fresh;
       one_each = as-many c.in_ok-texts.texts scripts c.in_ok-texts.ensures ∙ length-map c.args.agent.now.devices (script_under c.args.listed.now);
@@ -30,6 +29,6 @@ answer_in-answer-requires g c = ended _ _ _ _ _ (c.in_ok-report.ensures (scripts
 pub returns : goal.returns
 returns g c =
     let stand = standings g.D.Device.fresh g.D.Device.meaning in
-    run-of c.args.agent.now c.requires.blockless (scripts_for c.args.agent.now c.args.listed.now) (stand c.args.devices.now) (stand c.report_of.new.devices)
-    c.in_ok-report.report c.in_ok-text.text c.answer_in-answer.result
+    run-of c.args.agent.now (scripts_for c.args.agent.now c.args.listed.now) (stand c.args.devices.now) (stand c.report_of.new.devices)
+    c.in_ok-report.report c.in_ok-text.text c.answer_in-answer.result c.requires.formed
     (c.in_ok-report.ensures (scripts_for c.args.agent.now c.args.listed.now) c.in_ok-texts.ensures) c.in_ok-text.ensures c.answer_in-answer.ensures

@@ -1,4 +1,5 @@
 use Rattle.golog_agent.proofs.Placing.{may-commit, moved-over, moved-overtaken, taken-commits, taken-lawful, taken-over, taken-whole}
+use Rattle.golog_agent.proofs.BegunRuns.{step-counts}
 use Rattle.golog_agent.proofs.runner.Runner.commit.Goals as goal
 
 pub commit-requires-clause-allowed : goal.commit-requires-clause-allowed
@@ -10,6 +11,9 @@ pub take-requires-clause-lawful : goal.take-requires-clause-lawful
 take-requires-clause-lawful g c =
     taken-lawful c.args.self.now (g.B.Board.sight c.args.board.now) c.len-at.result c.args.entry c.requires.current c.len-at.ensures.number
     (g.B.Board.sight c.commit.new.self) c.commit.result c.commit.ensures c.in-Taken.is
+
+pub take-requires-clause-room : goal.take-requires-clause-room
+take-requires-clause-room g c step = c.requires.room (step-counts c.args.self.now.agent c.args.entry step)
 
 pub returns-in-Moved-clause-behind : goal.returns-in-Moved-clause-behind
 returns-in-Moved-clause-behind g c =

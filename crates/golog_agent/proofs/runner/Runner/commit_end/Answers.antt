@@ -1,3 +1,4 @@
+use Rattle.std.proofs.Common.{refl}
 use Rattle.golog_agent.proofs.Committing.{end-left, end-online}
 use Rattle.golog_agent.proofs.Stepping.{end-commits}
 use Rattle.golog_agent.proofs.runner.Runner.commit_end.Goals as goal
@@ -12,3 +13,6 @@ pub returns-then-commit-clause-attempt : goal.returns-then-commit-clause-attempt
 returns-then-commit-clause-attempt g c =
     end-commits c.args.self.now (g.B.Board.sight c.args.board.now) (g.B.Board.sight c.commit.new.board) c.requires.current c.args.answer c.commit.result
     c.if-commit.true c.requires.goes_on c.requires.answered c.commit.ensures.commits
+
+pub commit-requires-clause-run : goal.commit-requires-clause-run
+commit-requires-clause-run g c = refl

@@ -1,4 +1,4 @@
-use Rattle.golog_agent.proofs.Stepping.{entry-commits, entry-left, entry-online, entry-own, entry-room}
+use Rattle.golog_agent.proofs.Stepping.{entry-commits, entry-left, entry-online, entry-own, entry-room, entry-run}
 use Rattle.golog_agent.proofs.runner.Runner.commit_step.Goals as goal
 
 pub commit-requires-clause-of_program : goal.commit-requires-clause-of_program
@@ -17,3 +17,6 @@ pub returns-then-commit-clause-attempt : goal.returns-then-commit-clause-attempt
 returns-then-commit-clause-attempt g c =
     entry-commits c.args.self.now.agent c.args.self.now.list c.args.step c.requires.next c.entry_of.result c.entry_of.ensures
     (g.B.Board.sight c.args.board.now) (g.B.Board.sight c.commit.new.board) c.commit.result c.if-commit.true c.commit.ensures.commits
+
+pub commit-requires-clause-run : goal.commit-requires-clause-run
+commit-requires-clause-run g c = entry-run c.args.self.now.agent c.args.self.now.list c.args.step c.requires.next c.entry_of.result c.entry_of.ensures

@@ -1,0 +1,30 @@
+use Rattle.golog_agent.proofs.Growth.{sorted}
+use Rattle.golog_agent.proofs.Planning.{blocked-seen, left-fits, open-inside, stepless-inside}
+use Rattle.golog_agent.proofs.runner.Runner.blocked_plan.Goals as goal
+
+pub decide_blocked-requires-clause-agent : goal.decide_blocked-requires-clause-agent
+decide_blocked-requires-clause-agent c = c.self.invariant.1.under_way.formed
+
+pub decide_blocked-requires-clause-program : goal.decide_blocked-requires-clause-program
+decide_blocked-requires-clause-program c =
+    let r = c.self.inside in left-fits r.agent.now r.journal.entries c.self.invariant.1.under_way r.left c.self.invariant.1.left_so
+
+pub decide_blocked-requires-clause-sorts : goal.decide_blocked-requires-clause-sorts
+decide_blocked-requires-clause-sorts c =
+    let r = c.self.inside in sorted r.agent.now r.journal.entries r.state c.self.invariant.1.values_so c.self.invariant.1.under_way
+
+pub decide_blocked-requires-clause-unended : goal.decide_blocked-requires-clause-unended
+decide_blocked-requires-clause-unended c =
+    let r = c.self.inside in
+    open-inside r.agent.now r.journal.entries c.args.self.now c.self.view_is r.state r.left r.awaited r.ended r.runs c.self.invariant.1 c.requires.unended
+
+pub decide_blocked-requires-clause-stepless : goal.decide_blocked-requires-clause-stepless
+decide_blocked-requires-clause-stepless c =
+    let r = c.self.inside in
+    stepless-inside r.agent.now r.journal.entries c.args.self.now c.self.view_is r.state r.left r.awaited r.ended r.runs c.self.invariant.1 c.requires.stepless
+
+pub returns-in-Ok : goal.returns-in-Ok
+returns-in-Ok c =
+    let r = c.self.inside in
+    blocked-seen r.agent.now r.journal.entries c.args.self.now c.self.view_is r.state r.left r.awaited r.ended r.runs c.self.invariant.1
+    c.requires.settled c.requires.answered c.requires.room c.in-Ok.decision c.planned.result c.in-Ok.ensures c.requires.quiet c.planned.ensures

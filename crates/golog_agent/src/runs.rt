@@ -1,0 +1,58 @@
+//! The runs of a journal, in room that was reserved for them.
+ghost use Rattle.std.specs.Prelude.{◌≡◌, ◌<◌, [], ◌++◌, length, IfOk, IsSome};
+ghost use Rattle.golog_semantics.specs.Journal.{limit};
+ghost use Rattle.golog_semantics.specs.InlineText.{placed as placed_run};
+
+use golog_base::{List, NoMemory};
+use golog_semantics::PlacedRun;
+use golog_tree::Label;
+use std::alloc::Global;
+use std::marker::Model;
+
+/// The most runs of a journal, as each begins with an entry that counts.
+const MOST: usize = 65_536;
+
+/// The runs. Contracts see them as their list.
+#[derive(Drop)]
+pub(crate) struct Runs {
+    runs: Vec<PlacedRun>,
+}
+
+impl Model for Runs {
+    ghost use Rattle.std.specs.Prelude.{List, ◌≤◌, vec_capacity};
+    ghost use Rattle.golog_semantics.specs.declared.journal.PlacedRun.{PlacedRun};
+    ghost use Rattle.golog_semantics.specs.Journal.{limit};
+
+    ghost Value = { List PlacedRun };
+
+    ghost view = { λ runs. runs.runs.items };
+
+    ghost invariant = { λ runs. limit ≤ vec_capacity runs.runs };
+}
+
+impl Runs {
+    /// No run, and room for one at each entry that counts.
+    pub(crate) fn new(alloc: Global) -> Result<Runs, NoMemory>
+        ensures { IfOk result (λ runs. runs ≡ []) }
+    {
+        let runs = Vec::with_capacity(alloc, MOST)?;
+        Ok(Runs { runs })
+    }
+
+    /// Keeps the run that begins at this place, if one does.
+    pub(crate) fn keep(&mut self, place: u32, run: Option<List<Label>>)
+        requires { IsSome run → length self.old < limit }
+        ensures { self.new ≡ self.old ++ placed_run place run }
+    {
+        if let Some(labels) = run {
+            self.runs.push_reserved(PlacedRun { place, labels });
+        }
+    }
+
+    /// The runs, handed out.
+    pub(crate) fn into_list(self) -> List<PlacedRun>
+        ensures { result ≡ self }
+    {
+        List::from_vec(self.runs)
+    }
+}
