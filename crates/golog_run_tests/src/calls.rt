@@ -39,6 +39,7 @@ pub fn files_of(
     Ok(MemFiles::new(held, List::copy_of(alloc, fails)?))
 }
 
+/// The words of a command, as a program is given them. `NoMemory` where none is left for them.
 pub fn words_of(alloc: Global, of: &[&str]) -> Result<Vec<String>, NoMemory> {
     let mut words = Vec::new(alloc);
     for word in of {

@@ -96,6 +96,17 @@ fn each_construct_runs(rt: HostRuntime) -> Result<(), Fail> {
             "0 do ring\n1 do switch\n2 end done\n",
         ),
         ("(prio (test (other)) (act switch))", 11, "0 end unknown\n"),
+        // A higher part that nobody knows holds the lower one back, though that could step where it is false.
+        (
+            "(prio (seq (test (other)) (act ring)) (act up))",
+            11,
+            "0 end unknown\n",
+        ),
+        (
+            "(prio (seq (test (on)) (act ring)) (act up))",
+            10,
+            "0 do up\n1 end stuck\n",
+        ),
         // A `cstar` runs beside itself.
         (
             "(seq (cstar (seq (test (not (on))) (act switch))) (test (on)))",

@@ -154,11 +154,6 @@ fn files_that_spell_no_scripts_are_refused(rt: HostRuntime) -> Result<(), Fail> 
             "refused devices 43 at 1\n",
         ),
         ("(agent", "[", "refused agent 1 at 6\n"),
-        (
-            "(agent (device d) (main (search 1 1 nil)))",
-            "[",
-            "refused agent 29 at 0\n",
-        ),
     ];
     for (agent, devices, said) in files {
         let call = ran_with(rt.alloc(), agent.as_bytes(), devices.as_bytes())?;

@@ -123,10 +123,9 @@ fn files_that_spell_no_agent_are_refused(rt: HostRuntime) -> Result<(), Fail> {
             "(agent (main (search 0 1 nil)))",
             "refused agent 37 at 13\n",
         ),
-        ("(agent (main (search 1 1 nil)))", "refused agent 29 at 0\n"),
         (
-            "(agent (proc p () (search 1 1 nil)) (main nil))",
-            "refused agent 29 at 0\n",
+            "(agent (proc p () (search 1 1 nil)) (main (search 1 1 (call p))))",
+            "refused agent 33 at 42\n",
         ),
         // The earlier stage goes first.
         ("(agent (bad)", "refused agent 1 at 12\n"),

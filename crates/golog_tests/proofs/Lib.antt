@@ -3,3 +3,4 @@ pub mod Closed
 pub mod Grounded
 pub mod Evaluated
 pub mod Searched
+pub mod Unblocked

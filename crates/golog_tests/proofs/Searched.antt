@@ -6,12 +6,12 @@ use Rattle.golog_tree.specs.declared.prog.Prog.{Prog}
 use Rattle.golog_semantics.specs.BlockFree.{has_block}
 use Rattle.golog_semantics.specs.ProgFits.{fits}
 use Rattle.golog_semantics.specs.WellFormed.{WellFormed}
-use Rattle.golog_file.specs.Built.{IsBuilt}
+use Rattle.golog_tests.specs.Blockless.{IsBlockless}
 
 -- its body fits the agent
 pub body_fits : (agent : Agent) (body : Prog) → WellFormed agent → body ≡ agent.main → IsTrue (fits agent body)
 body_fits agent body formed is = subst (λ (p : Prog). IsTrue (fits agent p)) (sym is) formed.programs.main
 
 -- its body has no block
-pub body_free : (agent : Agent) (body : Prog) → IsBuilt agent → body ≡ agent.main → IsTrue (not (has_block agent body))
-body_free agent body built is = subst (λ (p : Prog). IsTrue (not (has_block agent p))) (sym is) built
+pub body_free : (agent : Agent) (body : Prog) → IsBlockless agent → body ≡ agent.main → IsTrue (not (has_block agent body))
+body_free agent body free is = subst (λ (p : Prog). IsTrue (not (has_block agent p))) (sym is) free

@@ -4,6 +4,8 @@
 #[cfg(test)]
 mod agents;
 #[cfg(test)]
+mod blockless;
+#[cfg(test)]
 mod blocks;
 #[cfg(test)]
 mod conditions;
@@ -33,3 +35,5 @@ mod trees;
 mod truths;
 #[cfg(test)]
 mod values;
+#[cfg(test)]
+mod worlds;

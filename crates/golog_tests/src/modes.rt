@@ -11,7 +11,7 @@ use std::alloc::Global;
 
 /// Whether the agent's program has a step at the start, in this mode.
 #[tactic(auto, using(crate::proofs::Closed::main_closed))]
-fn has_step(alloc: Global, agent: &Agent, mode: Mode) -> Option<bool>
+pub fn has_step(alloc: Global, agent: &Agent, mode: Mode) -> Option<bool>
     requires { WellFormed agent.now }
 {
     match start(alloc, agent) {
@@ -22,7 +22,7 @@ fn has_step(alloc: Global, agent: &Agent, mode: Mode) -> Option<bool>
 
 /// Whether the agent's program may end at the start, in this mode.
 #[tactic(auto, using(crate::proofs::Closed::main_closed))]
-fn may_end(alloc: Global, agent: &Agent, mode: Mode) -> Option<bool>
+pub fn may_end(alloc: Global, agent: &Agent, mode: Mode) -> Option<bool>
     requires { WellFormed agent.now }
 {
     match start(alloc, agent) {

@@ -1,8 +1,9 @@
 ghost use Rattle.std.specs.Prelude.{◌≡◌, IfOk};
 ghost use Rattle.golog_semantics.specs.WellFormed.{WellFormed};
-ghost use Rattle.golog_file.specs.Built.{IsBuilt};
+ghost use Rattle.golog_tests.specs.Blockless.{IsBlockless};
 
 use crate::agents::{BRANCHES, DOOR, ROADS, STAIRS};
+use crate::blockless::has_blocks;
 use golog_base::NoMemory;
 use golog_file::read_agent;
 use golog_progress::start;
@@ -73,7 +74,7 @@ fn find_at_start(
     certain: bool,
 ) -> Result<Found, NoMemory>
     requires formed { WellFormed agent.now }
-    requires built { IsBuilt agent.now }
+    requires blockless { IsBlockless agent.now }
     requires body { block.now.body ≡ agent.now.main }
 {
     match start(alloc, agent) {
@@ -91,7 +92,7 @@ fn block_comes_to(
     wanted: Wanted<'_>,
 ) -> bool
     requires formed { WellFormed agent.now }
-    requires built { IsBuilt agent.now }
+    requires blockless { IsBlockless agent.now }
     requires body { block.now.body ≡ agent.now.main }
 {
     let made = find_at_start(alloc, agent, block, certain);
@@ -106,7 +107,7 @@ fn block_comes_to(
 /// The same of the agent's program.
 fn main_comes_to(alloc: Global, agent: &Agent, asked: Asked, wanted: Wanted<'_>) -> bool
     requires formed { WellFormed agent.now }
-    requires built { IsBuilt agent.now }
+    requires blockless { IsBlockless agent.now }
 {
     let made = block_of(alloc, agent, asked);
     let answer = match &made {
@@ -117,11 +118,12 @@ fn main_comes_to(alloc: Global, agent: &Agent, asked: Asked, wanted: Wanted<'_>)
     answer
 }
 
-/// The same of the program of an agent that is read.
+/// The same of the program of an agent that is read, which has no search blocks.
+#[tactic(auto, using(crate::proofs::Unblocked::blockless))]
 fn comes_to(alloc: Global, bytes: &[u8], asked: Asked, wanted: Wanted<'_>) -> bool {
     let read = read_agent(alloc, bytes);
     let answer = match &read {
-        Ok(agent) => main_comes_to(alloc, agent, asked, wanted),
+        Ok(agent) => !has_blocks(agent) && main_comes_to(alloc, agent, asked, wanted),
         Err(_fault) => false,
     };
     drop(read);

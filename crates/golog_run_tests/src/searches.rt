@@ -1,0 +1,195 @@
+use crate::calls::{Call, file_of, ran, ran_with};
+use golog_base::{Bytes, NoMemory};
+use std::alloc::Global;
+use std::test::Fail;
+
+/// Two switches, and an action without an effect.
+const ITEMS: &str = "(fluent p () bool false) (fluent q () bool false)
+    (action a ()) (action b ()) (action c ())
+    (causes (a) (p) true) (causes (b) (q) true)";
+
+/// A switch of which nothing is known, and actions without effects.
+const UNKNOWN: &str = "(fluent u () bool) (action a ()) (action b ()) (action c ())";
+
+/// Runs this program over these items.
+fn goes(alloc: Global, items: &str, program: &str) -> Result<Call, NoMemory> {
+    let file = file_of(alloc, items, program)?;
+    ran(alloc, file.as_slice())
+}
+
+// Each program with the status and the journal of its run.
+#[test]
+fn blocks_are_searched(rt: HostRuntime) -> Result<(), Fail> {
+    let programs = [
+        // A block that does not come first is not searched.
+        (
+            "(choice (act a) (search 4 1 (seq (choice (act a) (act b)) (act c))))",
+            0,
+            "0 do a\n1 end done\n",
+        ),
+        // The run is printed with its first step, and is followed.
+        (
+            "(search 4 2 (seq (choice (act a) (act a)) (act c)))",
+            0,
+            "0 do a run a; c\n1 do c\n2 end done\n",
+        ),
+        (
+            "(search 4 1 (seq (choice (act a) (act a)) (act c)))",
+            13,
+            "0 end fuel\n",
+        ),
+        // The shortest run is taken, and of these the first.
+        (
+            "(search 4 100 (choice (seq (act a) (act b)) (act c)))",
+            0,
+            "0 do c run c\n1 end done\n",
+        ),
+        (
+            "(search 4 100 (choice (seq (act b) (act a)) (seq (act a) (act b))))",
+            0,
+            "0 do b run b; a\n1 do a\n2 end done\n",
+        ),
+        // A state counts in each level in which it stands.
+        (
+            "(search 2 2 (seq (star (act a)) (test (q))))",
+            12,
+            "0 end depth\n",
+        ),
+        (
+            "(search 2 1 (seq (star (act a)) (test (q))))",
+            13,
+            "0 end fuel\n",
+        ),
+        (
+            "(search 4 3 (seq (star (act a)) (test (q))))",
+            13,
+            "0 end fuel\n",
+        ),
+        (
+            "(search 4 4 (seq (star (act a)) (test (q))))",
+            12,
+            "0 end depth\n",
+        ),
+        // Without a run the program is stuck where nothing was cut.
+        (
+            "(search 8 1000 (seq (act a) (test (q))))",
+            10,
+            "0 end stuck\n",
+        ),
+        // A lower part steps only where the higher has no step beyond the depth either.
+        (
+            "(prio (search 1 10 (seq (act a) (act b))) (act c))",
+            11,
+            "0 end unknown\n",
+        ),
+        (
+            "(prio (search 1 10 (seq (act a) (act b))) (test (q)))",
+            12,
+            "0 end depth\n",
+        ),
+        // Each block has a run of its own, and a test in it is a dash.
+        (
+            "(seq (search 3 10 (seq (act a) (act b))) (search 3 10 (seq (test (p)) (act c))))",
+            0,
+            "0 do a run a; b\n1 do b\n2 test run -; c\n3 do c\n4 end done\n",
+        ),
+    ];
+    for (program, status, journal) in programs {
+        let call = goes(rt.alloc(), ITEMS, program)?;
+        assert_eq!(rt; call.said(), (status, journal));
+    }
+    Ok(())
+}
+
+/// A block whose first step leaves so many actions, and then its body again.
+fn leaves(alloc: Global, count: u32) -> Result<Bytes, NoMemory> {
+    let front = b"(agent (action a ()) (main (search 1 1 (seq (act a) (star (seq";
+    let mut program = Bytes::copy_of(alloc, front)?;
+    for _ in 0..count {
+        program.extend(b" (act a)")?;
+    }
+    program.extend(b"))))))")?;
+    Ok(program)
+}
+
+// A step is not followed where the body's left nests above 2,048, and not taken where the block's does.
+#[test]
+fn what_a_step_leaves_may_nest_too_deep(rt: HostRuntime) -> Result<(), Fail> {
+    let counts = [
+        (2046, 0, "0 do a run a\n1 end done\n"),
+        (2047, 16, "0 end deep\n"),
+        (2048, 12, "0 end depth\n"),
+    ];
+    for (count, status, journal) in counts {
+        let file = leaves(rt.alloc(), count)?;
+        let call = ran(rt.alloc(), file.as_slice())?;
+        assert_eq!(rt; call.said(), (status, journal));
+    }
+    Ok(())
+}
+
+// The same where what a block asks is not known.
+#[test]
+fn what_is_not_known_may_want_fuel(rt: HostRuntime) -> Result<(), Fail> {
+    let programs = [
+        (
+            "(prio (search 2 1 (seq (test (u)) (act a))) (act c))",
+            13,
+            "0 end fuel\n",
+        ),
+        (
+            "(conc (act c) (search 2 1 (seq (test (u)) (act a))))",
+            13,
+            "0 do c\n1 end fuel\n",
+        ),
+    ];
+    for (program, status, journal) in programs {
+        let call = goes(rt.alloc(), UNKNOWN, program)?;
+        assert_eq!(rt; call.said(), (status, journal));
+    }
+    Ok(())
+}
+
+// While a device may still post, a program whose block would want fuel waits.
+#[test]
+fn a_post_comes_before_the_fuel_is_wanted(rt: HostRuntime) -> Result<(), Fail> {
+    let call = ran_with(
+        rt.alloc(),
+        b"(agent (device d) (fluent u () bool) (fluent v () bool) (fluent w () bool)
+            (action a ()) (action b ()) (action c ()) (exo n () d) (exo e () d)
+            (causes (e) (u) true) (causes (e) (v) false) (causes (e) (w) false)
+            (main (search 2 3 (choice (seq (test (u)) (act a)) (seq (test (v)) (act b))
+                (seq (test (w)) (act c))))))",
+        b"[{\"name\":\"d\",\"idle\":[\"n\",\"e\",\"rest\"]}]",
+    )?;
+    let journal = "0 exo d n\n1 exo d e\n2 test run -; a\n3 rest d 0\n4 do a\n5 end done\n\
+        6 close d stopped 0\n";
+    assert_eq!(rt; call.said(), (0, journal));
+    Ok(())
+}
+
+// A run that goes through is kept, whatever came between; else the block is searched again.
+#[test]
+fn runs_are_kept_where_they_go_through(rt: HostRuntime) -> Result<(), Fail> {
+    let agent = b"(agent (device world) (sort place a b c) (fluent blocked (place) bool false)
+        (action go (place)) (exo calm () world) (exo block (place) world)
+        (poss (go x) (not (blocked x))) (causes (block x) (blocked x) true)
+        (main (search 4 1000 (seq (act go a) (choice (act go b) (act go c))))))";
+    let kept = ran_with(
+        rt.alloc(),
+        agent,
+        b"[{\"name\":\"world\",\"idle\":[\"calm\",\"calm\",\"rest\"]}]",
+    )?;
+    let journal = "0 exo world calm\n1 do go(a) run go(a); go(b)\n2 exo world calm\n3 do go(b)\n\
+        4 rest world 0\n5 end done\n6 close world stopped 0\n";
+    assert_eq!(rt; kept.said(), (0, journal));
+    let broken = ran_with(
+        rt.alloc(),
+        agent,
+        b"[{\"name\":\"world\",\"idle\":[\"calm\",\"block(b)\",\"rest\"]}]",
+    )?;
+    let anew = "0 exo world calm\n1 do go(a) run go(a); go(b)\n2 exo world block(b)\n\
+        3 do go(c) run go(c)\n4 rest world 0\n5 end done\n6 close world stopped 0\n";
+    assert_eq!(rt; broken.said(), (0, anew));
+    Ok(())
+}
