@@ -3,7 +3,6 @@ pub mod Members
 pub mod CertainRuns
 pub mod WrittenLaws
 pub mod WorldEnds
-pub mod Copied
 pub mod Viewed
 pub mod WorldSteps
 pub mod PlainSteps

@@ -35,7 +35,7 @@ sublist_order = record {
 }
 
 -- any block
-abbrev any_block : Claim
+abbrev pub any_block : Claim
 any_block = anything (λ depth fuel p rest. ⊤)
 
 any_front : (agent : Agent) (l : Layer) → AtFront agent any_block l
@@ -55,7 +55,7 @@ any_front agent (Call item args) = tt
 any_front agent (Search depth fuel p) = tt
 any_front agent (Follow depth fuel p rest) = tt
 
-any_goes : (agent : Agent) → GoesOn agent any_block
+pub any_goes : (agent : Agent) → GoesOn agent any_block
 any_goes agent = record { parts = λ p h. any_front agent (out-Prog p) }
 
 module _ (agent : Agent) (values : Values) where
