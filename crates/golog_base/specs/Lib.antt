@@ -6,4 +6,5 @@ pub mod Known
 pub mod MemFiles
 pub mod MemSink
 pub mod Names
+pub mod Numbers
 pub mod formers

@@ -9,7 +9,7 @@ use Rattle.std.proofs.lemmas.Bool.{le-leb, lt-leb, leb-true, eqb-true}
 use Rattle.std.proofs.lemmas.Fmt.{decimal_by_steps}
 use Rattle.std.proofs.lemmas.List.Folds.{list_all-append}
 use Rattle.golog_base.specs.Names.{is_digit, begins_name, continues_name, is_name}
-use Rattle.golog_theory.specs.Numbers.{are_digits, is_zero, is_positive, has_sign, without_sign, is_number, amount_on, amount, minus, below_zero, value}
+use Rattle.golog_base.specs.Numbers.{are_digits, is_zero, is_positive, has_sign, without_sign, is_number, amount_on, amount, minus, below_zero, value}
 use Rattle.golog_semantics.proofs.Words.{and-both, and-left, and-right}
 
 digit : (d : ℕ) → d < 10 → is_digit (48 + d) ≡ true

@@ -33,7 +33,7 @@ use Rattle.golog_semantics.proofs.Words.{and-left, and-right}
 use Rattle.golog_semantics.proofs.WellNamed.{distinct-right, distinct-part}
 use Rattle.golog_theory.specs.Codes.{UNKNOWN_FORM, COUNT, NUMBER_RANGE}
 use Rattle.golog_theory.specs.Limits.{NAME_BYTES}
-use Rattle.golog_theory.specs.Numbers.{is_number, value}
+use Rattle.golog_base.specs.Numbers.{is_number, value}
 use Rattle.golog_theory.specs.Parts.{word, short_name, number_of, arg_of}
 use Rattle.golog_theory.specs.Heads.{args_of}
 use Rattle.golog_check.specs.declared.scope.Meant.{Meant}

@@ -36,7 +36,7 @@ use Rattle.golog_semantics.proofs.Words.{and-left, and-right}
 use Rattle.golog_theory.specs.declared.heads.Called.{Called}
 use Rattle.golog_theory.specs.Codes.{UNKNOWN_FORM, UNKNOWN_NAME, ARITY, NUMBER_RANGE}
 use Rattle.golog_theory.specs.Names.{same, fluent_no, fluent_args, fluent_arity}
-use Rattle.golog_theory.specs.Numbers.{is_number, has_sign, value}
+use Rattle.golog_base.specs.Numbers.{is_number, has_sign, value}
 use Rattle.golog_theory.specs.Parts.{word, parts, arg_of}
 use Rattle.golog_theory.specs.Heads.{first_word, head_word, head_place, arguments, args_of, has_others, called, fluent_called}
 use Rattle.golog_theory.specs.Recursion.{Part}

@@ -1,6 +1,6 @@
 -- The amount that digits spell only grows.
 use Rattle.std.proofs.Common.{◌≡◌, ℕ, ◌+◌, ◌*◌, ◌-◌, ◌<◌, ◌≤◌, ◌^◌, List, [], ◌∷◌, length, get_or, drop, refl, ap, add-one, drop-cons, arith}
-use Rattle.golog_theory.specs.Numbers.{amount_on}
+use Rattle.golog_base.specs.Numbers.{amount_on}
 
 amount_on-above : (n : ℕ) (digits : List ℕ) → n ≤ amount_on n digits
 amount_on-above n [] = omega arith

@@ -18,7 +18,7 @@ use Rattle.golog_tree.specs.declared.draft.DraftDevice.{DraftDevice}
 use Rattle.golog_theory.specs.declared.fluents.FluentItem.{FluentItem}
 use Rattle.golog_theory.specs.Reading.{Row, Reading, gives, refused, row, ◌>>=◌, found, each}
 use Rattle.golog_theory.specs.Names.{same, sort_no, sort_name, device_no, is_taken}
-use Rattle.golog_theory.specs.Numbers.{is_number, value}
+use Rattle.golog_base.specs.Numbers.{is_number, value}
 use Rattle.golog_theory.specs.Parts.{word, parts, short_name, new_name, sort_of, number_of}
 use Rattle.golog_theory.specs.Sorts.{bound, is_above, is_too_wide, range_of, constant_of, listed_of, range_by, sort_by, sort_item}
 use Rattle.golog_theory.specs.Fluents.{sorts_of, start_value, fluent_of, fluent_item}

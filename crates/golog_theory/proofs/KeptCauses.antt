@@ -24,7 +24,7 @@ use Rattle.golog_theory.specs.declared.heads.Called.{Called}
 use Rattle.golog_theory.specs.declared.effects.Effect.{Effect}
 use Rattle.golog_theory.specs.Reading.{gives, refused, each}
 use Rattle.golog_theory.specs.Names.{same, action_no, action_arity, fluent_no, fluent_arity}
-use Rattle.golog_theory.specs.Numbers.{is_number}
+use Rattle.golog_base.specs.Numbers.{is_number}
 use Rattle.golog_theory.specs.Parts.{word, short_name, new_name, number_of, arg_of}
 use Rattle.golog_theory.specs.Heads.{head_word, arguments, args_of, called, fluent_called, action_called}
 use Rattle.golog_theory.specs.Terms.{term_of}

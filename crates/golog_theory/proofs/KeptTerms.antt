@@ -26,7 +26,7 @@ use Rattle.golog_theory.specs.declared.conditions.Binder.{Binder}
 use Rattle.golog_theory.specs.declared.conditions.Bound.{Bound}
 use Rattle.golog_theory.specs.Reading.{Row, Reading, gives, refused, row, ◌>>=◌, found, each}
 use Rattle.golog_theory.specs.Names.{same, fluent_no, fluent_arity, fluent_args}
-use Rattle.golog_theory.specs.Numbers.{is_number, has_sign, amount, value}
+use Rattle.golog_base.specs.Numbers.{is_number, has_sign, amount, value}
 use Rattle.golog_theory.specs.Parts.{word, parts, short_name, sort_of, arg_of}
 use Rattle.golog_theory.specs.Heads.{head_word, head_place, arguments, args_of, has_others, called, fluent_called}
 use Rattle.golog_theory.specs.Recursion.{Part}

@@ -14,7 +14,7 @@ use Rattle.golog_theory.specs.declared.conditions.Binder.{Binder}
 use Rattle.golog_theory.specs.declared.conditions.Bound.{Bound}
 use Rattle.golog_theory.specs.Reading.{Row, Reading, gives, refused, row, ◌>>=◌, found, each}
 use Rattle.golog_theory.specs.Names.{same}
-use Rattle.golog_theory.specs.Numbers.{value}
+use Rattle.golog_base.specs.Numbers.{value}
 use Rattle.golog_theory.specs.Parts.{word, parts, short_name, sort_of, arg_of}
 use Rattle.golog_theory.specs.Heads.{fluent_called}
 use Rattle.golog_theory.specs.Recursion.{Part}

@@ -15,7 +15,7 @@ use Rattle.golog_tree.specs.declared.draft.DraftAction.{DraftAction}
 use Rattle.golog_tree.specs.declared.draft.DraftDevice.{DraftDevice}
 use Rattle.golog_theory.specs.Reading.{each}
 use Rattle.golog_theory.specs.Names.{same, is_reserved, is_taken, is_constant, lists, sort_name, sort_no, device_no, fluent_no, action_no}
-use Rattle.golog_theory.specs.Numbers.{is_number}
+use Rattle.golog_base.specs.Numbers.{is_number}
 use Rattle.golog_theory.specs.Parts.{word, short_name, new_name, number_of}
 use Rattle.golog_theory.specs.Sorts.{bound, is_above, is_too_wide, range_of, is_taken_beside, constant_of, listed_of, range_by, sort_by, sort_item}
 use Rattle.golog_semantics.specs.BuiltIn.{is_keyword, same_text}

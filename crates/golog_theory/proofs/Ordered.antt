@@ -26,7 +26,7 @@ use Rattle.golog_theory.specs.declared.fluents.FluentItem.{FluentItem}
 use Rattle.golog_theory.specs.declared.effects.Effect.{Effect}
 use Rattle.golog_theory.specs.Reading.{Row, Reading, Answers, gives, refused, row, ◌>>=◌, found, each, code_at}
 use Rattle.golog_theory.specs.Names.{same, is_constant, fluent_no, fluent_arity, device_no}
-use Rattle.golog_theory.specs.Numbers.{is_number}
+use Rattle.golog_base.specs.Numbers.{is_number}
 use Rattle.golog_theory.specs.Parts.{word, parts, short_name, new_name, sort_of, number_of, arg_of}
 use Rattle.golog_theory.specs.Heads.{head_word, arguments, fluent_called, action_called, schema_of}
 use Rattle.golog_theory.specs.Sorts.{range_of, constant_of, listed_of, range_by, sort_by, sort_item}

@@ -10,7 +10,7 @@ use Rattle.golog_tree.specs.declared.draft_cond.DraftArg.TheVariants.{Word, Numb
 use Rattle.golog_theory.specs.declared.names.Actions.{Actions}
 use Rattle.golog_theory.specs.Reading.{Row, Reading, gives, refused, row, ◌>>=◌, found, each}
 use Rattle.golog_theory.specs.Names.{sort_no, fluent_no, fluent_arity, action_no, action_arity}
-use Rattle.golog_theory.specs.Numbers.{value}
+use Rattle.golog_base.specs.Numbers.{value}
 use Rattle.golog_theory.specs.Parts.{word, parts, short_name, new_name, sort_of, number_of, arg_of}
 use Rattle.golog_theory.specs.Heads.{first_word, first_place, head_word, head_place, arguments, args_of, has_others, called, allowed, fluent_called, action_called, var_of, schema_of}
 use Rattle.golog_rows.proofs.Chain.{key, Chain, chain-low, Spans, then-spans, gives-spans, found-chain, Parts, ReadsFrom, each-spans, if-chain}

@@ -2,7 +2,6 @@ pub mod Codes
 pub mod Limits
 pub mod Reading
 pub mod Names
-pub mod Numbers
 pub mod Parts
 pub mod Heads
 pub mod Fluents

@@ -10,7 +10,7 @@ use Rattle.golog_theory.specs.Codes.{UNKNOWN_FORM, DUPLICATE, UNKNOWN_SORT, COUN
 use Rattle.golog_theory.specs.Limits.{NAME_BYTES}
 use Rattle.golog_theory.specs.Reading.{Reading, gives, row, ◌>>=◌, found}
 use Rattle.golog_theory.specs.Names.{is_taken, sort_no}
-use Rattle.golog_theory.specs.Numbers.{is_number, value}
+use Rattle.golog_base.specs.Numbers.{is_number, value}
 
 -- the text of an atom, and no text for a list
 abbrev pub word : Form → List ℕ

@@ -11,7 +11,7 @@ use Rattle.golog_theory.specs.Codes.{UNKNOWN_FORM, DUPLICATE, COUNT, NUMBER_RANG
 use Rattle.golog_theory.specs.Limits.{SORTS, CONSTANTS}
 use Rattle.golog_theory.specs.Reading.{Reading, gives, refused, row, ◌>>=◌, each}
 use Rattle.golog_theory.specs.Names.{same, is_taken}
-use Rattle.golog_theory.specs.Numbers.{is_number, value}
+use Rattle.golog_base.specs.Numbers.{is_number, value}
 use Rattle.golog_theory.specs.Parts.{word, short_name, new_name, number_of}
 
 -- the number that the form spells, where it spells one

@@ -8,7 +8,7 @@ use Rattle.golog_tree.specs.declared.draft_cond.DraftTerm.TheVariants.{Arg, Flue
 use Rattle.golog_theory.specs.Codes.{UNKNOWN_FORM, NUMBER_RANGE}
 use Rattle.golog_theory.specs.Reading.{Reading, gives, refused, row, ◌>>=◌, found}
 use Rattle.golog_theory.specs.Names.{same}
-use Rattle.golog_theory.specs.Numbers.{is_number, has_sign, value}
+use Rattle.golog_base.specs.Numbers.{is_number, has_sign, value}
 use Rattle.golog_theory.specs.Parts.{word, arg_of}
 use Rattle.golog_theory.specs.Heads.{fluent_called}
 use Rattle.golog_theory.specs.Recursion.{Part, part_of}

@@ -1,7 +1,7 @@
 ghost use Rattle.std.specs.Prelude.{◌≡◌, ◌^◌, Some, None, nat_le, if◌then◌else◌};
 ghost use Rattle.std.specs.List.{list_all};
 ghost use Rattle.golog_base.specs.Names.{is_digit};
-ghost use Rattle.golog_theory.specs.Numbers.{are_digits, is_zero, is_positive, has_sign, without_sign, is_number, amount, value};
+ghost use Rattle.golog_base.specs.Numbers.{are_digits, is_zero, is_positive, has_sign, without_sign, is_number, amount, value};
 
 fn all_digits(text: &[u8]) -> bool
     ensures { result ≡ list_all is_digit text.now }

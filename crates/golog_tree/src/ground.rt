@@ -80,6 +80,18 @@ fn args_count(agent: &Agent, sorts: &[u32]) -> u32
     }
 }
 
+/// How many ground actions there are, those of built-in items among them.
+pub fn action_count(agent: &Agent) -> u32
+    requires { IsCountable agent.now }
+    ensures { result ≡ ground_count agent.now (action_args agent.now) }
+{
+    let mut count = 0;
+    for item in agent.actions.as_slice() {
+        count += args_count(agent, item.args.as_slice());
+    }
+    count
+}
+
 /// The place of arguments among all of these sorts, the last varying fastest.
 fn place_of(agent: &Agent, sorts: &[u32], args: &[u8]) -> u32
     requires countable { IsCountable agent.now }

@@ -24,7 +24,9 @@ pub use draft::{
 };
 pub use draft_cond::{DraftArg, DraftCond, DraftTerm, Place};
 pub use draft_prog::DraftProg;
-pub use ground::{Ground, HasArgs, action_no, action_of, fluent_no, fluent_of, sort_size};
+pub use ground::{
+    Ground, HasArgs, action_count, action_no, action_of, fluent_no, fluent_of, sort_size,
+};
 pub use nesting::nest;
 pub use prog::{Label, Prog, Way};
 pub use substitute::{put_arg, put_cond};

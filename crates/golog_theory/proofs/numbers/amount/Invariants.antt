@@ -1,5 +1,5 @@
 use Rattle.std.proofs.Common.{◌≡◌, ◌≤◌, ◌^◌, drop}
-use Rattle.golog_theory.specs.Numbers.{amount, amount_on}
+use Rattle.golog_base.specs.Numbers.{amount, amount_on}
 use Rattle.golog_theory.proofs.numbers.amount.Given as goal
 
 abbrev pub invariant-loop-byte : goal.invariant-loop-byte
