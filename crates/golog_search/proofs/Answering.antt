@@ -22,8 +22,8 @@ use Rattle.golog_search.specs.Decided.{decision, stepping}
 use Rattle.golog_search.specs.Laws.{answer_of}
 
 -- the answer, by what it is decided by
-abbrev cases : Bool → Bool → Bool → Bool → List Move → Bool → Bool → Bool → Option Answer
-cases full unanswered settled ends steps quiet near may =
+abbrev pub answer_cases : Bool → Bool → Bool → Bool → List Move → Bool → Bool → Bool → Option Answer
+answer_cases full unanswered settled ends steps quiet near may =
     first_that_fits
     ((full, Some answer.Full)
     ∷ (unanswered, Some answer.Unanswered)
@@ -45,19 +45,19 @@ abbrev along_by : Bool → Bool → List Move → Decision
 along_by near may [] = Blocking (blocked_by near may)
 along_by near may (m ∷ ms) = stepping m
 
-blocked_so : (quiet near may : Bool) → cases false false true false [] quiet near may ≡ answer_of quiet (Blocking (blocked_by near may))
+blocked_so : (quiet near may : Bool) → answer_cases false false true false [] quiet near may ≡ answer_of quiet (Blocking (blocked_by near may))
 blocked_so true true may = refl
 blocked_so true false true = refl
 blocked_so true false false = refl
 blocked_so false near may = refl
 
 stepping_so : (m : Move) (ms : List Move) (deep quiet near may : Bool) → nat_lt nest_limit (nest m.left) ≡ deep
-    → cases false false true false (m ∷ ms) quiet near may ≡ answer_of quiet (if deep then Deep else Step m)
+    → answer_cases false false true false (m ∷ ms) quiet near may ≡ answer_of quiet (if deep then Deep else Step m)
 stepping_so m ms true quiet near may e = ap (λ b. if b then Some answer.Deep else None) e
 stepping_so m ms false quiet near may e = ap (λ b. if b then Some answer.Deep else None) e
 
 decided_so : (ends : Bool) (steps : List Move) (quiet near may : Bool)
-    → cases false false true ends steps quiet near may ≡ answer_of quiet (if ends then Final else along_by near may steps)
+    → answer_cases false false true ends steps quiet near may ≡ answer_of quiet (if ends then Final else along_by near may steps)
 decided_so true steps quiet near may = refl
 decided_so false [] quiet near may = blocked_so quiet near may
 decided_so false (m ∷ ms) quiet near may = stepping_so m ms (nat_lt nest_limit (nest m.left)) quiet near may refl
@@ -71,7 +71,7 @@ decided_answered agent journal values p f u s =
     let Q = is_quiet agent journal in
     let N = not (is_empty (moves agent values Near p)) || final agent values Near p in
     let Y = not (is_empty (moves agent values May p)) in
-    ap (λ b. cases b (is_unanswered agent journal) (is_settled agent journal) E M Q N Y) f
-    ∙ ap (λ b. cases false b (is_settled agent journal) E M Q N Y) u
-    ∙ ap (λ b. cases false false b E M Q N Y) s
+    ap (λ b. answer_cases b (is_unanswered agent journal) (is_settled agent journal) E M Q N Y) f
+    ∙ ap (λ b. answer_cases false b (is_settled agent journal) E M Q N Y) u
+    ∙ ap (λ b. answer_cases false false b E M Q N Y) s
     ∙ decided_so E M Q N Y

@@ -27,3 +27,5 @@ pub mod ReachOfBlock
 pub mod BlocklessLight
 pub mod InWorlds
 pub mod FoundInWorlds
+pub mod RunsKept
+pub mod Steadies

@@ -5,3 +5,5 @@ pub mod Finding
 pub mod BlockSteps
 pub mod Weighing
 pub mod InWorlds
+pub mod Kept
+pub mod Steady

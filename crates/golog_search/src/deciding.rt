@@ -1,16 +1,20 @@
-ghost use Rattle.std.specs.Prelude.{◌≡◌, false, true, if◌then◌else◌, IfOk, IsTrue, not};
+ghost use Rattle.std.specs.Prelude.{◌≡◌, ◌≤◌, false, true, if◌then◌else◌, IfOk, IsTrue, not};
 ghost use Rattle.std.specs.Option.{is_some};
+ghost use Rattle.golog_tree.specs.Nest.{nest};
 ghost use Rattle.golog_semantics.specs.Blocks.{moves};
 ghost use Rattle.golog_semantics.specs.Certain.{EndIsCertain, StepIsCertain, StuckIsCertain};
 ghost use Rattle.golog_semantics.specs.Heavy.{heavy as is_heavy};
 ghost use Rattle.golog_semantics.specs.ProgFits.{fits};
-ghost use Rattle.golog_semantics.specs.Search.{final};
+ghost use Rattle.golog_semantics.specs.Search.{final, nest_limit};
 ghost use Rattle.golog_semantics.specs.SortLaws.{AreInSorts};
 ghost use Rattle.golog_semantics.specs.Ways.{is_empty};
 ghost use Rattle.golog_semantics.specs.WellFormed.{WellFormed};
 ghost use Rattle.golog_search.specs.Decided.{IsAhead, IsDecided, decision, stepping as after_step};
+ghost use Rattle.golog_search.specs.Kept.{KeepsRun};
+ghost use Rattle.golog_search.specs.Steady.{steady};
 
 use crate::searches::Searches;
+use crate::steady::steady;
 use crate::weighing::some_block_weighs;
 use crate::{Blocked, Decision};
 use golog_base::NoMemory;
@@ -23,14 +27,24 @@ use std::alloc::Global;
 /// The deepest nest of what a step leaves.
 pub const NEST_LIMIT: u32 = 2048;
 
-/// The step, unless what it leaves nests too deep.
-fn stepping(step: Move) -> Decision
+/// The step, unless what it leaves nests too deep; that is known not to be so, or is measured.
+fn stepping(step: Move, shallow: bool) -> Decision
+    requires { shallow ≡ true → nest step.left ≤ nest_limit }
     ensures { result ≡ after_step step }
 {
-    if nest(&step.left) > NEST_LIMIT {
+    if !shallow && nest(&step.left) > NEST_LIMIT {
         return Decision::Deep;
     }
     Decision::Step(step)
+}
+
+/// Whether what a step leaves is known to nest no deeper than the limit, as the program does where it is
+/// shallow.
+fn stays_shallow(prog: &Prog, shallow: bool) -> bool
+    requires { shallow ≡ true → nest prog.now ≤ nest_limit }
+    ensures { result ≡ true → (is_some (steady prog.now) ≡ true) × (nest prog.now ≤ nest_limit) }
+{
+    shallow && steady(prog).is_some()
 }
 
 /// The end or the first step, where one is certain.
@@ -40,10 +54,12 @@ fn look_ahead(
     prog: &Prog,
     state: &State,
     bounded: bool,
+    shallow: bool,
 ) -> Result<Option<Decision>, NoMemory>
     requires agent { WellFormed agent.now }
     requires program { IsTrue (fits agent.now prog.now) }
     requires sorts { AreInSorts agent.now state.now }
+    requires shallow { shallow ≡ true → nest prog.now ≤ nest_limit }
     ensures { IfOk result (IsAhead agent.now state.now prog.now bounded) }
 {
     if is_final(alloc, agent, Mode::Must, prog, state)? {
@@ -51,7 +67,7 @@ fn look_ahead(
     }
     let blocks = Searches { state, bounded };
     match first_move(alloc, agent, &blocks, prog, state.values()) {
-        Ok(Some(step)) => Ok(Some(stepping(step))),
+        Ok(Some(step)) => Ok(Some(stepping(step, stays_shallow(prog, shallow)))),
         Ok(None) => Ok(None),
         Err(Stop::Fuel) => Ok(Some(Decision::Fuel)),
         Err(Stop::Memory) => Err(NoMemory),
@@ -110,7 +126,7 @@ fn look(
     requires sorts { AreInSorts agent.now state.now }
     ensures { IfOk result (IsDecided agent.now state.now prog.now bounded) }
 {
-    match look_ahead(alloc, agent, prog, state, bounded)? {
+    match look_ahead(alloc, agent, prog, state, bounded, false)? {
         Some(decision) => Ok(decision),
         None => look_why(alloc, agent, prog, state, bounded),
     }
@@ -121,7 +137,8 @@ fn look(
 /// 2,048; and else it is blocked. `Fuel` comes only where the program is `heavy`.
 ///
 /// In each world in which all is so that is known, the program may end where this is `Final`, a `Step` is a step
-/// of it by the published Trans, and it can neither end nor step where this is `Blocked(Stuck)`.
+/// of it by the published Trans, and it can neither end nor step where this is `Blocked(Stuck)`. A search block
+/// goes on along its run where all is still so that was known when the run went through.
 pub fn decide(
     alloc: Global,
     agent: &Agent,
@@ -137,6 +154,7 @@ pub fn decide(
         → StepIsCertain agent.now state.now prog.now step.label step.left) }
     ensures stuck { IfOk result (λ d. d ≡ Decision.Blocked Blocked.Stuck
         → StuckIsCertain agent.now state.now prog.now) }
+    ensures kept { IfOk result (KeepsRun agent.now state.now prog.now) }
 {
     look(alloc, agent, prog, state, true)
 }
@@ -154,7 +172,25 @@ pub fn decide_step(
     requires sorts { AreInSorts agent.now state.now }
     ensures { IfOk result (IsAhead agent.now state.now prog.now true) }
 {
-    look_ahead(alloc, agent, prog, state, true)
+    look_ahead(alloc, agent, prog, state, true, false)
+}
+
+/// What `decide_step` tells. Where the program is known to nest no deeper than 2,048, what a step leaves is
+/// measured only where it may nest deeper than the program.
+pub fn decide_step_of(
+    alloc: Global,
+    agent: &Agent,
+    prog: &Prog,
+    state: &State,
+    shallow: bool,
+) -> Result<Option<Decision>, NoMemory>
+    requires agent { WellFormed agent.now }
+    requires program { IsTrue (fits agent.now prog.now) }
+    requires sorts { AreInSorts agent.now state.now }
+    requires shallow { shallow ≡ true → nest prog.now ≤ nest_limit }
+    ensures { IfOk result (IsAhead agent.now state.now prog.now true) }
+{
+    look_ahead(alloc, agent, prog, state, true, shallow)
 }
 
 /// What `decide` tells of a program that certainly neither ends nor steps.
@@ -204,7 +240,7 @@ fn is_stepless(alloc: Global, agent: &Agent, prog: &Prog, state: &State) -> Resu
     requires unended { final agent.now state.now Mode.Must prog.now ≡ false }
     ensures { IfOk result (λ b. b ≡ is_empty (moves agent.now state.now Mode.Must prog.now)) }
 {
-    let ahead = look_ahead(alloc, agent, prog, state, false)?;
+    let ahead = look_ahead(alloc, agent, prog, state, false, false)?;
     Ok(is_nothing(ahead))
 }
 

@@ -13,10 +13,13 @@ mod reached;
 mod same;
 mod search;
 mod searches;
+mod steady;
 mod steps;
 mod weighing;
 
-pub use deciding::{NEST_LIMIT, decide, decide_blocked, decide_step, decide_unbounded, heavy};
+pub use deciding::{
+    NEST_LIMIT, decide, decide_blocked, decide_step, decide_step_of, decide_unbounded, heavy,
+};
 pub use decision::{Blocked, Decision};
 pub use finding::find;
 pub use found::Found;

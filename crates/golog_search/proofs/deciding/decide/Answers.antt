@@ -5,7 +5,9 @@ use Rattle.golog_semantics.specs.Certain.{EndIsCertain, StepIsCertain, StuckIsCe
 use Rattle.golog_search.specs.declared.decision.Blocked.TheVariants.{Stuck}
 use Rattle.golog_search.specs.declared.decision.Decision.TheVariants.{Final, Step, Blocked as Blocking}
 use Rattle.golog_search.specs.Decided.{IsDecided}
+use Rattle.golog_search.specs.Kept.{KeepsRun}
 use Rattle.golog_search.proofs.InWorlds.{ends_so, steps_so, stuck_so}
+use Rattle.golog_search.proofs.RunsKept.{keeps_run}
 use Rattle.golog_search.proofs.deciding.decide.Goals as goal
 
 pub returns-clause-ends : goal.returns-clause-ends
@@ -31,3 +33,11 @@ returns-clause-stuck c =
     let p = c.args.prog.now in
     IfOk-weaker c.look.result (IsDecided agent values p true) (λ d. d ≡ Blocking Stuck → StuckIsCertain agent values p)
     (λ d told. stuck_so agent values p c.requires.agent c.requires.program d true told) c.look.ensures
+
+pub returns-clause-kept : goal.returns-clause-kept
+returns-clause-kept c =
+    let agent = c.args.agent.now in
+    let values = c.args.state.now in
+    let p = c.args.prog.now in
+    IfOk-weaker c.look.result (IsDecided agent values p true) (KeepsRun agent values p)
+    (λ d told. keeps_run agent c.requires.agent.programs.guarded values p true d told) c.look.ensures

@@ -2,6 +2,7 @@ use Rattle.std.proofs.Common.{Some, None, false, length, sym, ap, ◌∙◌, sub
 use Rattle.golog_search.specs.declared.decision.Decision.{Decision}
 use Rattle.golog_search.specs.Decided.{IsAhead}
 use Rattle.golog_search.proofs.Choosing.{ends, first-at, first-lacks, lacks-at, searched-at, stepless, steps}
+use Rattle.golog_search.proofs.Steadies.{first-shallow}
 use Rattle.golog_ways.proofs.WellFormedFits.{well_formed_fits}
 use Rattle.golog_search.proofs.deciding.look_ahead.Goals as goal
 
@@ -31,6 +32,14 @@ returns-in-Ok-Some c =
     let f = first-at agent p c.values.result.now state c.values.ensures c.in-Ok-Some.field-0 (Some c.in-Ok-Some.step) c.in-Ok-Some.field-0-is c.in-Ok-Some.ensures.first in
     subst (λ (d : Decision). IsAhead agent state p c.args.bounded (Some d)) (sym c.stepping.ensures)
     (steps agent state p c.args.bounded (sym c.in_ok-is_final.ensures.end ∙ c.if-branch.false) c.in-Ok-Some.step f)
+
+pub stepping-requires : goal.stepping-requires
+stepping-requires c shallow =
+    let agent = c.args.agent.now in
+    let p = c.args.prog.now in
+    let state = c.args.state.now in
+    let f = first-at agent p c.values.result.now state c.values.ensures c.in-Ok-Some.field-0 (Some c.in-Ok-Some.step) c.in-Ok-Some.field-0-is c.in-Ok-Some.ensures.first in
+    first-shallow agent state p (c.stays_shallow.ensures shallow) c.in-Ok-Some.step f
 
 pub returns-in-Ok-None : goal.returns-in-Ok-None
 returns-in-Ok-None c =
