@@ -415,7 +415,9 @@ impl<'a> Lead for Runner<'a> {
     ghost mind = { λ runner. record { agent = runner.agent; list = runner.list; waits = waits runner.agent } };
 
     fn turn<B: Board>(&mut self, board: &mut B) -> Led {
-        match Runner::turn(self, board) {
+        let stepped = Runner::turn(self, board);
+        self.keeps_rules();
+        match stepped {
             Stepped::Ended(_) => Led::Ended,
             Stepped::Step | Stepped::Waiting => Led::More,
         }
@@ -423,6 +425,7 @@ impl<'a> Lead for Runner<'a> {
 
     fn gather<B: Board>(&mut self, board: &mut B) {
         self.catch_up(board);
+        self.keeps_rules();
     }
 
     ghost goes_on = { λ runner journal quiet. quiet_goes_on runner.agent journal quiet };

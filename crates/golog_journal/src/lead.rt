@@ -1,6 +1,7 @@
 //! What drives a program over a board.
-ghost use Rattle.std.specs.Prelude.{◌≡◌, ◌↔◌, IsTrue, true, false};
-ghost use Rattle.golog_semantics.specs.Journal.{Journal, has_end, is_quiet};
+ghost use Rattle.std.specs.Prelude.{◌≡◌, ◌↔◌, ◌≤◌, IsTrue, true, false, length};
+ghost use Rattle.golog_semantics.specs.Journal.{Journal, has_end, is_quiet, longest};
+ghost use Rattle.golog_journal.specs.Boards.{IsBoardList};
 ghost use Rattle.golog_journal.specs.Growing.{program};
 ghost use Rattle.golog_journal.specs.Leading.{Mind, IsBehind, SameMind, Leads, Watches, TakesTurn};
 
@@ -31,7 +32,9 @@ pub trait Lead {
         ensures behind { IsBehind (mind self.new).list (B.sight board.new).seen }
         ensures leads { Leads (B.sight board.old) (B.sight board.new) }
         ensures ended { (result ≡ Led.Ended) ↔ IsTrue (has_end (B.sight board.new).seen) }
-        ensures turn { TakesTurn (mind self.old) (B.sight board.old) (B.sight board.new) };
+        ensures turn { TakesTurn (mind self.old) (B.sight board.old) (B.sight board.new) }
+        ensures lawful { IsBoardList (mind self.new).agent (B.sight board.new).seen }
+        ensures short { length (B.sight board.new).seen ≤ longest };
 
     /// Copies all that it lacks, and adds nothing.
     fn gather<B: Board>(&mut self, board: &mut B)
@@ -40,7 +43,9 @@ pub trait Lead {
         requires behind { IsBehind (mind self.old).list (B.sight board.old).seen }
         ensures same { SameMind (mind self.old) (mind self.new) }
         ensures whole { (mind self.new).list ≡ (B.sight board.new).seen }
-        ensures watches { Watches (B.sight board.old) (B.sight board.new) };
+        ensures watches { Watches (B.sight board.old) (B.sight board.new) }
+        ensures lawful { IsBoardList (mind self.new).agent (B.sight board.new).seen }
+        ensures short { length (B.sight board.new).seen ≤ longest };
 
     // It waits at no list at which each device is closed or at rest.
     ghost goes_on: { (lead : Self) (journal : Journal) → IsTrue (is_quiet (mind lead).agent journal)

@@ -13,36 +13,13 @@ ghost use Rattle.golog_journal.specs.Facts.{IsFactOf, AreAllFacts};
 use crate::facts::{ActionFact, DEVICES};
 use golog_base::NoMemory;
 use golog_tree::{
-    ActionItem, Agent, Arg, Ground, SenseItem, action_of, fluent_no, fluent_of, sort_size,
+    ActionItem, Agent, Arg, Ground, SenseItem, action_count, action_of, fluent_no, fluent_of,
+    sort_size,
 };
 use std::alloc::Global;
 
 /// The most arguments of an item.
 const MOST_ARGS: usize = 3;
-
-/// How many lists of arguments of these sorts there are.
-fn args_count(agent: &Agent, sorts: &[u32]) -> u32
-    requires countable { IsCountable agent.now }
-    requires few { length sorts.now ≤ 3 }
-    ensures { result ≡ product (sizes agent.now sorts.now) }
-{
-    match sorts.split_first() {
-        None => 1,
-        Some((sort, others)) => sort_size(agent, *sort) * args_count(agent, others),
-    }
-}
-
-/// How many ground actions there are.
-fn action_count(agent: &Agent) -> u32
-    requires { IsCountable agent.now }
-    ensures { result ≡ ground_count agent.now (action_args agent.now) }
-{
-    let mut count = 0;
-    for item in agent.actions.as_slice() {
-        count += args_count(agent, item.args.as_slice());
-    }
-    count
-}
 
 /// The facts of all ground actions, in the order of their numbers. Takes time for each of them and each
 /// action item before it.

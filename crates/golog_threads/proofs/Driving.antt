@@ -201,7 +201,7 @@ module _ {D : Type 0} (agent : Agent) (meaning : D → Meaning) (first : ℕ) wh
     shut = shut;
     dealt = λ script far. subst (λ b. DealtIf agent first b old 0 script (meaning d)) shut far;
     same = λ s. refl;
-    refused = λ yes. refl;
+    refused = λ yes. yes;
   }
 
   pub driven-shut : (old : Journal) (ps : List ℕ) (opens : List Bool) (ds : List D) → length ds ≡ 1 → MayDrive agent first (length ds) old ps opens → is_open first old ≡ false

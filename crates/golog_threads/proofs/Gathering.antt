@@ -1,5 +1,5 @@
 -- What a lead has gathered at the end of a run.
-use Rattle.std.proofs.Common.{◌≡◌, ℕ, ◌+◌, ◌<◌, ◌≤◌, Bool, true, false, not, ◌||◌, ◌==◌, Option, Some, None, List, [], ◌∷◌, ◌++◌, length, length-append, append_assoc, refl, sym, ap, ◌∙◌, subst, arith}
+use Rattle.std.proofs.Common.{◌≡◌, ℕ, ◌+◌, ◌<◌, ◌≤◌, Bool, true, false, not, ◌||◌, ◌==◌, Option, Some, None, List, [], ◌∷◌, ◌++◌, length, append_assoc, refl, sym, ap, ◌∙◌, subst, arith}
 use Rattle.std.specs.Prelude.{is_some, IsTrue}
 use Rattle.std.specs.List.{list_all}
 use Rattle.std.specs.Option.{option_map_or}
@@ -15,7 +15,7 @@ use Rattle.golog_journal.specs.Leading.{IsBehind, Watches, may_come, is_of_progr
 use Rattle.golog_turn.specs.Parties.{contains, GoesOn, KeepsLonger}
 use Rattle.golog_threads.specs.Driving.{HaveServed, HasDriven, RunsOverThreads}
 use Rattle.golog_threads.specs.Gathering.{Gathered}
-use Rattle.golog_threads.proofs.Lists.{foreign, not-program, end-stands, lawful-prefix}
+use Rattle.golog_threads.proofs.Lists.{foreign, not-program, end-stands}
 use Rattle.golog_threads.proofs.Turning.{goes-then}
 use Rattle.golog_threads.proofs.Driving.{joined-goes, goes-from, all-later, more-served}
 
@@ -57,14 +57,14 @@ end-later seen kept ps goes ended = subst (λ j. IsTrue (has_end j)) (sym goes.1
 
 -- ---- the whole run
 
-pub gathered : (agent : Agent) (old new : Sight) (list all : Journal) (ps : List ℕ) → old.holds ≡ contains ps → Watches old new → list ≡ new.seen
-    → (others : Journal) → all ≡ list ++ others → IsBoardList agent all → length all ≤ longest → Gathered agent old.seen list ps
-gathered agent old new list all ps holds watches whole others more lawful short = record {
+pub gathered : (agent : Agent) (old new : Sight) (list : Journal) (ps : List ℕ) → old.holds ≡ contains ps → Watches old new → list ≡ new.seen
+    → IsBoardList agent new.seen → length new.seen ≤ longest → Gathered agent old.seen list ps
+gathered agent old new list ps holds watches whole lawful short = record {
   since = watches.leads.since;
   is = whole ∙ watches.leads.grows;
   none = λ device held. come-foreign old device (ap (λ h. h device) holds ∙ held) watches.leads.since watches.leads.may_come;
-  lawful = lawful-prefix agent list others (subst (IsBoardList agent) more lawful);
-  short = (let l = length-append list others in let m = ap (λ j. length j) more in omega (arith, l, m, short));
+  lawful = subst (IsBoardList agent) (sym whole) lawful;
+  short = subst (λ (j : Journal). length j ≤ longest) (sym whole) short;
 }
 
 module _ {D : Type 0} (agent : Agent) (meaning : D → Meaning) (old new : Journal) (later : Journal) where

@@ -32,14 +32,14 @@ has_refused device journal = list_any (is_refusal_of device) journal
 
 module _ {D : Type 0} (agent : Agent) (meaning : D → Meaning) where
   -- The device is closed in the new list. With a script, as it was dealt with in the old list, when it had taken no
-  -- command, it is dealt with in the new one to its close. One that was closed in the old list, or has refused its
-  -- script, is as it was.
+  -- command, it is dealt with in the new one to its close. One that was closed in the old list is as it was, and one
+  -- that has refused its script had done so in the old list.
   pub record HasServed (old new : Journal) (device : ℕ) (was is : D) : Type 0 where
     pub shut : is_open device new ≡ false
     pub dealt : (script : Script) → DealtNow agent device old 0 script (meaning was)
         → Dealt agent device new script (meaning is)
     pub same : is_open device old ≡ false → is ≡ was
-    pub refused : has_refused device new ≡ true → is ≡ was
+    pub refused : has_refused device new ≡ true → has_refused device old ≡ true
 
   -- so have the devices from this number on
   abbrev pub HaveServed : Journal → Journal → ℕ → List D → List D → Type 0

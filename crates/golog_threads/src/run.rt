@@ -2,7 +2,7 @@
 ghost use Rattle.std.specs.Prelude.{◌≡◌, ◌≤◌, ◌<◌, ℕ, true, false, IsTrue, length, OnOk, OnErr, slice_index_or};
 ghost use Rattle.std.specs.Thread.{IsSync, IsSend};
 ghost use Rattle.golog_semantics.specs.WellFormed.{WellFormed};
-ghost use Rattle.golog_semantics.specs.Journal.{has_end, is_open as is_open_in};
+ghost use Rattle.golog_semantics.specs.Journal.{has_end, longest, is_open as is_open_in};
 ghost use Rattle.golog_journal.specs.Boards.{IsBoardList};
 ghost use Rattle.golog_journal.specs.Growing.{program};
 ghost use Rattle.golog_journal.specs.Leading.{IsBehind, SameMind, Watches};
@@ -118,11 +118,13 @@ fn gather_at<L: Lead, B: Board>(lead: &mut L, board: &mut B)
     ensures same { SameMind (L.mind lead.old) (L.mind lead.new) }
     ensures whole { (L.mind lead.new).list ≡ (B.sight board.new).seen }
     ensures watches { Watches (B.sight board.old) (B.sight board.new) }
+    ensures lawful { IsBoardList (L.mind lead.new).agent (B.sight board.new).seen }
+    ensures short { length (B.sight board.new).seen ≤ longest }
 {
     lead.gather(board);
 }
 
-// The lead copies all that the seat may come to see, and one more look at the journal shows that this keeps the rules.
+// The lead copies all that the seat comes to see.
 fn gather_all<A: Naming, N: AtLock, L: Lead, R: Wait>(
     rt: &R,
     lock: &TurnLock<Shared<A>>,
@@ -141,7 +143,6 @@ fn gather_all<A: Naming, N: AtLock, L: Lead, R: Wait>(
 {
     let mut board = SeatBoard::<R, Shared<A>, N>::of(rt, lock, agent, hall, seat);
     gather_at(lead, &mut board);
-    board.copy_since(0);
 }
 
 // The devices beside each other, and beside the lead.

@@ -1,4 +1,5 @@
-use Rattle.std.proofs.Common.{◌++◌, append_assoc, sym, ◌∙◌, ap, subst}
+use Rattle.std.proofs.Common.{◌∙◌, ap, subst}
+use Rattle.golog_journal.specs.Boards.{IsBoardList}
 use Rattle.golog_turn.specs.Parties.{contains}
 use Rattle.golog_turn.specs.Seats.{seen, parties_of}
 use Rattle.golog_threads.specs.Gathering.{Gathered}
@@ -8,11 +9,11 @@ use Rattle.golog_threads.proofs.run.gather_all.Goals as goal
 
 pub returns-clause-gathered : goal.returns-clause-gathered
 returns-clause-gathered g c =
-    let others = c.copy_since.ensures.others ++ c.copy_since.ensures.added in
+    let agent = g.A.Naming.agent in
     let list = (g.L.Lead.mind c.gather_at.new.lead).list in
-    subst (λ s. Gathered g.A.Naming.agent (seen s) list (parties_of c.args.seat)) c.of-board.ensures
-    (gathered g.A.Naming.agent (sight_of g.A.Naming.agent (seen c.of-board.result.seat) (parties_of c.of-board.result.seat))
-    (sight_of g.A.Naming.agent (seen c.gather_at.new.board.seat) (parties_of c.gather_at.new.board.seat)) list (seen c.copy_since.new.self.seat) (parties_of c.args.seat)
-    (ap (λ s. contains (parties_of s)) c.of-board.ensures) c.gather_at.ensures.watches c.gather_at.ensures.whole others
-    (c.copy_since.ensures.grows ∙ append_assoc _ c.copy_since.ensures.others c.copy_since.ensures.added ∙ ap (λ j. j ++ others) (sym c.gather_at.ensures.whole))
-    c.copy_since.ensures.lawful c.copy_since.ensures.short)
+    subst (λ s. Gathered agent (seen s) list (parties_of c.args.seat)) c.of-board.ensures
+    (gathered agent (sight_of agent (seen c.of-board.result.seat) (parties_of c.of-board.result.seat))
+    (sight_of agent (seen c.gather_at.new.board.seat) (parties_of c.gather_at.new.board.seat)) list (parties_of c.args.seat)
+    (ap (λ s. contains (parties_of s)) c.of-board.ensures) c.gather_at.ensures.watches c.gather_at.ensures.whole
+    (subst (λ a. IsBoardList a (seen c.gather_at.new.board.seat)) (c.gather_at.ensures.same.same_agent ∙ c.requires.agent) c.gather_at.ensures.lawful)
+    c.gather_at.ensures.short)
