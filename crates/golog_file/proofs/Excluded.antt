@@ -34,13 +34,13 @@ parsed bytes form s = go (parse (length bytes) (tokens bytes) start) refl
 pub one-form : (bytes : List ℕ) (one other : Form) → Spells bytes one → Spells bytes other → one ≡ other
 one-form bytes one other s t = let e : Ok one ≡ Ok other = sym (parsed bytes one s) ∙ parsed bytes other t in cc
 
-unfit : (bytes : List ℕ) (form : Form) → SpellsForm bytes form → (at why : ℕ) → Fits bytes at why → ⊥
+pub unfit : (bytes : List ℕ) (form : Form) → SpellsForm bytes form → (at why : ℕ) → Fits bytes at why → ⊥
 unfit bytes form s = (answer bytes (Ok form) s.small (parsed bytes form s.spelled)).1
 
 -- ---- the stages of a form that is read
 
 -- where rows were read to a value, none fits
-unfit-rows : {A : Type 0} (reading : Reading A) (x : A) → reading.outcome ≡ Ok x → (code at : ℕ) → IsLeast (FitsIn reading.rows) code at → ⊥
+pub unfit-rows : {A : Type 0} (reading : Reading A) (x : A) → reading.outcome ≡ Ok x → (code at : ℕ) → IsLeast (FitsIn reading.rows) code at → ⊥
 unfit-rows reading x e code at h =
     let c = h.fits in
     none-fits reading.rows (reading.agrees ∙ ap refusal_in e) code at c.0 c.1 c.2

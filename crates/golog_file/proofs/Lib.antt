@@ -1,3 +1,6 @@
 pub mod Answers
 pub mod Excluded
-mod Asked
+pub mod Asked
+mod Ranges
+mod CondExcluded
+mod CondAnswers

@@ -3,11 +3,14 @@ use Rattle.std.specs.Prelude.{◌≡◌, ℕ, List, Ok}
 use Rattle.golog_form.specs.declared.form.Form.{Form}
 use Rattle.golog_form.specs.Spelling.{Spells}
 use Rattle.golog_tree.specs.declared.agent.Agent.{Agent}
+use Rattle.golog_tree.specs.declared.cond.Cond.{Cond}
 use Rattle.golog_tree.specs.declared.draft.DraftTheory.{DraftTheory}
 use Rattle.golog_tree.specs.declared.draft_cond.DraftCond.{DraftCond}
 use Rattle.golog_draft.specs.Drafts.{CondKeeps, AgentCondKeeps}
+use Rattle.golog_semantics.specs.ReportLaws.{RangesFit}
 use Rattle.golog_theory.specs.Items.{theory_of}
 use Rattle.golog_file.specs.Spelled.{SpellsAgent, IsFirstRefusal}
+use Rattle.golog_file.specs.Conditions.{SpellsCond, RefusesCond}
 
 -- bytes that spell an agent have no first refusal
 abbrev pub SpelledIsUnrefused : Type 0
@@ -26,3 +29,19 @@ ReadConditionsStayKept =
     (bytes : List ℕ) (agent : Agent) → SpellsAgent bytes agent → (form : Form) → Spells bytes form
     → (theory : DraftTheory) → (theory_of form).outcome ≡ Ok theory
     → (cond : DraftCond) → CondKeeps theory cond → AgentCondKeeps agent cond
+
+-- The ends of the sorts of whole numbers of an agent that bytes spell are in the range of their type.
+abbrev pub RangesOfAgentsFit : Type 0
+RangesOfAgentsFit = (bytes : List ℕ) (agent : Agent) → SpellsAgent bytes agent → RangesFit agent
+
+-- bytes that spell a condition have no first refusal
+abbrev pub SpelledCondIsUnrefused : Type 0
+SpelledCondIsUnrefused =
+    (theory : DraftTheory) (agent : Agent) (bytes : List ℕ) (cond : Cond) → SpellsCond theory agent bytes cond
+    → (code at : ℕ) → ¬ RefusesCond theory agent bytes code at
+
+-- bytes spell one condition at most
+abbrev pub OneCondIsSpelled : Type 0
+OneCondIsSpelled =
+    (theory : DraftTheory) (agent : Agent) (bytes : List ℕ) (one other : Cond)
+    → SpellsCond theory agent bytes one → SpellsCond theory agent bytes other → one ≡ other

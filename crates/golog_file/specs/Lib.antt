@@ -1,3 +1,4 @@
 pub mod Faults
 pub mod Spelled
+pub mod Conditions
 pub mod Laws

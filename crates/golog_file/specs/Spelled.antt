@@ -15,6 +15,7 @@ use Rattle.golog_prog.specs.Items.{program_of}
 use Rattle.golog_check.specs.declared.fault.CheckFault.TheVariants.{Refused as CheckRefused}
 use Rattle.golog_check.specs.Check.{agent_of}
 use Rattle.golog_check.specs.Order.{all_rows, IsLeastRow}
+use Rattle.golog_file.specs.declared.reading.Understood.{Understood}
 use Rattle.golog_file.specs.declared.fault.AgentFault.{AgentFault}
 use Rattle.golog_file.specs.declared.fault.AgentFault.TheVariants.{Refused, Memory}
 
@@ -87,3 +88,23 @@ abbrev pub Reads : Result Agent AgentFault → List ℕ → Type 0
 Reads (Ok agent) bytes = SpellsAgent bytes agent
 Reads (Err (Refused code at)) bytes = IsFirstRefusal bytes code at
 Reads (Err Memory) bytes = Unit {0}
+
+-- the form spells the agent, over this theory
+pub record FormSpellsWith (form : Form) (theory : DraftTheory) (agent : Agent) : Type 0 where
+  pub theory_read : (theory_of form).outcome ≡ Ok theory
+  pub form_spells : FormSpells form agent
+
+-- the bytes spell the agent, over this theory
+pub record SpellsWith (bytes : List ℕ) (theory : DraftTheory) (agent : Agent) : Type 0 where
+  pub form : Form
+  pub bytes_spell : SpellsForm bytes form
+  pub form_spells : FormSpellsWith form theory agent
+
+-- the same answers, with the theory beside the agent
+abbrev pub FormAnswersWith : Result Understood AgentFault → Form → Type 0
+FormAnswersWith (Ok understood) form = FormSpellsWith form understood.theory understood.agent
+FormAnswersWith (Err fault) form = FormAnswers (Err fault) form
+
+abbrev pub ReadsWith : Result Understood AgentFault → List ℕ → Type 0
+ReadsWith (Ok understood) bytes = SpellsWith bytes understood.theory understood.agent
+ReadsWith (Err fault) bytes = Reads (Err fault) bytes

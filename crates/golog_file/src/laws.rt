@@ -1,4 +1,4 @@
-ghost use Rattle.golog_file.specs.Laws.{OneAgentIsSpelled, ReadConditionsStayKept, SpelledIsUnrefused};
+ghost use Rattle.golog_file.specs.Laws.{OneAgentIsSpelled, OneCondIsSpelled, RangesOfAgentsFit, ReadConditionsStayKept, SpelledCondIsUnrefused, SpelledIsUnrefused};
 
 /// Bytes that spell an agent are not refused.
 pub fn spelled_is_unrefused()
@@ -14,4 +14,20 @@ pub fn one_agent_is_spelled()
 /// `check_condition` may take it.
 pub fn read_conditions_stay_kept()
     ensures { ReadConditionsStayKept }
+{}
+
+/// The ends of the sorts of whole numbers of each agent that a file spells are in the range of their type, so that
+/// the agent tells its things apart by their names.
+pub fn ranges_of_agents_fit()
+    ensures { RangesOfAgentsFit }
+{}
+
+/// Bytes that spell a condition are not refused.
+pub fn spelled_cond_is_unrefused()
+    ensures { SpelledCondIsUnrefused }
+{}
+
+/// Bytes spell one condition at most.
+pub fn one_cond_is_spelled()
+    ensures { OneCondIsSpelled }
 {}

@@ -1,10 +1,15 @@
-//! The agent that the bytes of a file spell, or their first refusal.
+//! The agent that the bytes of a file spell, and the condition that bytes spell over it, or their first refusal.
 #![tactic(auto)]
 
+mod condition;
 mod fault;
 mod laws;
 mod reading;
 
-pub use fault::AgentFault;
-pub use laws::{one_agent_is_spelled, read_conditions_stay_kept, spelled_is_unrefused};
-pub use reading::read_agent;
+pub use condition::read_condition;
+pub use fault::{AgentFault, CondFault};
+pub use laws::{
+    one_agent_is_spelled, one_cond_is_spelled, ranges_of_agents_fit, read_conditions_stay_kept,
+    spelled_cond_is_unrefused, spelled_is_unrefused,
+};
+pub use reading::{Understood, read_agent, read_theory_and_agent};

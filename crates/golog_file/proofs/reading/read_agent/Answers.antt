@@ -1,12 +1,6 @@
-use Rattle.std.proofs.Common.{Err, sym, subst}
-use Rattle.golog_file.specs.Spelled.{Reads}
-use Rattle.golog_file.proofs.Answers.{bytes-read, form-refused}
+use Rattle.golog_file.proofs.Answers.{without-theory}
 use Rattle.golog_file.proofs.reading.read_agent.Goals as goal
 
 pub returns-in-Ok-clause-answer : goal.returns-in-Ok-clause-answer
 returns-in-Ok-clause-answer c =
-    bytes-read c.args.bytes.now c.in-Ok.form c.agent_in-answer.result c.in-Ok.ensures.found c.in-Ok.ensures.codes c.agent_in-answer.ensures.answer
-
-pub returns-in-Err-clause-answer : goal.returns-in-Err-clause-answer
-returns-in-Err-clause-answer c =
-    subst (λ fault. Reads (Err fault) c.args.bytes.now) (sym c.from.ensures) (form-refused c.args.bytes.now c.in-Err.fault c.in-Err.ensures.codes)
+    without-theory c.args.bytes.now c.in-Ok.field-0.theory c.in-Ok.field-0.agent c.in-Ok.ensures.answer
