@@ -1,0 +1,6 @@
+ghost use Rattle.golog_ask.specs.Laws.{EntriesOfReportsFit};
+
+/// The entries of a report that has a text speak of the agent's actions, fluents and values, as `ask` asks.
+pub fn entries_of_reports_fit()
+    ensures { EntriesOfReportsFit }
+{}

@@ -1,0 +1,115 @@
+ghost use Rattle.std.specs.Prelude.{◌≤◌};
+ghost use Rattle.golog_semantics.specs.WellFormed.{WellFormed};
+
+use golog_base::NoMemory;
+use golog_check_text::check_text;
+use golog_demo::{DemoFiles, demo_files};
+use golog_file::read_agent;
+use golog_script::scripts_of;
+use golog_tree::{Agent, action_count};
+use std::alloc::Global;
+
+/// How many idle items the scripts of the two devices have; zeros where the bytes spell no two scripts.
+fn idle_counts(alloc: Global, agent: &Agent, devices: &[u8]) -> [usize; 2] {
+    let read = scripts_of(alloc, devices, &agent.devices);
+    let answer = match &read {
+        Ok(scripts) => match scripts.as_slice() {
+            [panel, lift] => [panel.idle.len(), lift.idle.len()],
+            _ => [0; 2],
+        },
+        Err(_fault) => [0; 2],
+    };
+    drop(read);
+    answer
+}
+
+/// How many ground fluents and ground actions the agent has, and those idle items.
+fn counts_of(alloc: Global, agent: &Agent, devices: &[u8]) -> [usize; 4]
+    requires { WellFormed agent.now }
+{
+    let [panel, lift] = idle_counts(alloc, agent, devices);
+    [
+        agent.starts.len(),
+        action_count(agent) as usize,
+        panel,
+        lift,
+    ]
+}
+
+/// The same of a demo of this size; zeros where its agent is refused.
+fn demo_counts(alloc: Global, size: u32) -> Result<[usize; 4], NoMemory>
+    requires some { 1 ≤ size }
+    requires few { size ≤ 200 }
+{
+    let DemoFiles { agent, devices } = demo_files(alloc, size)?;
+    let read = read_agent(alloc, agent.as_slice());
+    let answer = match &read {
+        Ok(agent) => counts_of(alloc, agent, devices.as_slice()),
+        Err(_fault) => [0; 4],
+    };
+    drop(read);
+    Ok(answer)
+}
+
+#[test]
+fn demos_of_all_sizes_are_read(rt: HostRuntime) -> Result<(), NoMemory> {
+    for size in 1..201u32 {
+        let floors = size as usize;
+        let wanted = [floors + 3, 2 * floors + 5, floors, 1];
+        assert_eq!(rt; demo_counts(rt.alloc(), size)?, wanted);
+    }
+    Ok(())
+}
+
+/// Whether the devices file of a demo of this size is this text.
+fn has_devices(alloc: Global, size: u32, text: &[u8]) -> Result<bool, NoMemory>
+    requires some { 1 ≤ size }
+    requires few { size ≤ 200 }
+{
+    let files = demo_files(alloc, size)?;
+    Ok(files.devices.as_slice() == text)
+}
+
+#[test]
+fn each_button_is_pushed(rt: HostRuntime) -> Result<(), NoMemory> {
+    let one = b"[{\"name\":\"panel\",\"answers\":[],\"idle\":[\"push(1)\"]},\
+        {\"name\":\"lift\",\"answers\":[],\"idle\":[\"rest\"]}]";
+    let three =
+        b"[{\"name\":\"panel\",\"answers\":[],\"idle\":[\"push(3)\",\"push(2)\",\"push(1)\"]},\
+        {\"name\":\"lift\",\"answers\":[],\"idle\":[\"rest\"]}]";
+    assert!(rt; has_devices(rt.alloc(), 1, one)?);
+    assert!(rt; has_devices(rt.alloc(), 3, three)?);
+    Ok(())
+}
+
+/// Whether the line of the agent is this text.
+fn has_line(alloc: Global, agent: &Agent, text: &[u8]) -> bool
+    requires { WellFormed agent.now }
+{
+    match check_text(alloc, agent) {
+        Ok(line) => line.as_slice() == text,
+        Err(NoMemory) => false,
+    }
+}
+
+/// The same of the agent that a file spells.
+fn file_has_line(alloc: Global, file: &[u8], text: &[u8]) -> bool {
+    let read = read_agent(alloc, file);
+    let answer = match &read {
+        Ok(agent) => has_line(alloc, agent, text),
+        Err(_fault) => false,
+    };
+    drop(read);
+    answer
+}
+
+#[test]
+fn ground_things_are_counted(rt: HostRuntime) {
+    // `interrupts_running`, and two fluents of four ground things together; two actions built in, and five more.
+    let file = b"(agent (sort level 1 3) (device panel)
+        (fluent floor () level) (fluent on (level) bool)
+        (action up ()) (action off (level) panel) (exo quit () panel)
+        (proc wait () nil) (main nil))";
+    let line = b"ok fluents 5 actions 7 procedures 1 devices 1\n";
+    assert!(rt; file_has_line(rt.alloc(), file, line));
+}

@@ -1,0 +1,7 @@
+//! Tests of the calls that commands stand on, over agents that are read from files.
+#![tactic(auto)]
+
+#[cfg(test)]
+mod asks;
+#[cfg(test)]
+mod demos;
