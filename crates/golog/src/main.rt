@@ -1,4 +1,4 @@
-//! Runs the program of an agent file: `golog run AGENT [DEVICES] --inline`.
+//! Runs the program of an agent file: `golog run AGENT [DEVICES] [--inline]`.
 #![tactic(auto)]
 
 use golog_base::{FileFiles, OutSink};
@@ -6,6 +6,7 @@ use golog_main::{NO_MEMORY, golog, script_devices};
 use std::alloc::AllocError;
 use std::io::ErrorKind;
 use std::process::ExitCode;
+use std::sync::Wait;
 use std::thread::{Builder, Threads};
 use std::{env, io};
 
@@ -14,8 +15,8 @@ use std::{env, io};
 const STACK: usize = 1 << 30;
 
 fn main(rt: HostRuntime) -> ExitCode {
-    match rt.clone() {
-        Ok(own) => match status_on_thread(&rt, own) {
+    match two_of(&rt) {
+        Ok((threads, own)) => match status_on_thread(&rt, threads, own) {
             Ok(status) => ExitCode::from(status),
             Err(_) => ExitCode::from(NO_MEMORY),
         },
@@ -23,21 +24,31 @@ fn main(rt: HostRuntime) -> ExitCode {
     }
 }
 
-// Does what the words say, on a thread with a large stack.
-fn status_on_thread(rt: &impl Threads, own: HostRuntime) -> io::Result<u8> {
+// The runtime twice more: `main` alone may hand it on as one that makes threads.
+fn two_of(rt: &HostRuntime) -> Result<(HostRuntime, HostRuntime), AllocError> {
+    Ok((rt.clone()?, rt.clone()?))
+}
+
+// Does what the words say, on a thread with a large stack, from which those of the devices are made.
+fn status_on_thread<R: Threads + Wait + Sync + Send + Drop + 'static>(
+    rt: &R,
+    threads: R,
+    own: HostRuntime,
+) -> io::Result<u8> {
     let worker = Builder::new()
         .stack_size(STACK)
-        .spawn(rt, move || status(&own))?;
+        .spawn(rt, move || status(&threads, &own))?;
     Ok(worker.join(rt)?)
 }
 
 // Does what the words say, over real files, standard output and devices that follow scripts.
-fn status(rt: &HostRuntime) -> Result<u8, AllocError> {
+fn status<R: Threads + Wait + Sync>(threads: &R, rt: &HostRuntime) -> Result<u8, AllocError> {
     let words = words_of(rt)?;
     let mut files = FileFiles::new(rt.clone()?);
     let mut out = OutSink::new(rt.clone()?);
     match script_devices(rt.alloc()) {
         Ok(mut devices) => Ok(golog(
+            threads,
             rt.alloc(),
             words.as_slice(),
             &mut files,

@@ -1,8 +1,8 @@
 -- What devices that have begun with the texts of scripts have before them.
 use Rattle.std.proofs.Common.{◌≡◌, ℕ, zero, suc, ◌+◌, ◌<◌, ◌≤◌, List, [], ◌∷◌, ◌++◌, length, map, get_or, Option, Some, None, Bool, true, false, refl, sym, ap, ◌∙◌, subst, arith, inl, inr, ◌⊎◌, IsSome, All, IsSomeAnd}
-use Rattle.std.specs.Prelude.{Contains, IfSome, not, slice_get, nat_lt, is_some}
+use Rattle.std.specs.Prelude.{◌==◌, Contains, IfSome, slice_get, nat_lt, is_some}
 use Rattle.std.specs.List.{list_any, list_all, flat_map, enumerate_from}
-use Rattle.std.proofs.lemmas.Bool.{eq-eqb, lt-ltb}
+use Rattle.std.proofs.lemmas.Bool.{eqb-true, lt-ltb}
 use Rattle.std.proofs.lemmas.Bool.Decides.{leb_tells}
 use Rattle.std.proofs.lemmas.List.{length-map}
 use Rattle.golog_tree.specs.declared.agent.Agent.{Agent}
@@ -11,7 +11,7 @@ use Rattle.golog_semantics.specs.declared.journal.Reason.TheVariants.{Refused}
 use Rattle.golog_semantics.specs.Journal.{Journal, is_close, is_open, is_posted_by, posted}
 use Rattle.golog_semantics.specs.Text.{Text}
 use Rattle.golog_semantics.specs.Dealt.{Script, Dealt}
-use Rattle.golog_semantics.proofs.Among.{Among, among-contains, among-either, any-among, filter-among}
+use Rattle.golog_semantics.proofs.Tests.{or_cases}
 use Rattle.golog_journal.specs.Leading.{IsBehind, is_of_program}
 use Rattle.golog_device.specs.Devices.{Restarts}
 use Rattle.golog_device.specs.Scripts.{script_spelled}
@@ -19,8 +19,10 @@ use Rattle.golog_device.specs.Slots.{Standing, Both, EachSlot, ChangesIf, FreshB
 use Rattle.golog_device.specs.Dealing.{DealtNow, HasLeft}
 use Rattle.golog_device.proofs.DealtFirst.{dealt_at_first}
 use Rattle.golog_device.proofs.Refused.{refusals-close}
-use Rattle.golog_agent.specs.Rounds.{HasRun, HasServed, IsDealtWith, TellLeft, is_refusal}
-use Rattle.golog_main.specs.Runs.{AreTextsOf, AreDealtWith, AllTellLeft, IsDealt}
+use Rattle.golog_agent.specs.Rounds.{IsDealtWith, TellLeft}
+use Rattle.golog_threads.specs.Driving.{has_refused}
+use Rattle.golog_threads.proofs.Refusals.{open-unrefused}
+use Rattle.golog_main.specs.Runs.{AreTextsOf, AreDealtWith, AllTellLeft, HaveRun, IsDealt, Serves}
 
 -- ---- texts
 
@@ -63,23 +65,30 @@ none-refused n (true ∷ refused) none = let no : true ≡ false = none 0 (omega
 none-refused n (false ∷ refused) none = none-refused (n + 1) refused (λ slot within. none (suc slot) (omega (arith, within)))
 
 -- a device that stands among the refusals refused
-told-refused : (n : ℕ) (refused : List Bool) (device : ℕ) → Among (flat_map refusal (enumerate_from n refused)) (Close device Refused 0)
+told-refused : (n : ℕ) (refused : List Bool) (device : ℕ) → has_refused device (flat_map refusal (enumerate_from n refused)) ≡ true
     → (k : ℕ) × ((device ≡ n + k) × (get_or refused k false ≡ true))
-told-refused n [] device c = absurd c
-told-refused n (true ∷ refused) device (inl same) = (0, (let e : n ≡ device = cc in omega (arith, e), refl))
-told-refused n (true ∷ refused) device (inr c) =
-    let r = told-refused (n + 1) refused device c in
-    (suc r.0, (let e = r.1.0 in omega (arith, e), r.1.1))
+told-refused n [] device c = absurd (cc)
+told-refused n (true ∷ refused) device c =
+    by (λ later. told-refused (n + 1) refused device later) (or_cases (n == device) (has_refused device (flat_map refusal (enumerate_from (n + 1) refused))) c)
+  where
+    by : (has_refused device (flat_map refusal (enumerate_from (n + 1) refused)) ≡ true → (k : ℕ) × ((device ≡ (n + 1) + k) × (get_or refused k false ≡ true)))
+        → ((n == device) ≡ true) ⊎ (has_refused device (flat_map refusal (enumerate_from (n + 1) refused)) ≡ true)
+        → (k : ℕ) × ((device ≡ n + k) × (get_or (true ∷ refused) k false ≡ true))
+    by further (inl same) = (0, (let e : n ≡ device = eqb-true n device same in omega (arith, e), refl))
+    by further (inr c) =
+        let r = further c in
+        (suc r.0, (let e = r.1.0 in omega (arith, e), r.1.1))
 told-refused n (false ∷ refused) device c =
     let r = told-refused (n + 1) refused device c in
     (suc r.0, (let e = r.1.0 in omega (arith, e), r.1.1))
 
--- a device whose closing stands is not open
-closed-by : (journal : Journal) (device : ℕ) → Among journal (Close device Refused 0) → is_open device journal ≡ false
-closed-by journal device c =
-    ap not
-    (any-among is_close (posted device journal) (Close device Refused 0)
-    (filter-among (is_posted_by device) journal (Close device Refused 0) c (eq-eqb device device refl)) refl)
+-- a device that has refused its script is not open
+closed-by : (journal : Journal) (device : ℕ) → has_refused device journal ≡ true → is_open device journal ≡ false
+closed-by journal device refused = by (is_open device journal) refl
+  where
+    by : (b : Bool) → is_open device journal ≡ b → is_open device journal ≡ false
+    by true is = let no : true ≡ false = sym refused ∙ open-unrefused device journal is in absurd (cc)
+    by false is = is
 
 -- ---- slots
 
@@ -135,20 +144,13 @@ module _ (agent : Agent) (texts : List Text) (scripts : List Script) (are : AreT
 
   -- ---- how they are dealt with, after a run
 
-  module _ (new since : Journal) (grows : new ≡ journal ++ since) (unrefused : list_any is_refusal since ≡ false) (news : List Standing)
-      (run : EachSlot (HasRun agent journal new) mids news) where
-    -- a device whose refusal stands had refused when the run began
-    refused-first : (slot : ℕ) → Contains new (Close slot Refused 0) → (get_or begun.refused slot false ≡ true) × (is_open slot journal ≡ false)
+  module _ (new : Journal) (news : List Standing) (run : HaveRun agent journal new mids news) where
+    -- a device that has refused its script had refused it when the run began
+    refused-first : (slot : ℕ) → has_refused slot journal ≡ true → (get_or begun.refused slot false ≡ true) × (is_open slot journal ≡ false)
     refused-first slot c =
-        by (among-either journal since (Close slot Refused 0) (among-contains (journal ++ since) (Close slot Refused 0) (subst (λ j. Contains j (Close slot Refused 0)) grows c)))
-      where
-        by : Among journal (Close slot Refused 0) ⊎ Among since (Close slot Refused 0) → (get_or begun.refused slot false ≡ true) × (is_open slot journal ≡ false)
-        by (inl first) =
-            let told = told-refused 0 begun.refused slot (subst (λ j. Among j (Close slot Refused 0)) begun.closed first) in
-            let same : told.0 ≡ slot = let e = told.1.0 in omega (arith, e) in
-            (ap (λ k. get_or begun.refused k false) (sym same) ∙ told.1.1, closed-by journal slot first)
-        by (inr later) =
-            let no : false ≡ true = sym unrefused ∙ any-among is_refusal since (Close slot Refused 0) later refl in absurd (cc)
+        let told = told-refused 0 begun.refused slot (subst (λ j. has_refused slot j ≡ true) begun.closed c) in
+        let same : told.0 ≡ slot = let e = told.1.0 in omega (arith, e) in
+        (ap (λ k. get_or begun.refused k false) (sym same) ∙ told.1.1, closed-by journal slot c)
 
     as-it-was : (r : Bool) (text : Text) (a b : Standing) → BeginsUnless r text a b → r ≡ true → b ≡ a
     as-it-was true text a b begins is = begins.0
@@ -163,16 +165,16 @@ module _ (agent : Agent) (texts : List Text) (scripts : List Script) (are : AreT
 
     goes-slot : (slot : ℕ) (a b c : Standing) → slot < n → BeginsUnless (get_or begun.refused slot false) (get_or texts slot []) a b
         → ((script : Script) → HasLeft script b.meaning → DealtNow agent slot journal 0 script b.meaning)
-        → HasServed agent journal new slot b c → IsDealt agent scripts new slot a c
-    goes-slot slot a b c within begins first served = record {
-      dealt = dealt-slot slot a b c within begins first served.dealt (slice_get scripts slot) refl;
+        → Serves agent journal new slot b c → IsDealt agent scripts new slot a c
+    goes-slot slot a b c within begins first serves = record {
+      dealt = dealt-slot slot a b c within begins first serves.served.dealt (slice_get scripts slot) refl;
       refused = λ stands.
-          let was = refused-first slot stands in
-          served.shut was.1 ∙ as-it-was (get_or begun.refused slot false) (get_or texts slot []) a b begins was.0;
+          let was = refused-first slot (serves.refused stands) in
+          serves.served.shut was.1 ∙ as-it-was (get_or begun.refused slot false) (get_or texts slot []) a b begins was.0;
     }
 
     slot-goes : (slot : ℕ) (v : Bool) → nat_lt slot n ≡ v → (v ≡ true → slot < n) → (x y z : Option Standing)
-        → Both (BeginsBelow n texts begun.refused slot) x y → Both (HasRun agent journal new slot) y z
+        → Both (BeginsBelow n texts begun.refused slot) x y → Both (ChangesIf (nat_lt slot n) (Serves agent journal new slot)) y z
         → (slot < n → IfSome y (λ s. (script : Script) → HasLeft script s.meaning → DealtNow agent slot journal 0 script s.meaning))
         → Both (ChangesIf v (IsDealt agent scripts new slot)) x z
     slot-goes slot v e within None None None begins runs first = tt
@@ -183,9 +185,9 @@ module _ (agent : Agent) (texts : List Text) (scripts : List Script) (are : AreT
     slot-goes slot true e within (Some a) (Some b) (Some c) begins runs first =
         goes-slot slot a b c (within refl)
         (subst (λ u. ChangesIf u (BeginsUnless (get_or begun.refused slot false) (get_or texts slot [])) a b) e begins)
-        (first (within refl)) (subst (λ u. ChangesIf u (HasServed agent journal new slot) b c) e runs)
+        (first (within refl)) (subst (λ u. ChangesIf u (Serves agent journal new slot) b c) e runs)
     slot-goes slot false e within (Some a) (Some b) (Some c) begins runs first =
-        subst (λ u. ChangesIf u (HasServed agent journal new slot) b c) e runs
+        subst (λ u. ChangesIf u (Serves agent journal new slot) b c) e runs
         ∙ subst (λ u. ChangesIf u (BeginsUnless (get_or begun.refused slot false) (get_or texts slot [])) a b) e begins
 
     below : (slot : ℕ) → nat_lt slot n ≡ true → slot < n

@@ -32,7 +32,7 @@ begins agent text status n run = record {
 module _ (names : Names) (before after : Outside) (agent : Agent) (listed : List Script)
     (gives : GivesAgent names before after agent) (scripts : GivesScripts names.devices before after agent listed) where
   abbrev IsRun : Outcome → Type 0
-  IsRun outcome = IsRunOf agent (scripts_for agent listed) before.devices after.devices (text_of outcome) (status_of outcome)
+  IsRun outcome = IsRunOf agent (scripts_for agent listed) names.inline before.devices after.devices (text_of outcome) (status_of outcome)
 
   abbrev Behind : Outcome → Type 0
   Behind outcome = ComesBehind before.held before.file_faults after.file_faults before.devices after.devices names outcome
@@ -46,36 +46,36 @@ module _ (names : Names) (before after : Outside) (agent : Agent) (listed : List
 
   unread-not : Behind (ReadFault DevicesFile) → ⊥
   unread-not behind =
-      let f = agent-fault before.held before.file_faults after.file_faults before.devices after.devices behind.agent names.devices behind.comes in
+      let f = agent-fault before.held before.file_faults after.file_faults before.devices after.devices behind.agent names.inline names.devices behind.comes in
       let g = gives-named 5 names before after behind.agent behind.reads f.0 listed f.1 (its-scripts (ReadFault DevicesFile) behind) in
       no_fault f.0 g.0 before after g.1 f.2
 
   refused-not : (text : Text) → Behind (Refused DevicesFile text) → ⊥
   refused-not text behind =
-      let f = agent-refusal before.held before.file_faults after.file_faults before.devices after.devices behind.agent names.devices text behind.comes in
+      let f = agent-refusal before.held before.file_faults after.file_faults before.devices after.devices behind.agent names.inline names.devices text behind.comes in
       let g = gives-named 5 names before after behind.agent behind.reads f.0 listed f.1 (its-scripts (Refused DevicesFile text) behind) in
       let has = read_has f.0 g.0 before after g.1 (λ bytes. Tells DevicesFile (RefusesScripts behind.agent bytes) text) f.2 in
       spelled-once 5 names before after behind.agent behind.reads g.0 listed has.code has.at g.2 has.refused
 
   ran-so : (text : Text) (status : ℕ) (outcome : Outcome) (behind : Behind outcome)
-      → RunsScripts before.held before.file_faults after.file_faults before.devices after.devices behind.agent names.devices text status
-      → IsRunOf agent (scripts_for agent listed) before.devices after.devices text status
+      → RunsScripts before.held before.file_faults after.file_faults before.devices after.devices behind.agent names.devices names.inline text status
+      → IsRunOf agent (scripts_for agent listed) names.inline before.devices after.devices text status
   ran-so text status outcome behind runs =
       let one = behind.agent in
       let listed_so = the-scripts 5 names before after one behind.reads names.devices runs.listed listed runs.reads (its-scripts outcome behind) in
-      subst (λ a. IsRunOf a (scripts_for a listed) before.devices after.devices text status) (sym (same-agent outcome behind))
-      (subst (λ l. IsRunOf one (scripts_for one l) before.devices after.devices text status) (sym listed_so) runs.run)
+      subst (λ a. IsRunOf a (scripts_for a listed) names.inline before.devices after.devices text status) (sym (same-agent outcome behind))
+      (subst (λ l. IsRunOf one (scripts_for one l) names.inline before.devices after.devices text status) (sym listed_so) runs.run)
 
   is-run : (outcome : Outcome) → IsCaused (Some names) before after outcome → IsRun outcome
   is-run WordsRefused behind =
-      absurd (agent-no-words before.held before.file_faults after.file_faults before.devices after.devices behind.agent names.devices behind.comes)
+      absurd (agent-no-words before.held before.file_faults after.file_faults before.devices after.devices behind.agent names.inline names.devices behind.comes)
   is-run (ReadFault AgentFile) (unread, same) = absurd (no_fault names.agent gives.bytes before after gives.read unread)
   is-run (ReadFault DevicesFile) behind = absurd (unread-not behind)
   is-run (Refused AgentFile text) (refused, same) = absurd (spelled-or-refused 5 names before after text refused agent gives)
   is-run (Refused DevicesFile text) behind = absurd (refused-not text behind)
   is-run (Ran text answer) behind =
       ran-so text (status_of (Ran text answer)) (Ran text answer) behind
-      (agent-run before.held before.file_faults after.file_faults before.devices after.devices behind.agent names.devices text answer behind.comes)
+      (agent-run before.held before.file_faults after.file_faults before.devices after.devices behind.agent names.inline names.devices text answer behind.comes)
 
   adds : (outcome : Outcome) → IsRun outcome → AddsPrefix before.taken after.taken (text_of outcome) → AddsBeginning agent before.taken after.taken
   unfolding begins

@@ -1,5 +1,5 @@
 -- The causes exclude one another, and each outcome has one status.
-use Rattle.std.proofs.Common.{◌≡◌, ℕ, ◌<◌, List, Option, Some, None, Ok, Err, ◌⊎◌, inl, inr, arith, sym, ◌∙◌, refl, subst, IsSome}
+use Rattle.std.proofs.Common.{◌≡◌, Bool, ℕ, ◌<◌, List, Option, Some, None, Ok, Err, ◌⊎◌, inl, inr, arith, sym, ◌∙◌, refl, subst, IsSome}
 use Rattle.golog_base.specs.Faults.{Rose}
 use Rattle.golog_base.specs.Files.{HasNone, FileHas, bytes_of}
 use Rattle.golog_base.specs.declared.mem_files.HeldFile.{HeldFile}
@@ -54,23 +54,23 @@ run_status Memory = inl refl
 
 -- ---- what comes of an agent
 
-module _ (held : Option (List HeldFile)) (first now : ℕ) (olds news : List Standing) (agent : Agent) where
-  pub agent-fault : (named : Option Text) → ComesOfAgent held first now olds news agent named (ReadFault DevicesFile)
+module _ (held : Option (List HeldFile)) (first now : ℕ) (olds news : List Standing) (agent : Agent) (inline : Bool) where
+  pub agent-fault : (named : Option Text) → ComesOfAgent held first now olds news agent named inline (ReadFault DevicesFile)
       → (name : Text) × (named ≡ Some name) × IsUnread held name first now
   agent-fault None comes = absurd comes
   agent-fault (Some name) (unread, same) = (name, refl, unread)
 
-  pub agent-refusal : (named : Option Text) (text : Text) → ComesOfAgent held first now olds news agent named (Refused DevicesFile text)
+  pub agent-refusal : (named : Option Text) (text : Text) → ComesOfAgent held first now olds news agent named inline (Refused DevicesFile text)
       → (name : Text) × (named ≡ Some name) × FileHas held name (λ bytes. Tells DevicesFile (RefusesScripts agent bytes) text)
   agent-refusal None text comes = absurd comes
   agent-refusal (Some name) text (refused, same) = (name, refl, refused)
 
-  pub agent-run : (named : Option Text) (text : Text) (answer : Answer) → ComesOfAgent held first now olds news agent named (Ran text answer)
-      → RunsScripts held first now olds news agent named text (answer_status answer)
+  pub agent-run : (named : Option Text) (text : Text) (answer : Answer) → ComesOfAgent held first now olds news agent named inline (Ran text answer)
+      → RunsScripts held first now olds news agent named inline text (answer_status answer)
   agent-run None text answer comes = comes
   agent-run (Some name) text answer comes = comes
 
-  pub agent-no-words : (named : Option Text) → ComesOfAgent held first now olds news agent named WordsRefused → ⊥
+  pub agent-no-words : (named : Option Text) → ComesOfAgent held first now olds news agent named inline WordsRefused → ⊥
   agent-no-words None comes = comes
   agent-no-words (Some name) comes = comes
 
@@ -177,26 +177,26 @@ module _ (status : ℕ) (names : Names) (before after : Outside) where
     agent = behind.agent;
     reads = behind.reads;
     runs =
-        subst (RunsScripts before.held before.file_faults after.file_faults before.devices after.devices behind.agent names.devices text) (sym is)
-        (agent-run before.held before.file_faults after.file_faults before.devices after.devices behind.agent names.devices text answer behind.comes);
+        subst (RunsScripts before.held before.file_faults after.file_faults before.devices after.devices behind.agent names.devices names.inline text) (sym is)
+        (agent-run before.held before.file_faults after.file_faults before.devices after.devices behind.agent names.inline names.devices text answer behind.comes);
   }
 
   tells-fault : ComesBehind before.held before.file_faults after.file_faults before.devices after.devices names (ReadFault DevicesFile)
       → TellsFault before.held before.file_faults after.file_faults names (fault_text DevicesFile)
   tells-fault behind =
-      let f = agent-fault before.held before.file_faults after.file_faults before.devices after.devices behind.agent names.devices behind.comes in
+      let f = agent-fault before.held before.file_faults after.file_faults before.devices after.devices behind.agent names.inline names.devices behind.comes in
       inr (refl, record { agent = behind.agent; reads = behind.reads; name = f.0; named = f.1; so = f.2 })
 
   tells-refusal : (text : Text) → ComesBehind before.held before.file_faults after.file_faults before.devices after.devices names (Refused DevicesFile text)
       → TellsRefusal before.held names text
   tells-refusal text behind =
-      let f = agent-refusal before.held before.file_faults after.file_faults before.devices after.devices behind.agent names.devices text behind.comes in
+      let f = agent-refusal before.held before.file_faults after.file_faults before.devices after.devices behind.agent names.inline names.devices text behind.comes in
       inr (record { agent = behind.agent; reads = behind.reads; name = f.0; named = f.1; so = f.2 })
 
   said : (outcome : Outcome) → IsCaused (Some names) before after outcome → status ≡ status_of outcome → Writes before after (text_of outcome)
       → SaysItsCause status (Some names) before after
   said WordsRefused behind is written =
-      absurd (agent-no-words before.held before.file_faults after.file_faults before.devices after.devices behind.agent names.devices behind.comes)
+      absurd (agent-no-words before.held before.file_faults after.file_faults before.devices after.devices behind.agent names.inline names.devices behind.comes)
   said (ReadFault AgentFile) (unread, same) is written =
       fault_says status (Some names) before after is (record { text = fault_text AgentFile; runs = inl (refl, unread); written = written })
   said (ReadFault DevicesFile) behind is written =
@@ -222,7 +222,7 @@ says status (Ran text answer) None before after cause (inl written) = absurd cau
 module _ (status : ℕ) (names : Names) (before after : Outside) where
   abbrev RanOrStopped : Agent → List Script → Type 0
   RanOrStopped agent listed =
-      Wrote before after (λ text. IsRunOf agent (scripts_for agent listed) before.devices after.devices text status) ⊎ IsStopped status before after
+      Wrote before after (λ text. IsRunOf agent (scripts_for agent listed) names.inline before.devices after.devices text status) ⊎ IsStopped status before after
 
   -- whatever stops a call
   stopped-follow : IsStopped status before after → FilesFollow status names before after
@@ -335,7 +335,7 @@ module _ (status : ℕ) (names : Names) (before after : Outside) where
     the-scripts (Some name) a b reads (bytes, read, spells) =
         same-scripts bytes b a spells (read_so name bytes before after read (λ told. SpellsScripts one told a) reads)
 
-    ran-follow : (text : Text) → RunsScripts before.held before.file_faults after.file_faults before.devices after.devices one names.devices text status
+    ran-follow : (text : Text) → RunsScripts before.held before.file_faults after.file_faults before.devices after.devices one names.devices names.inline text status
         → Writes before after text → FilesFollow status names before after
     ran-follow text runs written =
         of-agent
@@ -350,14 +350,14 @@ module _ (status : ℕ) (names : Names) (before after : Outside) where
   followed : (outcome : Outcome) → IsCaused (Some names) before after outcome → status ≡ status_of outcome → Writes before after (text_of outcome)
       → FilesFollow status names before after
   followed WordsRefused behind is written =
-      absurd (agent-no-words before.held before.file_faults after.file_faults before.devices after.devices behind.agent names.devices behind.comes)
+      absurd (agent-no-words before.held before.file_faults after.file_faults before.devices after.devices behind.agent names.inline names.devices behind.comes)
   followed (ReadFault AgentFile) (unread, same) is written = agent-unread unread is
   followed (ReadFault DevicesFile) behind is written =
-      let f = agent-fault before.held before.file_faults after.file_faults before.devices after.devices behind.agent names.devices behind.comes in
+      let f = agent-fault before.held before.file_faults after.file_faults before.devices after.devices behind.agent names.inline names.devices behind.comes in
       devices-unread behind.agent behind.reads f.0 f.1 f.2 is
   followed (Refused AgentFile text) (refused, same) is written = agent-refused text refused is
   followed (Refused DevicesFile text) behind is written =
-      let f = agent-refusal before.held before.file_faults after.file_faults before.devices after.devices behind.agent names.devices text behind.comes in
+      let f = agent-refusal before.held before.file_faults after.file_faults before.devices after.devices behind.agent names.inline names.devices text behind.comes in
       devices-refused behind.agent behind.reads f.0 text f.1 f.2 is
   followed (Ran text answer) behind is written =
       let tells = tells-run status names before after text answer is behind in ran-follow tells.agent tells.reads text tells.runs written

@@ -7,6 +7,7 @@ pub mod Begun
 pub mod Inlined
 mod RunsBegun
 mod RunsFit
+pub mod Served
 pub mod Reported
 pub mod Fresh
 pub mod Searchless

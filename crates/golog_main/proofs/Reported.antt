@@ -48,18 +48,18 @@ module _ (agent : Agent) where
   }
 
   -- what has been run is reported
-  pub reports-run : (texts : List Text) (before : Journal) (olds mids news : List Standing) (report : Report) → WellFormed agent → length texts ≡ length agent.devices
-      → HaveBegun (length texts) texts before olds mids → RunsOn agent before mids news report → ReportsRun agent texts olds news report
-  reports-run texts before olds mids news report formed one_each begun_texts on scripts are = record {
+  pub reports-run : (texts : List Text) (inline : Bool) (before : Journal) (olds mids news : List Standing) (report : Report) → WellFormed agent → length texts ≡ length agent.devices
+      → HaveBegun (length texts) texts before olds mids → RunsOn agent inline before mids news report → ReportsRun agent texts inline olds news report
+  reports-run texts inline before olds mids news report formed one_each begun_texts on scripts are = record {
     journal = on.journal;
     is = on.is;
     fits = is-report on.journal formed on.lawful on.short;
     lawful = on.lawful;
-    online = on.ran.online;
-    dealt = dealt-with agent texts scripts are before olds mids begun one_each on.journal on.ran.since on.ran.grows on.ran.unrefused news on.ran.run;
-    scripted = λ tell.
+    online = on.online;
+    dealt = dealt-with agent texts scripts are before olds mids begun one_each on.journal news on.run;
+    scripted = λ rounds tell.
         subst (λ j. FollowsRounds agent scripts j on.journal) (none-stands agent texts scripts are before olds mids begun one_each tell)
-        (on.ran.scripted scripts (sym (as-many texts scripts are) ∙ one_each) (tell-left agent texts scripts are before olds mids begun one_each tell));
+        (on.scripted rounds scripts (sym (as-many texts scripts are) ∙ one_each) (tell-left agent texts scripts are before olds mids begun one_each tell));
   }
     where
       begun : HaveBegun (length agent.devices) texts before olds mids
@@ -125,10 +125,10 @@ module _ (agent : Agent) where
       (is ∙ ap (λ j. report_text agent (report_of agent j)) cut)))
 
   -- what a report comes to that is written
-  pub run-of : (scripts : List Script) (olds news : List Standing) (report : Report) (text : Text) (answer : Answer)
-      → WellFormed agent → IsReportOf agent scripts olds news report → text ≡ report_text agent report → Contains report.entries (End answer)
-      → IsRunOf agent scripts olds news text (status_of answer)
-  run-of scripts olds news report text answer formed of_journal is ends =
+  pub run-of : (scripts : List Script) (inline : Bool) (olds news : List Standing) (report : Report) (text : Text) (answer : Answer)
+      → WellFormed agent → IsReportOf agent scripts inline olds news report → text ≡ report_text agent report → Contains report.entries (End answer)
+      → IsRunOf agent scripts inline olds news text (status_of answer)
+  run-of scripts inline olds news report text answer formed of_journal is ends =
       let journal = of_journal.journal in
       let text_is : text ≡ report_text agent (report_of agent journal) = is ∙ ap (report_text agent) of_journal.is in
       let there : Contains journal (End answer) = subst (λ (r : Report). Contains r.entries (End answer)) of_journal.is ends in
@@ -141,13 +141,13 @@ module _ (agent : Agent) where
         };
         so = journal_so agent formed (report_of agent journal) (record { entries = of_journal.online.entries });
         dealt = of_journal.dealt;
-        scripted = λ tell. follows scripts journal text answer of_journal.lawful there text_is (of_journal.scripted tell);
+        scripted = λ rounds tell. follows scripts journal text answer of_journal.lawful there text_is (of_journal.scripted rounds tell);
       }
 
 -- a report of a run has ended
-pub ended : (agent : Agent) (scripts : List Script) (olds news : List Standing) (report : Report) → IsReportOf agent scripts olds news report
+pub ended : (agent : Agent) (scripts : List Script) (inline : Bool) (olds news : List Standing) (report : Report) → IsReportOf agent scripts inline olds news report
     → has_end report.entries ≡ true
-ended agent scripts olds news report of_journal =
+ended agent scripts inline olds news report of_journal =
     let journal = of_journal.journal in
     let whole = (whole_is_online agent (report_of agent journal)).ended of_journal.online in
     ap (λ (r : Report). has_end r.entries) of_journal.is ∙ (and_cases (has_end journal) (not (list_any (λ d. is_open d journal) (devices agent))) whole).0

@@ -56,7 +56,7 @@ pub record TellsRun (before after : Outside) (status : ℕ) (names : Names) (tex
   pub agent : Agent
   pub reads : ReadsAgent before.held names.agent agent
   pub runs : RunsScripts before.held before.file_faults after.file_faults before.devices after.devices
-      agent names.devices text status
+      agent names.devices names.inline text status
 
 -- ---- a status only where its cause is
 
@@ -118,7 +118,7 @@ pub record FilesFollow (status : ℕ) (names : Names) (before after : Outside) :
   pub runs : (agent : Agent) (listed : List Script) → GivesAgent names before after agent
       → GivesScripts names.devices before after agent listed
       → Wrote before after (λ text.
-      IsRunOf agent (scripts_for agent listed) before.devices after.devices text status)
+      IsRunOf agent (scripts_for agent listed) names.inline before.devices after.devices text status)
       ⊎ IsStopped status before after
 
 -- what no command comes to, and what each cause comes to

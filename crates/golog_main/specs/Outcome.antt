@@ -1,20 +1,26 @@
 -- What a call of the program comes to: each outcome with its cause, its text and its status.
-use Rattle.std.specs.Prelude.{◌≡◌, ◌⊎◌, ℕ, List, Option, None, Some, IsSome, codes}
+use Rattle.std.specs.Prelude.{◌≡◌, ◌⊎◌, ℕ, ◌<◌, Bool, List, All, Option, None, Some, IsSome, codes, length}
 use Rattle.golog_base.specs.Faults.{Rose}
-use Rattle.golog_base.specs.Files.{FileHas}
+use Rattle.golog_base.specs.Files.{FileHas, file_limit}
 use Rattle.golog_base.specs.Known.{and_then_bytes, AddsPrefix}
 use Rattle.golog_base.specs.declared.mem_files.HeldFile.{HeldFile}
 use Rattle.golog_tree.specs.declared.agent.Agent.{Agent}
 use Rattle.golog_semantics.specs.Text.{Text}
 use Rattle.golog_semantics.specs.Execution.{status_of as answer_status}
+use Rattle.golog_semantics.specs.WellFormed.{WellFormed}
 use Rattle.golog_device.specs.Slots.{Standing}
 use Rattle.golog_script.specs.declared.scripts.Script.{Script}
-use Rattle.golog_file.specs.Spelled.{SpellsAgent, IsFirstRefusal}
+use Rattle.golog_script.specs.ScriptTexts.{HasTexts}
+use Rattle.golog_file.specs.Spelled.{IsFirstRefusal}
+use Rattle.golog_main.specs.declared.outcome.Input.{Input}
 use Rattle.golog_main.specs.declared.outcome.Input.TheVariants.{Agent as AgentFile, Devices as DevicesFile}
 use Rattle.golog_main.specs.declared.outcome.Outcome.{Outcome}
 use Rattle.golog_main.specs.declared.outcome.Outcome.TheVariants.{WordsRefused, ReadFault, Refused, Ran}
+use Rattle.golog_main.specs.declared.ready.Ready.{Ready}
+use Rattle.golog_main.specs.declared.ready.Unready.{Unready}
+use Rattle.golog_main.specs.declared.ready.Unready.TheVariants.{Ended, Memory}
 use Rattle.golog_main.specs.Words.{Names}
-use Rattle.golog_main.specs.Inputs.{line, fault_text, scripts_for, SpellsScripts, RefusesScripts, ReadsAgent, ReadsScripts, Tells, IsUnread}
+use Rattle.golog_main.specs.Inputs.{line, fault_text, scripts_for, RefusesScripts, ReadsAgent, ReadsScripts, Tells, IsUnread}
 use Rattle.golog_main.specs.Runs.{IsRunOf}
 
 -- ---- what is written, and the status
@@ -37,25 +43,26 @@ status_of (Ran text answer) = answer_status answer
 -- devices stood before and after it.
 module _ (held : Option (List HeldFile)) (faults_before faults_after : ℕ) (olds news : List Standing) where
   -- the scripts of the devices are read, and the program comes to this with them
-  pub record RunsScripts (agent : Agent) (named : Option Text) (text : Text) (status : ℕ) : Type 0 where
+  pub record RunsScripts (agent : Agent) (named : Option Text) (inline : Bool) (text : Text) (status : ℕ)
+      : Type 0 where
     pub listed : List Script
     pub reads : ReadsScripts held agent named listed
-    pub run : IsRunOf agent (scripts_for agent listed) olds news text status
+    pub run : IsRunOf agent (scripts_for agent listed) inline olds news text status
 
   -- the cause of an outcome of an agent, for the devices file that the words name, if they name one
-  abbrev pub ComesOfAgent : Agent → Option Text → Outcome → Type 0
-  ComesOfAgent agent (Some name) (ReadFault DevicesFile) =
+  abbrev pub ComesOfAgent : Agent → Option Text → Bool → Outcome → Type 0
+  ComesOfAgent agent (Some name) inline (ReadFault DevicesFile) =
       IsUnread held name faults_before faults_after × (news ≡ olds)
-  ComesOfAgent agent (Some name) (Refused DevicesFile text) =
+  ComesOfAgent agent (Some name) inline (Refused DevicesFile text) =
       FileHas held name (λ bytes. Tells DevicesFile (RefusesScripts agent bytes) text) × (news ≡ olds)
-  ComesOfAgent agent named (Ran text answer) = RunsScripts agent named text (answer_status answer)
-  ComesOfAgent agent named outcome = ⊥
+  ComesOfAgent agent named inline (Ran text answer) = RunsScripts agent named inline text (answer_status answer)
+  ComesOfAgent agent named inline outcome = ⊥
 
   -- the agent file spells an agent, and this is an outcome of it
   pub record ComesBehind (names : Names) (outcome : Outcome) : Type 0 where
     pub agent : Agent
     pub reads : ReadsAgent held names.agent agent
-    pub comes : ComesOfAgent agent names.devices outcome
+    pub comes : ComesOfAgent agent names.devices names.inline outcome
 
   -- the cause of each outcome, for the files that the words name
   abbrev pub Comes : Option Names → Outcome → Type 0
@@ -118,23 +125,29 @@ Ends status named before after = Reported status named before after ⊎ Starved 
 -- ---- what the parts of a call come to
 
 -- what a run of the agent with these scripts comes to
-abbrev pub RunOf : Agent → List Script → List Standing → List Standing → Outcome → Type 0
-RunOf agent listed olds news (Ran text answer) =
-    IsRunOf agent (scripts_for agent listed) olds news text (answer_status answer)
-RunOf agent listed olds news outcome = ⊥
+abbrev pub RunOf : Agent → List Script → Bool → List Standing → List Standing → Outcome → Type 0
+RunOf agent listed inline olds news (Ran text answer) =
+    IsRunOf agent (scripts_for agent listed) inline olds news text (answer_status answer)
+RunOf agent listed inline olds news outcome = ⊥
 
--- what a devices file of these bytes comes to
-abbrev pub ComesOfScripts : Agent → Text → List Standing → List Standing → Outcome → Type 0
-ComesOfScripts agent bytes olds news (Refused DevicesFile text) =
-    Tells DevicesFile (RefusesScripts agent bytes) text × (news ≡ olds)
-ComesOfScripts agent bytes olds news outcome =
-    (listed : List Script) × SpellsScripts agent bytes listed × RunOf agent listed olds news outcome
+-- where a file is refused or can't be read, and memory didn't run out, this is so of what is said
+abbrev pub IfEnded : Unready → (Outcome → Type 0) → Type 0
+IfEnded (Ended outcome) P = P outcome
+IfEnded Memory P = Unit {0}
 
--- what an agent file of these bytes comes to
-abbrev pub ComesOfBytes : Option (List HeldFile) → ℕ → ℕ → List Standing → List Standing → Text → Option Text
-    → Outcome → Type 0
-ComesOfBytes held faults_before faults_after olds news bytes named (Refused AgentFile text) =
-    Tells AgentFile (IsFirstRefusal bytes) text × (news ≡ olds)
-ComesOfBytes held faults_before faults_after olds news bytes named outcome =
-    (agent : Agent) × SpellsAgent bytes agent
-    × ComesOfAgent held faults_before faults_after olds news agent named outcome
+-- a file with more bytes than the limit, its code, and the limit
+abbrev pub IsTooLong : Text → ℕ → ℕ → Type 0
+IsTooLong bytes code at = (file_limit < length bytes) × (code ≡ 5) × (at ≡ file_limit)
+
+-- what is said of a file that cannot be read, or whose bytes are refused so
+abbrev pub FileFails : Input → (Text → ℕ → ℕ → Type 0) → Option (List HeldFile) → Text → ℕ → ℕ → Outcome → Type 0
+FileFails input Refuses held name faults_before faults_after outcome =
+    ((outcome ≡ ReadFault input) × IsUnread held name faults_before faults_after)
+    ⊎ ((text : Text) × (outcome ≡ Refused input text) × FileHas held name (λ bytes. Tells input (Refuses bytes) text))
+
+-- the files spell this agent and these scripts of its devices
+pub record HoldsRun (held : Option (List HeldFile)) (names : Names) (ready : Ready) : Type 0 where
+  pub formed : WellFormed ready.agent
+  pub texts : All HasTexts ready.scripts
+  pub agent_so : ReadsAgent held names.agent ready.agent
+  pub scripts_so : ReadsScripts held ready.agent names.devices ready.scripts

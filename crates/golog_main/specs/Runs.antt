@@ -1,5 +1,5 @@
 -- What a run of an agent comes to.
-use Rattle.std.specs.Prelude.{◌≡◌, ◌⊎◌, ℕ, ◌<◌, ◌≤◌, nat_lt, IsSome, IfSome, Some, List, [], ◌∷◌, ◌++◌, Contains, length, map, codes, decimal, slice_get}
+use Rattle.std.specs.Prelude.{◌≡◌, ◌⊎◌, ℕ, Bool, true, ◌<◌, ◌≤◌, nat_lt, IsSome, IfSome, Some, List, [], ◌∷◌, ◌++◌, Contains, length, map, codes, decimal, slice_get}
 use Rattle.std.specs.List.{flat_map}
 use Rattle.golog_tree.specs.declared.agent.Agent.{Agent}
 use Rattle.golog_semantics.specs.declared.journal.Answer.{Answer}
@@ -13,12 +13,14 @@ use Rattle.golog_semantics.specs.Online.{IsOnline}
 use Rattle.golog_semantics.specs.Certain.{JournalIsSo}
 use Rattle.golog_semantics.specs.Execution.{IsOnlineRun, Ends, status_of}
 use Rattle.golog_semantics.specs.InlineText.{inline_report, inline_text, report_of}
-use Rattle.golog_semantics.specs.Dealt.{Script, Dealt}
-use Rattle.golog_journal.specs.Boards.{IsBoardList}
+use Rattle.golog_semantics.specs.Dealt.{Meaning, Script, Dealt}
+use Rattle.golog_journal.specs.Boards.{AgentJournal, IsBoardList}
+use Rattle.golog_journal.specs.Leading.{IsBehind}
 use Rattle.golog_device.specs.Scripts.{script_spelled}
-use Rattle.golog_device.specs.Slots.{Standing, EachSlot, ChangesIf, HasAt}
-use Rattle.golog_agent.specs.Rounds.{FollowsRounds, RunsToEnd}
+use Rattle.golog_device.specs.Slots.{Standing, EachSlot, ChangesIf, HasAt, HaveBegun}
+use Rattle.golog_agent.specs.Rounds.{AreReady, FollowsRounds, HasServed, TellLeft}
 use Rattle.golog_agent.specs.Short.{IsShort}
+use Rattle.golog_threads.specs.Driving.{has_refused, RunsOverThreads}
 
 -- ---- the devices
 
@@ -67,38 +69,75 @@ FollowsScripts agent scripts text status =
 -- The text is that of an online execution of the agent's program, and the status that of its end. In each
 -- world that agrees with the entries before it, each entry is so: a step is a step of the program left, which
 -- may end where the journal says done, and may neither step nor end where it says stuck. Each device was dealt
--- with, with its script. Where all devices tell what is left of their scripts, the text is that of the rounds.
-pub record IsRunOf (agent : Agent) (scripts : List Script) (olds news : List Standing) (text : Text) (status : ℕ)
-    : Type 0 where
+-- with, with its script. Where the run is one without threads, and all devices tell what is left of their scripts,
+-- the text is that of the rounds.
+pub record IsRunOf (agent : Agent) (scripts : List Script) (inline : Bool) (olds news : List Standing) (text : Text)
+    (status : ℕ) : Type 0 where
   pub online : IsOnlineRun agent text status
   pub so : JournalIsSo agent online.report.entries
   pub dealt : AreDealtWith agent scripts online.report.entries olds news
-  pub scripted : AllTellLeft agent olds → FollowsScripts agent scripts text status
+  pub scripted : inline ≡ true → AllTellLeft agent olds → FollowsScripts agent scripts text status
 
 -- these are texts of the scripts
 abbrev pub AreTextsOf : List Text → List Script → Type 0
 AreTextsOf texts scripts = map script_spelled texts ≡ map Some scripts
 
 -- the same of a report, that of a journal with the runs that its steps begin
-pub record IsReportOf (agent : Agent) (scripts : List Script) (olds news : List Standing) (report : Report)
-    : Type 0 where
+pub record IsReportOf (agent : Agent) (scripts : List Script) (inline : Bool) (olds news : List Standing)
+    (report : Report) : Type 0 where
   pub journal : Journal
   pub is : report ≡ report_of agent journal
   pub fits : IsReport agent (report_of agent journal)
   pub lawful : IsBoardList agent journal
   pub online : IsOnline agent (report_of agent journal)
   pub dealt : AreDealtWith agent scripts journal olds news
-  pub scripted : AllTellLeft agent olds → FollowsRounds agent scripts [] journal
+  pub scripted : inline ≡ true → AllTellLeft agent olds → FollowsRounds agent scripts [] journal
 
 -- and so for the scripts that these texts are of
-abbrev pub ReportsRun : Agent → List Text → List Standing → List Standing → Report → Type 0
-ReportsRun agent texts olds news report =
-    (scripts : List Script) → AreTextsOf texts scripts → IsReportOf agent scripts olds news report
+abbrev pub ReportsRun : Agent → List Text → Bool → List Standing → List Standing → Report → Type 0
+ReportsRun agent texts inline olds news report =
+    (scripts : List Script) → AreTextsOf texts scripts → IsReportOf agent scripts inline olds news report
+
+-- the devices have begun, each with its text, and the journal has what came of it
+pub record HasBegun (agent : Agent) (texts : List Text) (olds news : List Standing) (journal : AgentJournal)
+    : Type 0 where
+  pub same_agent : journal.agent ≡ agent
+  pub lawful : IsBoardList agent journal.entries
+  pub behind : IsBehind [] journal.entries
+  pub begun : HaveBegun (length texts) texts journal.entries olds news
+  pub ready : AreReady agent journal.entries
+
+-- a device has served the run, and has refused its script only if it had before
+pub record Serves (agent : Agent) (old new : Journal) (device : ℕ) (was is : Standing) : Type 0 where
+  pub served : HasServed agent old new device was is
+  pub refused : Contains new (Close device Refused 0) → has_refused device old ≡ true
+
+-- each device of the agent has, and a box that no device needs stays as it was
+abbrev pub HaveRun : Agent → Journal → Journal → List Standing → List Standing → Type 0
+HaveRun agent old new =
+    EachSlot (λ device. ChangesIf (nat_lt device (length agent.devices)) (Serves agent old new device))
+
+-- where the devices tell what is left of their scripts, the journal goes on as the rounds of these
+abbrev pub FollowsLeft : Agent → Journal → Journal → List Standing → Type 0
+FollowsLeft agent old new olds =
+    (scripts : List Script) → length scripts ≡ length agent.devices → TellLeft olds scripts
+    → FollowsRounds agent scripts old new
+
+-- the report is of a journal to which a run over threads of the agent's devices has gone on from these entries
+pub record ServedOn {D : Type 0} (agent : Agent) (meaning : D → Meaning) (before : Journal) (olds news : List D)
+    (report : Report) : Type 0 where
+  pub journal : Journal
+  pub is : report ≡ report_of agent journal
+  pub online : IsOnline agent (report_of agent journal)
+  pub ran : RunsOverThreads agent meaning before journal olds news
 
 -- the report is of a journal to which a run has gone on from these entries
-pub record RunsOn (agent : Agent) (before : Journal) (olds news : List Standing) (report : Report) : Type 0 where
+pub record RunsOn (agent : Agent) (inline : Bool) (before : Journal) (olds news : List Standing) (report : Report)
+    : Type 0 where
   pub journal : Journal
   pub is : report ≡ report_of agent journal
   pub lawful : IsBoardList agent journal
   pub short : length journal ≤ longest
-  pub ran : RunsToEnd agent before journal olds news
+  pub online : IsOnline agent (report_of agent journal)
+  pub run : HaveRun agent before journal olds news
+  pub scripted : inline ≡ true → FollowsLeft agent before journal olds

@@ -4,6 +4,7 @@
 mod devices;
 mod laws;
 mod outcome;
+mod ready;
 mod run;
 mod top;
 mod words;
@@ -14,4 +15,4 @@ pub use laws::{
     searchless_runs_end_plainly,
 };
 pub use outcome::{Input, Outcome};
-pub use top::{NO_MEMORY, golog};
+pub use top::{NO_MEMORY, golog, serve_inline};

@@ -1,20 +1,20 @@
 // A run of an agent whose devices follow scripts, or are handed in.
-ghost use Rattle.std.specs.Prelude.{◌≡◌, ◌≤◌, true, All, IfOk, IsSome, Contains, Some, [], length, find};
+ghost use Rattle.std.specs.Prelude.{◌≡◌, ◌≤◌, true, false, All, IfOk, IsSome, Contains, Some, [], length, find};
 ghost use Rattle.std.specs.Option.{option_copied};
 ghost use Rattle.golog_semantics.specs.declared.journal.Entry.TheVariants.{End};
 ghost use Rattle.golog_semantics.specs.Journal.{has_end};
 ghost use Rattle.golog_semantics.specs.WellFormed.{WellFormed};
 ghost use Rattle.golog_semantics.specs.Same.{same_values};
-ghost use Rattle.golog_journal.specs.Boards.{IsBoardList};
-ghost use Rattle.golog_journal.specs.Leading.{IsBehind};
 ghost use Rattle.golog_device.specs.Scripts.{script_spelled};
 ghost use Rattle.golog_device.specs.Slots.{standings, FreshBelow};
+ghost use Rattle.golog_journal.specs.Boards.{IsBoardList};
+ghost use Rattle.golog_journal.specs.Leading.{IsBehind};
+ghost use Rattle.golog_agent.specs.Rounds.{AreReady};
 ghost use Rattle.golog_script.specs.declared.scripts.Script.{Script};
 ghost use Rattle.golog_script.specs.ScriptTexts.{HasTexts};
-ghost use Rattle.golog_agent.specs.Rounds.{AreReady};
 ghost use Rattle.golog_main.specs.Inputs.{empty_script, script_under, scripts_for};
 ghost use Rattle.golog_main.specs.Outcome.{RunOf};
-ghost use Rattle.golog_main.specs.Runs.{AreTextsOf, ReportsRun, RunsOn};
+ghost use Rattle.golog_main.specs.Runs.{AreTextsOf, HasBegun, ReportsRun, RunsOn, ServedOn};
 
 use crate::outcome::Outcome;
 use golog_agent::{Runner, run_inline};
@@ -24,12 +24,15 @@ use golog_journal::Journal;
 use golog_script::{Script, script_text};
 use golog_semantics::{Answer, Entry, Report};
 use golog_text::write_journal;
+use golog_threads::run_threads;
 use golog_tree::Agent;
 use std::alloc::Global;
+use std::sync::Wait;
+use std::thread::Threads;
 
-/// What a run of the agent's program comes to, with these scripts for its devices. A device that is not
-/// among the scripts has the empty one.
-pub fn run_program<D: Device>(
+/// What a run of the agent's program comes to without threads, with these scripts for its devices. A device that is
+/// not among the scripts has the empty one.
+pub fn run_in_rounds<D: Device>(
     alloc: Global,
     agent: &Agent,
     listed: &[Script],
@@ -39,11 +42,33 @@ pub fn run_program<D: Device>(
     requires texts { All HasTexts listed.now }
     requires boxes { 16 ≤ length devices.old }
     requires fresh { FreshBelow 16 (standings D.fresh D.meaning devices.old) }
-    ensures { IfOk result (RunOf agent.now listed.now
+    ensures { IfOk result (RunOf agent.now listed.now true
         (standings D.fresh D.meaning devices.old) (standings D.fresh D.meaning devices.new)) }
 {
     let texts = texts_for(alloc, agent, listed)?;
-    let report = report_of(alloc, agent, &texts, devices)?;
+    let report = report_in_rounds(alloc, agent, &texts, devices)?;
+    let text = write_journal(alloc, agent, &report)?;
+    let answer = answer_in(&report);
+    Ok(Outcome::Ran { text, answer })
+}
+
+/// The same with each device on a thread of its own, and the program on this one.
+pub fn run_on_threads<R: Threads + Wait + Sync, D: Device + Send>(
+    rt: &R,
+    alloc: Global,
+    agent: &Agent,
+    listed: &[Script],
+    devices: &mut [D],
+) -> Result<Outcome, NoMemory>
+    requires formed { WellFormed agent.now }
+    requires texts { All HasTexts listed.now }
+    requires boxes { 16 ≤ length devices.old }
+    requires fresh { FreshBelow 16 (standings D.fresh D.meaning devices.old) }
+    ensures { IfOk result (RunOf agent.now listed.now false
+        (standings D.fresh D.meaning devices.old) (standings D.fresh D.meaning devices.new)) }
+{
+    let texts = texts_for(alloc, agent, listed)?;
+    let report = report_on_threads(rt, alloc, agent, &texts, devices)?;
     let text = write_journal(alloc, agent, &report)?;
     let answer = answer_in(&report);
     Ok(Outcome::Ran { text, answer })
@@ -96,8 +121,31 @@ fn empty_text(alloc: Global, name: Word) -> Result<Bytes, NoMemory>
     text
 }
 
-// The report of a run over a new journal. The runner is made first, so that a run that has begun is reported.
-fn report_of<D: Device>(
+// The journal of a run whose devices have begun.
+fn begun<D: Device>(
+    alloc: Global,
+    agent: &Agent,
+    texts: &List<Bytes>,
+    devices: &mut [D],
+) -> Result<Journal, NoMemory>
+    requires formed { WellFormed agent.now }
+    requires boxes { 16 ≤ length devices.old }
+    requires fresh { FreshBelow 16 (standings D.fresh D.meaning devices.old) }
+    requires one_each { length texts.now ≡ length agent.now.devices }
+    requires spelled { All (λ text. IsSome (script_spelled text)) texts.now }
+    ensures { IfOk result (HasBegun agent.now texts.now
+        (standings D.fresh D.meaning devices.old) (standings D.fresh D.meaning devices.new)) }
+{
+    let mut journal = Journal::new(alloc, agent)?;
+    match begin_all(alloc, devices, agent, texts, &mut journal) {
+        Ok(()) => Ok(journal),
+        Err(fault) => Err(fault),
+    }
+}
+
+// The report of a run in rounds over a new journal. The runner is made first, so that a run that has begun is
+// reported.
+fn report_in_rounds<D: Device>(
     alloc: Global,
     agent: &Agent,
     texts: &List<Bytes>,
@@ -108,63 +156,41 @@ fn report_of<D: Device>(
     requires fresh { FreshBelow 16 (standings D.fresh D.meaning devices.old) }
     requires one_each { length texts.now ≡ length agent.now.devices }
     requires spelled { All (λ text. IsSome (script_spelled text)) texts.now }
-    ensures { IfOk result (ReportsRun agent.now texts.now
+    ensures { IfOk result (ReportsRun agent.now texts.now true
         (standings D.fresh D.meaning devices.old) (standings D.fresh D.meaning devices.new)) }
 {
     let runner = Runner::new(alloc, agent)?;
-    report_by(alloc, agent, texts, runner, devices)
-}
-
-// The report of a run of this runner over a new journal.
-fn report_by<D: Device>(
-    alloc: Global,
-    agent: &Agent,
-    texts: &List<Bytes>,
-    runner: Runner<'_>,
-    devices: &mut [D],
-) -> Result<Report, NoMemory>
-    requires formed { WellFormed agent.now }
-    requires runner { runner ≡ record { agent = agent.now; list = [] } }
-    requires boxes { 16 ≤ length devices.old }
-    requires fresh { FreshBelow 16 (standings D.fresh D.meaning devices.old) }
-    requires one_each { length texts.now ≡ length agent.now.devices }
-    requires spelled { All (λ text. IsSome (script_spelled text)) texts.now }
-    ensures { IfOk result (ReportsRun agent.now texts.now
-        (standings D.fresh D.meaning devices.old) (standings D.fresh D.meaning devices.new)) }
-{
-    match Journal::new(alloc, agent) {
-        Ok(journal) => report_over(alloc, agent, texts, runner, journal, devices),
+    match begun(alloc, agent, texts, devices) {
+        Ok(journal) => Ok(in_rounds(agent, runner, journal, devices)),
         Err(fault) => Err(fault),
     }
 }
 
-// The report of a run of this runner over this new journal.
-fn report_over<D: Device>(
+// The same of a run over threads. Where memory is wanted for these, nothing has run.
+fn report_on_threads<R: Threads + Wait + Sync, D: Device + Send>(
+    rt: &R,
     alloc: Global,
     agent: &Agent,
     texts: &List<Bytes>,
-    runner: Runner<'_>,
-    mut journal: Journal,
     devices: &mut [D],
 ) -> Result<Report, NoMemory>
     requires formed { WellFormed agent.now }
-    requires runner { runner ≡ record { agent = agent.now; list = [] } }
-    requires journal { journal ≡ record { agent = agent.now; entries = [] } }
     requires boxes { 16 ≤ length devices.old }
     requires fresh { FreshBelow 16 (standings D.fresh D.meaning devices.old) }
     requires one_each { length texts.now ≡ length agent.now.devices }
     requires spelled { All (λ text. IsSome (script_spelled text)) texts.now }
-    ensures { IfOk result (ReportsRun agent.now texts.now
+    ensures { IfOk result (ReportsRun agent.now texts.now false
         (standings D.fresh D.meaning devices.old) (standings D.fresh D.meaning devices.new)) }
 {
-    match begin_all(alloc, devices, agent, texts, &mut journal) {
-        Ok(()) => Ok(run_on(agent, runner, journal, devices)),
+    let runner = Runner::new(alloc, agent)?;
+    match begun(alloc, agent, texts, devices) {
+        Ok(journal) => on_threads(rt, alloc, agent, runner, journal, devices),
         Err(fault) => Err(fault),
     }
 }
 
-// The report of a run that goes on from a journal to whose devices nothing was done but that they have begun.
-fn run_on<D: Device>(
+// The report of a run in rounds that goes on from a journal to whose devices nothing was done but that they have begun.
+fn in_rounds<D: Device>(
     agent: &Agent,
     mut runner: Runner<'_>,
     mut journal: Journal,
@@ -176,12 +202,59 @@ fn run_on<D: Device>(
     requires behind { IsBehind [] journal.entries }
     requires boxes { length agent.now.devices ≤ length devices.old }
     requires ready { AreReady agent.now journal.entries }
-    ensures { RunsOn agent.now journal.entries
+    ensures { RunsOn agent.now true journal.entries
         (standings D.fresh D.meaning devices.old) (standings D.fresh D.meaning devices.new) result }
 {
     run_inline(&mut runner, devices, agent, &mut journal);
     let _length = journal.len();
     runner.report()
+}
+
+// The same of a run over threads: the boxes of the agent's devices go to threads, and the others stay as they are.
+fn on_threads<R: Threads + Wait + Sync, D: Device + Send>(
+    rt: &R,
+    alloc: Global,
+    agent: &Agent,
+    runner: Runner<'_>,
+    journal: Journal,
+    devices: &mut [D],
+) -> Result<Report, NoMemory>
+    requires formed { WellFormed agent.now }
+    requires runner { runner ≡ record { agent = agent.now; list = [] } }
+    requires agent { journal.agent ≡ agent.now }
+    requires lawful { IsBoardList agent.now journal.entries }
+    requires behind { IsBehind [] journal.entries }
+    requires boxes { length agent.now.devices ≤ length devices.old }
+    requires ready { AreReady agent.now journal.entries }
+    ensures { IfOk result (RunsOn agent.now false journal.entries
+        (standings D.fresh D.meaning devices.old) (standings D.fresh D.meaning devices.new)) }
+{
+    let (served, _others) = devices.split_at_mut(agent.devices.len());
+    served_on_threads(rt, alloc, agent, runner, journal, served)
+}
+
+// The report of a run over threads of the agent's devices. Where memory is wanted, nothing has run.
+fn served_on_threads<R: Threads + Wait + Sync, D: Device + Send>(
+    rt: &R,
+    alloc: Global,
+    agent: &Agent,
+    mut runner: Runner<'_>,
+    journal: Journal,
+    devices: &mut [D],
+) -> Result<Report, NoMemory>
+    requires formed { WellFormed agent.now }
+    requires runner { runner ≡ record { agent = agent.now; list = [] } }
+    requires agent { journal.agent ≡ agent.now }
+    requires lawful { IsBoardList agent.now journal.entries }
+    requires behind { IsBehind [] journal.entries }
+    requires boxes { length devices.old ≡ length agent.now.devices }
+    requires ready { AreReady agent.now journal.entries }
+    ensures { IfOk result (ServedOn agent.now D.meaning journal.entries devices.old devices.new) }
+{
+    match run_threads(rt, alloc, &mut runner, devices, agent, journal) {
+        Ok(()) => Ok(runner.report()),
+        Err(fault) => Err(fault),
+    }
 }
 
 // The answer in a report of a program that has ended.

@@ -1,28 +1,19 @@
 // The top call.
-ghost use Rattle.std.specs.Prelude.{◌≡◌, ◌≤◌, map, string_bytes, option_map, IsSome, IfOk, OnErr, length};
-ghost use Rattle.golog_semantics.specs.WellFormed.{WellFormed};
+ghost use Rattle.std.specs.Prelude.{◌≡◌, ◌≤◌, map, string_bytes, option_map, true, false, Some, IsSome, IfOk, OnErr, length};
 ghost use Rattle.golog_device.specs.Slots.{standings, FreshBelow};
 ghost use Rattle.golog_main.specs.InWorlds.{RunsAreSo};
-ghost use Rattle.golog_main.specs.Inputs.{refusal_text};
-ghost use Rattle.golog_main.specs.Outcome.{Comes, ComesOfAgent, ComesOfBytes, ComesOfScripts, Ends, Reports, outside, text_of, status_of};
-ghost use Rattle.golog_main.specs.Words.{files_named};
-ghost use Rattle.golog_main.specs.declared.outcome.Outcome.TheVariants.{Refused};
+ghost use Rattle.golog_main.specs.Outcome.{Comes, Ends, Reports, outside, text_of, status_of};
+ghost use Rattle.golog_main.specs.Words.{files_named, inline_named};
 
-use crate::outcome::{Input, Outcome};
-use crate::run::run_program;
-use crate::words::names_in;
-use golog_base::{Bytes, Files, NoMemory, ReadFault, Sink, read_all, write_all};
+use crate::outcome::Outcome;
+use crate::ready::{Unready, ready_in};
+use crate::run::{run_in_rounds, run_on_threads};
+use crate::words::{Names, names_in};
+use golog_base::{Files, NoMemory, Sink, write_all};
 use golog_device::Device;
-use golog_file::{AgentFault, read_agent};
-use golog_script::{ScriptFault, scripts_of};
-use golog_tree::Agent;
 use std::alloc::Global;
-
-/// How many bytes a file may have.
-const LONGEST_FILE: u32 = 1_048_576;
-
-/// The code of a file with more bytes.
-const TOO_LONG: u8 = 5;
+use std::sync::Wait;
+use std::thread::Threads;
 
 /// The exit status where a write failed.
 const WRITE_FAULT: u8 = 5;
@@ -34,7 +25,12 @@ pub const NO_MEMORY: u8 = 6;
 /// exit status. The devices of the agent are the first of those given, in the order of its file; the others
 /// stay as they are.
 ///
-/// The words are `run`, a file word (not empty, and not beginning with `-`), perhaps a second one, and
+/// Whatever the devices post while the program thinks or searches, the journal that is printed is an online
+/// execution of the program: each step is certain by Trans from the program left, at the whole history there; a
+/// search block steps along a printed run to Final; each device's items stand once, in order, with values; and done,
+/// stuck, unknown and depth stand exactly where Final and Trans put them.
+///
+/// The words are `run`, a file word (not empty, and not beginning with `-`), perhaps a second one, and perhaps
 /// `--inline`. The first of these that fits is the answer:
 ///
 /// - 2, `words refused`: the words are anything else.
@@ -48,16 +44,21 @@ pub const NO_MEMORY: u8 = 6;
 ///   has more bytes.
 /// - 0, or 10 to 16, the journal of an online execution of the agent's program, which ends `done`, `stuck`,
 ///   `unknown`, `depth`, `fuel`, `unanswered`, `full` or `deep`. Each device that tells it was dealt with
-///   as the journal says, with its script, the empty one where the devices file has none. Where all tell
-///   what is left of their scripts, it is the journal of the rounds of these scripts; one that ends `fuel`
-///   has the first lines of that. In each world that agrees with the entries before it, each step of the
-///   journal is a step of the program left, which may end there where the journal says done, and may
-///   neither step nor end where it says stuck.
+///   as the journal says, with its script, the empty one where the devices file has none. With
+///   `--inline`, where all tell what is left of their scripts, it is the journal of the rounds of these
+///   scripts; one that ends `fuel` has the first lines of that. In each world that agrees with the entries
+///   before it, each step of the journal is a step of the program left, which may end there where the
+///   journal says done, and may neither step nor end where it says stuck.
 ///
 /// Each line ends with a line feed. Where a write fails the answer is 5, and a prefix of the text is
 /// written. Where memory runs out the answer is 6; nothing is written, or the journal of a run that ends
 /// `memory`.
-pub fn golog<F: Files, K: Sink, D: Device>(
+///
+/// With `--inline` the devices have their turns in rounds with the program, on this thread. Without it each has a
+/// thread of its own, and the program this one; such a run may wait for ever, as where a device's call does, or
+/// where no thread can be made.
+pub fn golog<R: Threads + Wait + Sync, F: Files, K: Sink, D: Device + Send>(
+    rt: &R,
     alloc: Global,
     words: &[String],
     files: &mut F,
@@ -77,14 +78,42 @@ pub fn golog<F: Files, K: Sink, D: Device>(
         (outside (F.held files.new) (F.faults files.new) (K.taken out.new) (K.faults out.new)
         (standings D.fresh D.meaning devices.new)) }
 {
-    match outcome_of(alloc, words, files, devices) {
+    match outcome_of(rt, alloc, words, files, devices) {
+        Ok(outcome) => report(out, outcome),
+        Err(NoMemory) => NO_MEMORY,
+    }
+}
+
+/// The same without a runtime, for words whose last is `--inline`: all others are refused.
+pub fn serve_inline<F: Files, K: Sink, D: Device>(
+    alloc: Global,
+    words: &[String],
+    files: &mut F,
+    out: &mut K,
+    devices: &mut [D],
+) -> u8
+    requires boxes { 16 ≤ length devices.old }
+    requires fresh { FreshBelow 16 (standings D.fresh D.meaning devices.old) }
+    ensures ends { Ends result (inline_named (map string_bytes words.now))
+        (outside (F.held files.old) (F.faults files.old) (K.taken out.old) (K.faults out.old)
+        (standings D.fresh D.meaning devices.old))
+        (outside (F.held files.new) (F.faults files.new) (K.taken out.new) (K.faults out.new)
+        (standings D.fresh D.meaning devices.new)) }
+    ensures so { RunsAreSo result (inline_named (map string_bytes words.now))
+        (outside (F.held files.old) (F.faults files.old) (K.taken out.old) (K.faults out.old)
+        (standings D.fresh D.meaning devices.old))
+        (outside (F.held files.new) (F.faults files.new) (K.taken out.new) (K.faults out.new)
+        (standings D.fresh D.meaning devices.new)) }
+{
+    match inline_outcome_of(alloc, words, files, devices) {
         Ok(outcome) => report(out, outcome),
         Err(NoMemory) => NO_MEMORY,
     }
 }
 
 // What the words, the files and the devices come to.
-fn outcome_of<F: Files, D: Device>(
+fn outcome_of<R: Threads + Wait + Sync, F: Files, D: Device + Send>(
+    rt: &R,
     alloc: Global,
     words: &[String],
     files: &mut F,
@@ -97,115 +126,96 @@ fn outcome_of<F: Files, D: Device>(
         (files_named (map string_bytes words.now))) }
     ensures command { OnErr result (IsSome (files_named (map string_bytes words.now))) }
 {
-    let Some(names) = names_in(words) else {
-        return Ok(Outcome::WordsRefused);
-    };
-    match read_all(alloc, files, names.agent, LONGEST_FILE) {
-        Ok(bytes) => over_agent(alloc, bytes.as_slice(), names.devices, files, devices),
-        Err(ReadFault::Failed) => Ok(Outcome::ReadFault(Input::Agent)),
-        Err(ReadFault::TooLong) => refused(alloc, Input::Agent, TOO_LONG, LONGEST_FILE),
-        Err(ReadFault::Memory) => Err(NoMemory),
+    match names_in(words) {
+        Some(names) if names.inline => over_rounds(alloc, names, files, devices),
+        Some(names) => over_threads(rt, alloc, names, files, devices),
+        None => Ok(Outcome::WordsRefused),
     }
 }
 
-// What an agent file of these bytes comes to, with the devices file of this name.
-fn over_agent<F: Files, D: Device>(
+// The same of words whose last is `--inline`.
+fn inline_outcome_of<F: Files, D: Device>(
     alloc: Global,
-    bytes: &[u8],
-    name: Option<&str>,
+    words: &[String],
     files: &mut F,
     devices: &mut [D],
 ) -> Result<Outcome, NoMemory>
     requires boxes { 16 ≤ length devices.old }
     requires fresh { FreshBelow 16 (standings D.fresh D.meaning devices.old) }
-    ensures { IfOk result (ComesOfBytes (F.held files.old) (F.faults files.old) (F.faults files.new)
+    ensures cause { IfOk result (Comes (F.held files.old) (F.faults files.old) (F.faults files.new)
         (standings D.fresh D.meaning devices.old) (standings D.fresh D.meaning devices.new)
-        bytes.now (option_map (λ file. file.now) name.entry)) }
+        (inline_named (map string_bytes words.now))) }
+    ensures command { OnErr result (IsSome (inline_named (map string_bytes words.now))) }
 {
-    match read_agent(alloc, bytes) {
-        Ok(agent) => {
-            let outcome = run_agent(alloc, &agent, name, files, devices);
-            drop(agent);
-            outcome
-        }
-        Err(AgentFault::Refused { code, at }) => refused(alloc, Input::Agent, code, at),
-        Err(AgentFault::Memory) => Err(NoMemory),
+    match names_in(words) {
+        Some(names) if names.inline => over_rounds(alloc, names, files, devices),
+        _ => Ok(Outcome::WordsRefused),
     }
 }
 
-// What an agent comes to, with the devices file of this name.
-#[tactic(auto, using(crate::proofs::OutcomeLemmas::without))]
-fn run_agent<F: Files, D: Device>(
+// What files of these names come to with a run in rounds.
+fn over_rounds<F: Files, D: Device>(
     alloc: Global,
-    agent: &Agent,
-    name: Option<&str>,
+    names: Names<'_>,
     files: &mut F,
     devices: &mut [D],
 ) -> Result<Outcome, NoMemory>
-    requires formed { WellFormed agent.now }
+    requires way { names.inline ≡ true }
     requires boxes { 16 ≤ length devices.old }
     requires fresh { FreshBelow 16 (standings D.fresh D.meaning devices.old) }
-    ensures { IfOk result (ComesOfAgent (F.held files.old) (F.faults files.old) (F.faults files.new)
+    ensures { IfOk result (Comes (F.held files.old) (F.faults files.old) (F.faults files.new)
         (standings D.fresh D.meaning devices.old) (standings D.fresh D.meaning devices.new)
-        agent.now (option_map (λ file. file.now) name.entry)) }
+        (Some (record {
+          agent = names.entry.agent.now;
+          devices = option_map (λ file. file.now) names.entry.devices;
+          inline = names.entry.inline;
+        }))) }
 {
-    let Some(name) = name else {
-        return run_program(alloc, agent, &[], devices);
-    };
-    match read_all(alloc, files, name, LONGEST_FILE) {
-        Ok(bytes) => over_scripts(alloc, agent, bytes.as_slice(), devices),
-        Err(ReadFault::Failed) => Ok(Outcome::ReadFault(Input::Devices)),
-        Err(ReadFault::TooLong) => refused(alloc, Input::Devices, TOO_LONG, LONGEST_FILE),
-        Err(ReadFault::Memory) => Err(NoMemory),
-    }
-}
-
-// What a devices file of these bytes comes to.
-fn over_scripts<D: Device>(
-    alloc: Global,
-    agent: &Agent,
-    bytes: &[u8],
-    devices: &mut [D],
-) -> Result<Outcome, NoMemory>
-    requires formed { WellFormed agent.now }
-    requires small { length bytes.now ≤ LONGEST_FILE }
-    requires boxes { 16 ≤ length devices.old }
-    requires fresh { FreshBelow 16 (standings D.fresh D.meaning devices.old) }
-    ensures { IfOk result (ComesOfScripts agent.now bytes.now
-        (standings D.fresh D.meaning devices.old) (standings D.fresh D.meaning devices.new)) }
-{
-    match scripts_of(alloc, bytes, &agent.devices) {
-        Ok(scripts) => {
-            let outcome = run_program(alloc, agent, scripts.as_slice(), devices);
-            drop(scripts);
+    match ready_in(alloc, files, names) {
+        Ok(ready) => {
+            let outcome = run_in_rounds(alloc, &ready.agent, ready.scripts.as_slice(), devices);
+            drop(ready);
             outcome
         }
-        Err(ScriptFault::Refused { code, at }) => refused(alloc, Input::Devices, code, at),
-        Err(ScriptFault::Memory) => Err(NoMemory),
+        Err(Unready::Ended(outcome)) => Ok(outcome),
+        Err(Unready::Memory) => Err(NoMemory),
     }
 }
 
-// What is said of a file that is refused with this code at this place.
-fn refusal_text(alloc: Global, input: Input, code: u8, at: u32) -> Result<Bytes, NoMemory>
-    ensures { IfOk result (λ text. text ≡ refusal_text input code at) }
+// The same with a run over threads.
+fn over_threads<R: Threads + Wait + Sync, F: Files, D: Device + Send>(
+    rt: &R,
+    alloc: Global,
+    names: Names<'_>,
+    files: &mut F,
+    devices: &mut [D],
+) -> Result<Outcome, NoMemory>
+    requires way { names.inline ≡ false }
+    requires boxes { 16 ≤ length devices.old }
+    requires fresh { FreshBelow 16 (standings D.fresh D.meaning devices.old) }
+    ensures { IfOk result (Comes (F.held files.old) (F.faults files.old) (F.faults files.new)
+        (standings D.fresh D.meaning devices.old) (standings D.fresh D.meaning devices.new)
+        (Some (record {
+          agent = names.entry.agent.now;
+          devices = option_map (λ file. file.now) names.entry.devices;
+          inline = names.entry.inline;
+        }))) }
 {
-    let mut text = Bytes::new(alloc);
-    text.extend(b"refused ")?;
-    text.extend(input.name().as_bytes())?;
-    text.extend(b" ")?;
-    text.extend(format!(in alloc; "{code}")?.as_bytes())?;
-    text.extend(b" at ")?;
-    text.extend(format!(in alloc; "{at}")?.as_bytes())?;
-    text.extend(b"\n")?;
-    Ok(text)
-}
-
-// The refusal of a file.
-fn refused(alloc: Global, input: Input, code: u8, at: u32) -> Result<Outcome, NoMemory>
-    ensures { IfOk result (λ outcome. outcome ≡ Refused input (refusal_text input code at)) }
-{
-    let text = refusal_text(alloc, input, code, at)?;
-    Ok(Outcome::Refused { input, text })
+    match ready_in(alloc, files, names) {
+        Ok(ready) => {
+            let outcome = run_on_threads(
+                rt,
+                alloc,
+                &ready.agent,
+                ready.scripts.as_slice(),
+                devices,
+            );
+            drop(ready);
+            outcome
+        }
+        Err(Unready::Ended(outcome)) => Ok(outcome),
+        Err(Unready::Memory) => Err(NoMemory),
+    }
 }
 
 // Writes what an outcome says and answers its status, or that of a fault.

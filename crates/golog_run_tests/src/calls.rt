@@ -1,5 +1,5 @@
 use golog_base::{Bytes, HeldFile, List, MemFiles, MemSink, NoMemory, Text};
-use golog_main::{golog, script_devices};
+use golog_main::{script_devices, serve_inline};
 use std::alloc::Global;
 
 /// The words of a run of `x.agent`.
@@ -57,7 +57,7 @@ pub fn called_over(
 ) -> Result<Call, NoMemory> {
     let words = words_of(alloc, words)?;
     let mut devices = script_devices(alloc)?;
-    let status = golog(
+    let status = serve_inline(
         alloc,
         words.as_slice(),
         &mut files,

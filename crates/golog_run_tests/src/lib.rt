@@ -18,4 +18,6 @@ mod runs;
 #[cfg(test)]
 mod searches;
 #[cfg(test)]
+mod threads;
+#[cfg(test)]
 mod words;

@@ -1,14 +1,14 @@
-use Rattle.std.proofs.Common.{◌∙◌, sym, subst}
+use Rattle.std.proofs.Common.{◌∙◌, true, sym, subst}
 use Rattle.std.proofs.lemmas.List.{length-map}
 use Rattle.golog_semantics.specs.Reports.{IsReport}
 use Rattle.golog_device.specs.Slots.{standings}
 use Rattle.golog_main.specs.Inputs.{script_under, scripts_for}
 use Rattle.golog_main.proofs.Begun.{as-many, all-spelled}
 use Rattle.golog_main.proofs.Reported.{ended, run-of}
-use Rattle.golog_main.proofs.run.run_program.Goals as goal
+use Rattle.golog_main.proofs.run.run_in_rounds.Goals as goal
 
-pub report_of-requires : goal.report_of-requires
-report_of-requires g c =
+pub report_in_rounds-requires : goal.report_in_rounds-requires
+report_in_rounds-requires g c =
     let scripts = scripts_for c.args.agent.now c.args.listed.now in
     record {
       formed = c.requires.formed;
@@ -24,11 +24,11 @@ write_journal-requires g c =
     record { formed = c.requires.formed; report = subst (IsReport c.args.agent.now) (sym of.is) of.fits }
 
 pub answer_in-answer-requires : goal.answer_in-answer-requires
-answer_in-answer-requires g c = ended _ _ _ _ _ (c.in_ok-report.ensures (scripts_for c.args.agent.now c.args.listed.now) c.in_ok-texts.ensures)
+answer_in-answer-requires g c = ended _ _ _ _ _ _ (c.in_ok-report.ensures (scripts_for c.args.agent.now c.args.listed.now) c.in_ok-texts.ensures)
 
 pub returns : goal.returns
 returns g c =
     let stand = standings g.D.Device.fresh g.D.Device.meaning in
-    run-of c.args.agent.now (scripts_for c.args.agent.now c.args.listed.now) (stand c.args.devices.now) (stand c.report_of.new.devices)
+    run-of c.args.agent.now (scripts_for c.args.agent.now c.args.listed.now) true (stand c.args.devices.now) (stand c.report_in_rounds.new.devices)
     c.in_ok-report.report c.in_ok-text.text c.answer_in-answer.result c.requires.formed
     (c.in_ok-report.ensures (scripts_for c.args.agent.now c.args.listed.now) c.in_ok-texts.ensures) c.in_ok-text.ensures c.answer_in-answer.ensures
