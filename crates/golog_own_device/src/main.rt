@@ -1,0 +1,51 @@
+//! Runs an agent with a device of its user's own, a tank: `golog_own_device run AGENT [--inline]`.
+#![tactic(auto)]
+
+mod tank;
+
+use crate::tank::tanks;
+use golog_base::{FileFiles, OutSink};
+use golog_main::{NO_MEMORY, serve_inline};
+use std::alloc::AllocError;
+use std::env;
+use std::io::ErrorKind;
+use std::process::ExitCode;
+
+fn main(rt: HostRuntime) -> ExitCode {
+    match status(&rt) {
+        Ok(status) => ExitCode::from(status),
+        Err(_) => ExitCode::from(NO_MEMORY),
+    }
+}
+
+// Does what the words say, over real files, standard output and tanks.
+fn status(rt: &HostRuntime) -> Result<u8, AllocError> {
+    let words = words_of(rt)?;
+    let mut files = FileFiles::new(rt.clone()?);
+    let mut out = OutSink::new(rt.clone()?);
+    match tanks(rt.alloc()) {
+        Ok(mut devices) => Ok(serve_inline(
+            rt.alloc(),
+            words.as_slice(),
+            &mut files,
+            &mut out,
+            devices.as_mut_slice(),
+        )),
+        Err(_) => Err(AllocError),
+    }
+}
+
+// The words after the program's name. Where one is not text there are none, which is no command either.
+fn words_of(rt: &HostRuntime) -> Result<Vec<String>, AllocError> {
+    let mut words = Vec::new(rt.alloc());
+    match env::args(rt) {
+        Ok(args) => {
+            for word in args.skip(1) {
+                words.push(word)?;
+            }
+        }
+        Err(error) if error.kind() == ErrorKind::OutOfMemory => return Err(AllocError),
+        Err(_) => {}
+    }
+    Ok(words)
+}
