@@ -10,6 +10,8 @@ mod blocks;
 #[cfg(test)]
 mod conditions;
 #[cfg(test)]
+mod decisions;
+#[cfg(test)]
 mod ends;
 #[cfg(test)]
 mod fronts;
