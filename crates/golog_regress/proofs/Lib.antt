@@ -1,0 +1,10 @@
+mod Back
+mod BackParts
+mod Evaluation
+mod Events
+mod Fresh
+mod Heads
+mod ImageParts
+mod Imaged
+mod Layers
+mod Related

@@ -1,0 +1,5 @@
+pub mod Causes
+pub mod Images
+pub mod Regressed
+pub mod Regression
+pub mod Size
