@@ -20,7 +20,7 @@ use Rattle.golog_journal.specs.Laws.{AreNotOf, FittingStays, DrivenStays, ReadyS
 use Rattle.golog_journal.proofs.Lawful.{results-within}
 
 -- none passes
-filter-none : {A : Type 0} (p : A → Bool) (xs : List A) → list_any p xs ≡ false → filter p xs ≡ []
+pub filter-none : {A : Type 0} (p : A → Bool) (xs : List A) → list_any p xs ≡ false → filter p xs ≡ []
 filter-none p [] none = refl
 filter-none p (x ∷ xs) none =
     let parts = or_parts (p x) (list_any p xs) none in
@@ -92,7 +92,7 @@ module _ (agent : Agent) where
     pub commands-append : (d : ℕ) → commands agent d (journal ++ others) ≡ commands agent d journal ++ from d (0 + length journal) others
     commands-append d = from-append d 0 journal others
 
-    before-same : (d place : ℕ) → place ≤ length journal
+    pub before-same : (d place : ℕ) → place ≤ length journal
         → filter (λ c. nat_lt c.place place) (commands agent d (journal ++ others)) ≡ filter (λ c. nat_lt c.place place) (commands agent d journal)
     before-same d place low =
         ap (filter (λ c. nat_lt c.place place)) (commands-append d)
@@ -101,7 +101,7 @@ module _ (agent : Agent) where
         ∙ append-nil (filter (λ c. nat_lt c.place place) (commands agent d journal))
 
     -- an entry tells of as many commands taken
-    told-same : (e : Entry) → ((place : ℕ) → length journal ≤ place → is_result_of place e ≡ false) → told_taken agent (journal ++ others) e ≡ told_taken agent journal e
+    pub told-same : (e : Entry) → ((place : ℕ) → length journal ≤ place → is_result_of place e ≡ false) → told_taken agent (journal ++ others) e ≡ told_taken agent journal e
     told-same (Sense p at f v) h = go (cases_lt at (length journal))
       where
         go : (at < length journal) ⊎ (length journal ≤ at) → told_taken agent (journal ++ others) (Sense p at f v) ≡ told_taken agent journal (Sense p at f v)
@@ -114,7 +114,7 @@ module _ (agent : Agent) where
     told-same (Close p r t) h = refl
     told-same (End a) h = refl
 
-    told-all : (taken : ℕ) (q : Entry → Bool) (es : Journal) → ((place : ℕ) → length journal ≤ place → list_any (is_result_of place) es ≡ false)
+    pub told-all : (taken : ℕ) (q : Entry → Bool) (es : Journal) → ((place : ℕ) → length journal ≤ place → list_any (is_result_of place) es ≡ false)
         → list_all (λ e. nat_le (told_taken agent (journal ++ others) e) taken) (filter q es) ≡ list_all (λ e. nat_le (told_taken agent journal e) taken) (filter q es)
     told-all taken q [] h = refl
     told-all taken q (e ∷ es) h = go (q e) (told-all taken q es (λ place high. (or_parts (is_result_of place e) (list_any (is_result_of place) es) (h place high)).1))
@@ -130,7 +130,7 @@ module _ (agent : Agent) where
         go false rest = rest
 
     -- what awaits no result awaits none later
-    still-answered : (c : Command) → is_outstanding agent journal c ≡ false → is_outstanding agent (journal ++ others) c ≡ false
+    pub still-answered : (c : Command) → is_outstanding agent journal c ≡ false → is_outstanding agent (journal ++ others) c ≡ false
     still-answered c none =
         ap (λ b. is_sensing agent c.action && not b) (list_any-append (is_result_of c.place) journal others)
         ∙ go (is_sensing agent c.action) (list_any (is_result_of c.place) journal) (list_any (is_result_of c.place) others) none
@@ -140,7 +140,7 @@ module _ (agent : Agent) where
         go true false b h = absurd (cc)
         go false a b h = refl
 
-    none-later : (cs : List Command) → list_any (is_outstanding agent journal) cs ≡ false → list_any (is_outstanding agent (journal ++ others)) cs ≡ false
+    pub none-later : (cs : List Command) → list_any (is_outstanding agent journal) cs ≡ false → list_any (is_outstanding agent (journal ++ others)) cs ≡ false
     none-later [] h = refl
     none-later (c ∷ cs) h =
         let parts = or_parts (is_outstanding agent journal c) (list_any (is_outstanding agent journal) cs) h in

@@ -39,7 +39,7 @@ const NO_ACTION: ActionFact = ActionFact {
 
 /// The facts of each ground action. Contracts see them as the agent.
 #[derive(Drop)]
-pub(crate) struct AgentFacts {
+pub struct AgentFacts {
     agent: Snapshot<Agent>,
     actions: Vec<ActionFact>,
 }
@@ -66,7 +66,7 @@ impl AgentFacts {
     ghost use Rattle.golog_journal.specs.Facts.{IsFactOf};
 
     /// The facts of the agent's actions.
-    pub(crate) fn of(alloc: Global, agent: &Agent) -> Result<AgentFacts, NoMemory>
+    pub fn of(alloc: Global, agent: &Agent) -> Result<AgentFacts, NoMemory>
         requires { ServesDevices agent.now }
         ensures { IfOk result (λ facts. facts ≡ agent.now) }
     {
@@ -87,14 +87,14 @@ impl AgentFacts {
     }
 
     /// The device that carries the action out.
-    pub(crate) fn device_of(&self, action: u32) -> Option<u8>
+    pub fn device_of(&self, action: u32) -> Option<u8>
         ensures { result ≡ carrier self.now action }
     {
         self.fact(action).device
     }
 
     /// Whether the device may post the action.
-    pub(crate) fn may_post(&self, device: u8, action: u32) -> bool
+    pub fn may_post(&self, device: u8, action: u32) -> bool
         requires { device < device_limit }
         ensures { result ≡ may_be_posted self.now device action }
     {
@@ -102,21 +102,21 @@ impl AgentFacts {
     }
 
     /// The ground fluent whose value the action's result tells.
-    pub(crate) fn sensed(&self, action: u32) -> Option<u32>
+    pub fn sensed(&self, action: u32) -> Option<u32>
         ensures { result ≡ fluent_sensed self.now action }
     {
         self.fact(action).sensed
     }
 
     /// Whether a device answers the action with a value.
-    pub(crate) fn is_sensing(&self, action: u32) -> bool
+    pub fn is_sensing(&self, action: u32) -> bool
         ensures { result ≡ does_sense self.now action }
     {
         self.fact(action).sensed.is_some()
     }
 
     /// Whether the value is one of the fluent that the action's result tells.
-    pub(crate) fn is_value_for(&self, action: u32, value: u8) -> bool
+    pub fn is_value_for(&self, action: u32, value: u8) -> bool
         ensures { result ≡ option_map_or (λ fluent. nat_lt value (size_of_sort self.now (fluent_sort self.now fluent))) (fluent_sensed self.now action) false }
     {
         let fact = self.fact(action);

@@ -12,6 +12,7 @@ mod table;
 mod tally;
 
 pub use board::{BATCH, Batch, Board, Commit, LIMIT, LONGEST, Next, Posted};
+pub use facts::AgentFacts;
 pub use golog_semantics::{Answer, Entry, Item, PlacedRun, Reason, Report};
 pub use journal::Journal;
 pub use laws::{driven_stays, fitting_stays, ready_stays, well_formed_serves};
