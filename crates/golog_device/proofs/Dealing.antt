@@ -11,7 +11,7 @@ use Rattle.golog_semantics.specs.declared.journal.Reason.TheVariants as reason
 use Rattle.golog_semantics.specs.Journal.{Journal, commands, is_posted_by, has_end, is_full}
 use Rattle.golog_semantics.specs.Text.{at_each}
 use Rattle.golog_semantics.specs.Posts.{is_bad, later_reason}
-use Rattle.golog_semantics.specs.Dealt.{Meaning, Told, Script, FollowsScript, item_of, items, service, GivenFits, wakes, told_item, IsLost, TailFits, DealtUntil, DealtBy, Dealt}
+use Rattle.golog_semantics.specs.Dealt.{Meaning, Told, Script, FollowsScript, item_of, items, service, GivenFits, wakes, told_item, IsLost, TailFits, DealtUntil, DealtBy, WasDealtWith}
 use Rattle.golog_journal.specs.Laws.{AreNotOf}
 use Rattle.golog_device.specs.Dealing.{KeepsScript, DealtSoFar}
 use Rattle.golog_device.proofs.Growing.{all, items-others, items-own, rested-push, rested-others, taken-others}
@@ -108,7 +108,7 @@ module _ (agent : Agent) (device : ℕ) where
   -- it was closed
   pub dealt-closed : (journal : Journal) (r : Reason) (taken : ℕ) (script : Script) (m : Meaning) (tail : List Told) → r ≢ reason.Refused
       → HasAnswered journal taken m tail → Follows script m → TailFits agent device journal taken r tail
-      → Dealt agent device (journal ++ Close device r taken ∷ []) script m
+      → WasDealtWith agent device (journal ++ Close device r taken ∷ []) script m
   dealt-closed journal r taken script m tail other has follows fits = record {
     before = journal;
     later = [];

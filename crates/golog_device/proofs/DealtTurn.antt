@@ -17,7 +17,7 @@ use Rattle.golog_semantics.specs.Journal.{Journal, Command, commands, sensed, is
 use Rattle.golog_semantics.specs.Posts.{awaited, closing, entry_of, result_of}
 use Rattle.golog_semantics.specs.Text.{Text, action_text, value_text}
 use Rattle.golog_semantics.specs.Inline.{spelled, posted_action, posted_value}
-use Rattle.golog_semantics.specs.Dealt.{Meaning, Told, TellsPost, TellsValue, TellsRest, TellsClose, Script, last_sensed, value_item, rests_before, TailFits, Dealt}
+use Rattle.golog_semantics.specs.Dealt.{Meaning, Told, TellsPost, TellsValue, TellsRest, TellsClose, Script, last_sensed, value_item, rests_before, TailFits, WasDealtWith}
 use Rattle.golog_journal.specs.declared.board.Next.TheVariants.{Nothing as NoCommand, Ended}
 use Rattle.golog_journal.specs.Taken.{IsDriven, IsReady}
 use Rattle.golog_journal.specs.Commands.{is_resting}
@@ -88,7 +88,7 @@ module _ (agent : Agent) (device : ℕ) where
   after-open turned.Nothing journal n script m other far = far
   after-open turned.Closed journal n script m other far = absurd (other refl)
 
-  after-closed : (r : Turned) (journal : Journal) (n : ℕ) (script : Script) (m : Meaning) → turned.Closed ≡ r → Dealt agent device journal script m
+  after-closed : (r : Turned) (journal : Journal) (n : ℕ) (script : Script) (m : Meaning) → turned.Closed ≡ r → WasDealtWith agent device journal script m
       → DealtAfter agent device r journal n script m
   after-closed r journal n script m same dealt = subst (λ x. DealtAfter agent device x journal n script m) same dealt
 
@@ -128,7 +128,7 @@ module _ (agent : Agent) (device : ℕ) where
           let is : turned.Closed ≡ result = sym (p.turned ∙ ap (λ o. done_by (posted_at (length p.at) o) done) why) in
           let fits = refuses p.at p.goes r why in
           after-closed result new.seen n script m is
-          (subst (λ j. Dealt agent device j script m) (seen-by (Some r) why) (dealt-closed agent device p.at r n script m tail fits.0 there follows fits.1))
+          (subst (λ j. WasDealtWith agent device j script m) (seen-by (Some r) why) (dealt-closed agent device p.at r n script m tail fits.0 there follows fits.1))
 
   -- an unreadable or silent item never stands
   never-stands : (journal : Journal) (n : ℕ) (script : Script) (m : Meaning) (tail : List Told) → Stands journal n item.Unreadable tail script m

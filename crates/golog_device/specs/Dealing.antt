@@ -5,7 +5,7 @@ use Rattle.golog_tree.specs.declared.agent.Agent.{Agent}
 use Rattle.golog_semantics.specs.Journal.{Journal, commands, is_open}
 use Rattle.golog_semantics.specs.Text.{at_each}
 use Rattle.golog_semantics.specs.Inline.{Scripted, turn}
-use Rattle.golog_semantics.specs.Dealt.{Meaning, Told, Script, told_value, told_idle, GivenFits, service, items, wakes, Dealt}
+use Rattle.golog_semantics.specs.Dealt.{Meaning, Told, Script, told_value, told_idle, GivenFits, service, items, wakes, WasDealtWith}
 use Rattle.golog_device.specs.declared.turn.Turned.{Turned}
 use Rattle.golog_device.specs.declared.turn.Turned.TheVariants.{Served, Posted, Rested, Nothing, Closed}
 
@@ -32,7 +32,7 @@ module _ (agent : Agent) (device : ℕ) where
 
   -- after a turn it is dealt with so far, or it was closed and is dealt with
   abbrev pub DealtAfter : Turned → Journal → ℕ → Script → Meaning → Type 0
-  DealtAfter Closed journal taken script m = Dealt agent device journal script m
+  DealtAfter Closed journal taken script m = WasDealtWith agent device journal script m
   DealtAfter Served journal taken script m = DealtSoFar journal taken script m
   DealtAfter Posted journal taken script m = DealtSoFar journal taken script m
   DealtAfter Rested journal taken script m = DealtSoFar journal taken script m
@@ -51,7 +51,7 @@ module _ (agent : Agent) (device : ℕ) where
   -- where the device is open it is dealt with so far, and where it was closed it is dealt with
   abbrev pub DealtIf : Bool → Journal → ℕ → Script → Meaning → Type 0
   DealtIf true journal taken script m = DealtSoFar journal taken script m
-  DealtIf false journal taken script m = Dealt agent device journal script m
+  DealtIf false journal taken script m = WasDealtWith agent device journal script m
 
   abbrev pub DealtNow : Journal → ℕ → Script → Meaning → Type 0
   DealtNow journal taken script m = DealtIf (is_open device journal) journal taken script m

@@ -142,7 +142,7 @@ module _ (agent : Agent) (device : ℕ) where
   DealtBy before reason taken script m = DealtUntil before reason taken script m
 
   -- what the device was given and told fits the journal in which it is closed
-  pub record Dealt (journal : Journal) (script : Script) (m : Meaning) : Type 0 where
+  pub record WasDealtWith (journal : Journal) (script : Script) (m : Meaning) : Type 0 where
     pub before : Journal
     pub later : Journal
     pub reason : Reason

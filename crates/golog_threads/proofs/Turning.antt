@@ -5,7 +5,7 @@ use Rattle.golog_tree.specs.declared.agent.Agent.{Agent}
 use Rattle.golog_semantics.specs.declared.journal.Item.{Item}
 use Rattle.golog_semantics.specs.declared.journal.Item.TheVariants as item
 use Rattle.golog_semantics.specs.Journal.{Journal, is_open}
-use Rattle.golog_semantics.specs.Dealt.{Meaning, Script, Dealt}
+use Rattle.golog_semantics.specs.Dealt.{Meaning, Script, WasDealtWith}
 use Rattle.golog_journal.specs.declared.board.Next.{Next}
 use Rattle.golog_journal.specs.declared.board.Next.TheVariants.{Command as Commanded, Nothing as NoCommand, Ended}
 use Rattle.golog_journal.specs.Boards.{IsBoardList}
@@ -154,7 +154,7 @@ module _ (agent : Agent) (device : ℕ) where
     pub whole : Keeps start next
     whole = keeps-then start now next going.keeps step
 
-    pub closes : result ≡ turned.Closed → (script : Script) → DealtNow agent device start.seen 0 script was → Dealt agent device next.seen script m'
+    pub closes : result ≡ turned.Closed → (script : Script) → DealtNow agent device start.seen 0 script was → WasDealtWith agent device next.seen script m'
     closes is script far = subst (λ r. DealtAfter agent device r next.seen count script m') is (after script (going.dealt script far))
 
   -- a device that is closed by this turn has served

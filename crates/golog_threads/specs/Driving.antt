@@ -6,7 +6,7 @@ use Rattle.golog_semantics.specs.declared.journal.Entry.{Entry}
 use Rattle.golog_semantics.specs.declared.journal.Entry.TheVariants.{Close}
 use Rattle.golog_semantics.specs.declared.journal.Reason.TheVariants.{Refused}
 use Rattle.golog_semantics.specs.Journal.{Journal, is_open, has_end, longest}
-use Rattle.golog_semantics.specs.Dealt.{Meaning, Script, Dealt}
+use Rattle.golog_semantics.specs.Dealt.{Meaning, Script, WasDealtWith}
 use Rattle.golog_journal.specs.Boards.{IsBoardList}
 use Rattle.golog_journal.specs.Taken.{IsReady}
 use Rattle.golog_device.specs.Dealing.{DealtNow}
@@ -37,7 +37,7 @@ module _ {D : Type 0} (agent : Agent) (meaning : D → Meaning) where
   pub record HasServed (old new : Journal) (device : ℕ) (was is : D) : Type 0 where
     pub shut : is_open device new ≡ false
     pub dealt : (script : Script) → DealtNow agent device old 0 script (meaning was)
-        → Dealt agent device new script (meaning is)
+        → WasDealtWith agent device new script (meaning is)
     pub same : is_open device old ≡ false → is ≡ was
     pub refused : has_refused device new ≡ true → has_refused device old ≡ true
 
