@@ -1,7 +1,9 @@
-ghost use Rattle.std.specs.Prelude.{◌≡◌, [], ◌∷◌, ◌++◌, IfOk, OnOk, codes, decimal};
+ghost use Rattle.std.specs.Prelude.{◌≡◌, [], ◌∷◌, ◌++◌, length, IfOk, OnOk, codes, decimal};
 ghost use Rattle.golog_semantics.specs.Reports.{IsReport};
 ghost use Rattle.golog_semantics.specs.SortLaws.{AreInSorts};
-ghost use Rattle.golog_semantics.specs.Text.{body_text, report_text, run_at};
+ghost use Rattle.golog_semantics.specs.Text.{body_text, line_text, report_text, run_at};
+ghost use Rattle.golog_semantics.specs.Journal.{Journal};
+ghost use Rattle.golog_semantics.specs.Progress.{values_after};
 ghost use Rattle.golog_semantics.specs.WellFormed.{WellFormed};
 ghost use Rattle.golog_text.specs.Named.{AreFrom, AreNamed, IsNamed};
 
@@ -35,8 +37,8 @@ pub fn write_journal(alloc: Global, agent: &Agent, report: &Report) -> Result<By
     Ok(text)
 }
 
-// Adds the line of an entry that stands at this place, with these values before it. The runs are those
-// from the place on.
+// Adds the line of an entry that stands at this place, with these values before it, and its line feed. The
+// runs are those from the place on.
 fn add_line(
     text: &mut Bytes,
     agent: &Agent,
@@ -54,8 +56,33 @@ fn add_line(
         ≡ text.old ++ (decimal place ++ codes " "
         ++ body_text agent.now values.now (run_at runs.now place) entry ++ 10 ∷ [])) }
 {
+    write_line(text, agent, values, runs, place, entry)?;
+    text.extend(b"\n")
+}
+
+/// Adds the line of an entry that stands at this place, with these values before it, to a text, without its
+/// line feed. The runs are those from the place on.
+///
+/// `NoMemory` comes only for want of memory.
+pub fn write_line(
+    text: &mut Bytes,
+    agent: &Agent,
+    values: &[u8],
+    runs: &[PlacedRun],
+    place: usize,
+    entry: Entry,
+) -> Result<(), NoMemory>
+    requires formed { WellFormed agent.now }
+    requires sorts { AreInSorts agent.now values.now }
+    requires in_order { AreFrom place runs.now }
+    requires runs { AreNamed agent.now runs.now }
+    requires entry { IsNamed agent.now entry }
+    ensures body { OnOk result (text.new
+        ≡ text.old ++ (decimal place ++ codes " " ++ body_text agent.now values.now (run_at runs.now place) entry)) }
+    ensures line { OnOk result ((before : Journal) → length before ≡ place → values_after agent.now before ≡ values.now
+        → text.new ≡ text.old ++ line_text agent.now runs.now before entry) }
+{
     add_number(text, place)?;
     text.extend(b" ")?;
-    add_body(text, agent, values, runs, place, entry)?;
-    text.extend(b"\n")
+    add_body(text, agent, values, runs, place, entry)
 }

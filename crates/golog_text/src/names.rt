@@ -52,7 +52,7 @@ pub(crate) fn add_value(
 }
 
 // The sort of a ground fluent.
-fn fluent_sort(agent: &Agent, fluent: u32) -> u32
+pub(crate) fn fluent_sort(agent: &Agent, fluent: u32) -> u32
     requires countable { IsCountable agent.now }
     requires number { fluent < ground_count agent.now (fluent_args agent.now) }
     ensures { result ≡ spec_fluent_sort agent.now fluent }

@@ -62,8 +62,8 @@ pub(crate) fn add_run(
     }
 }
 
-// The runs that begin behind a place.
-pub(crate) fn runs_behind(runs: &[PlacedRun], place: usize) -> &[PlacedRun]
+/// The runs that begin behind a place, of runs in the order of their places from it on.
+pub fn runs_behind(runs: &[PlacedRun], place: usize) -> &[PlacedRun]
     requires { AreFrom place runs.now }
     ensures { result.now ≡ filter (λ r. nat_lt place r.place) runs.now }
 {

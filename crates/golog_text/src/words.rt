@@ -4,8 +4,8 @@ ghost use Rattle.golog_semantics.specs.Text.{answer_text, reason_text};
 
 use golog_semantics::{Answer, Reason};
 
-// The word for an answer.
-pub(crate) fn answer_name(answer: Answer) -> &'static [u8]
+/// The word for an answer.
+pub fn answer_name(answer: Answer) -> &'static [u8]
     ensures { result.now ≡ answer_text answer }
 {
     match answer {
