@@ -2,5 +2,5 @@ pub mod Answers
 pub mod Excluded
 pub mod Asked
 mod Ranges
-mod CondExcluded
+pub mod CondExcluded
 mod CondAnswers

@@ -19,7 +19,10 @@ use Rattle.golog_theory.specs.Sorts.{bound, is_above, is_too_wide, range_of, con
 use Rattle.golog_theory.specs.Fluents.{fluent_item, start_item}
 use Rattle.golog_theory.specs.Actions.{device_item, action_item, exo_item}
 use Rattle.golog_theory.specs.Effects.{poss_item, causes_item, senses_item}
-use Rattle.golog_theory.specs.Items.{built_in, sort_read, device_read, fluent_read, start_read, action_read, exo_read, poss_read, causes_read, senses_read, other_read, read_by, item_read, items_read, theory_of}
+use Rattle.golog_theory.specs.Keywords.{item_keyword}
+use Rattle.golog_theory.specs.declared.keyword.ItemKeyword.{ItemKeyword}
+use Rattle.golog_theory.specs.declared.keyword.ItemKeyword.TheVariants as keyword
+use Rattle.golog_theory.specs.Items.{built_in, sort_read, device_read, fluent_read, start_read, action_read, exo_read, poss_read, causes_read, senses_read, read_as, read_by, item_read, items_read, theory_of}
 use Rattle.golog_theory.proofs.Yields.{Yields, gives-yields, refused-yields, row-yields, found-yields, if-yields, then-yields}
 use Rattle.golog_check.specs.DeclaredItems.{sort_item as made_sort}
 use Rattle.golog_file.specs.Laws.{RangesOfAgentsFit}
@@ -121,36 +124,38 @@ HasRanges theory = AreInRange theory.sorts
 
 -- an item that declares no sort leaves the sorts
 module _ (theory : DraftTheory) (have : HasRanges theory) where
-  read_by-yields : (at : ℕ) (keyword : List ℕ) (fs : List Form) → Yields HasRanges (read_by theory at keyword fs)
-  unfolding read_by sort_read device_read fluent_read start_read action_read exo_read poss_read causes_read senses_read other_read
-  read_by-yields at keyword fs =
-      let choose = if-yields HasRanges in
-      choose (same keyword (codes "sort")) (sort_read theory at fs) _
-      (λ _. then-yields InRange _ (sort_item theory at fs).outcome _ (sort-yields theory at fs) (λ item fits. gives-yields HasRanges _ (pushed theory.sorts item have fits)))
-      (λ _. choose (same keyword (codes "device")) (device_read theory at fs) _
-      (λ _. then-yields (λ _. Unit {0}) _ (device_item theory at fs).outcome _ (λ x e. tt) (λ item _. gives-yields HasRanges _ have))
-      (λ _. choose (same keyword (codes "fluent")) (fluent_read theory at fs) _
-      (λ _. then-yields (λ _. Unit {0}) _ (fluent_item theory at fs).outcome _ (λ x e. tt) (λ item _. gives-yields HasRanges _ have))
-      (λ _. choose (same keyword (codes "start")) (start_read theory at fs) _
-      (λ _. then-yields (λ _. Unit {0}) _ (start_item theory at fs).outcome _ (λ x e. tt) (λ item _. gives-yields HasRanges _ have))
-      (λ _. choose (same keyword (codes "action")) (action_read theory at fs) _
-      (λ _. then-yields (λ _. Unit {0}) _ (action_item theory at fs).outcome _ (λ x e. tt) (λ item _. gives-yields HasRanges _ have))
-      (λ _. choose (same keyword (codes "exo")) (exo_read theory at fs) _
-      (λ _. then-yields (λ _. Unit {0}) _ (exo_item theory at fs).outcome _ (λ x e. tt) (λ item _. gives-yields HasRanges _ have))
-      (λ _. choose (same keyword (codes "poss")) (poss_read theory at fs) _
-      (λ _. then-yields (λ _. Unit {0}) _ (poss_item theory at fs).outcome _ (λ x e. tt) (λ item _. gives-yields HasRanges _ have))
-      (λ _. choose (same keyword (codes "causes")) (causes_read theory at fs) _
-      (λ _. then-yields (λ _. Unit {0}) _ (causes_item theory at fs).outcome _ (λ x e. tt) (λ item _. gives-yields HasRanges _ have))
-      (λ _. choose (same keyword (codes "senses")) (senses_read theory at fs) _
-      (λ _. then-yields (λ _. Unit {0}) _ (senses_item theory at fs).outcome _ (λ x e. tt) (λ item _. gives-yields HasRanges _ have))
-      (λ _. choose (same keyword (codes "proc") || same keyword (codes "main")) (gives theory) (refused 20 at)
-      (λ _. gives-yields HasRanges theory have) (λ _. refused-yields HasRanges 20 at))))))))))
+  read_as-yields : (at : ℕ) (keyword : ItemKeyword) (fs : List Form) → Yields HasRanges (read_as theory at keyword fs)
+  unfolding read_as sort_read device_read fluent_read start_read action_read exo_read poss_read causes_read senses_read
+  read_as-yields at keyword.Sort fs =
+      then-yields InRange _ (sort_item theory at fs).outcome _ (sort-yields theory at fs) (λ item fits. gives-yields HasRanges _ (pushed theory.sorts item have fits))
+  read_as-yields at keyword.Device fs =
+      then-yields (λ _. Unit {0}) _ (device_item theory at fs).outcome _ (λ x e. tt) (λ item _. gives-yields HasRanges _ have)
+  read_as-yields at keyword.Fluent fs =
+      then-yields (λ _. Unit {0}) _ (fluent_item theory at fs).outcome _ (λ x e. tt) (λ item _. gives-yields HasRanges _ have)
+  read_as-yields at keyword.Start fs =
+      then-yields (λ _. Unit {0}) _ (start_item theory at fs).outcome _ (λ x e. tt) (λ item _. gives-yields HasRanges _ have)
+  read_as-yields at keyword.Action fs =
+      then-yields (λ _. Unit {0}) _ (action_item theory at fs).outcome _ (λ x e. tt) (λ item _. gives-yields HasRanges _ have)
+  read_as-yields at keyword.Exo fs =
+      then-yields (λ _. Unit {0}) _ (exo_item theory at fs).outcome _ (λ x e. tt) (λ item _. gives-yields HasRanges _ have)
+  read_as-yields at keyword.Poss fs =
+      then-yields (λ _. Unit {0}) _ (poss_item theory at fs).outcome _ (λ x e. tt) (λ item _. gives-yields HasRanges _ have)
+  read_as-yields at keyword.Causes fs =
+      then-yields (λ _. Unit {0}) _ (causes_item theory at fs).outcome _ (λ x e. tt) (λ item _. gives-yields HasRanges _ have)
+  read_as-yields at keyword.Senses fs =
+      then-yields (λ _. Unit {0}) _ (senses_item theory at fs).outcome _ (λ x e. tt) (λ item _. gives-yields HasRanges _ have)
+  read_as-yields at keyword.Proc fs = gives-yields HasRanges theory have
+  read_as-yields at keyword.Main fs = gives-yields HasRanges theory have
+
+  read_by-yields : (at : ℕ) (keyword : Option ItemKeyword) (fs : List Form) → Yields HasRanges (read_by theory at keyword fs)
+  read_by-yields at None fs = refused-yields HasRanges 20 at
+  read_by-yields at (Some keyword) fs = read_as-yields at keyword fs
 
 items-yield : (theory : DraftTheory) → HasRanges theory → (fs : List Form) → Yields HasRanges (items_read theory fs)
 items-yield theory have [] = gives-yields HasRanges theory have
 items-yield theory have (f ∷ fs) =
     then-yields HasRanges HasRanges (item_read theory f).outcome (λ next. items_read next fs)
-    (read_by-yields theory have (place_of f) (head_word f) (arguments f)) (λ next have'. items-yield next have' fs)
+    (read_by-yields theory have (place_of f) (item_keyword (head_word f)) (arguments f)) (λ next have'. items-yield next have' fs)
 
 built_in-has : HasRanges built_in
 unfolding built_in

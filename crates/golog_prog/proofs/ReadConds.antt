@@ -53,7 +53,10 @@ use Rattle.golog_theory.specs.Parts.{word, parts, short_name, sort_of}
 use Rattle.golog_theory.specs.Heads.{fluent_called}
 use Rattle.golog_theory.specs.Recursion.{Part}
 use Rattle.golog_theory.specs.Terms.{term_of}
-use Rattle.golog_theory.specs.Conditions.{truth_of, fluent_cond, sides_of, equal_of, less_of, at_most_of, not_of, conds_of, and_of, or_of, binder_by, binder_of, bound_of, some_of, all_of, cond_list, cond_by, cond_of, cond_part}
+use Rattle.golog_theory.specs.Keywords.{cond_keyword}
+use Rattle.golog_theory.specs.declared.keyword.CondKeyword.{CondKeyword}
+use Rattle.golog_theory.specs.declared.keyword.CondKeyword.TheVariants as keyword
+use Rattle.golog_theory.specs.Conditions.{truth_of, fluent_cond, sides_of, equal_of, less_of, at_most_of, not_of, conds_of, and_of, or_of, binder_by, binder_of, bound_of, some_of, all_of, keyword_cond, cond_list, cond_by, cond_of, cond_part}
 use Rattle.golog_theory.proofs.Conds.{cond_of-parts, cond_of-none}
 use Rattle.golog_check.specs.declared.terms.Sides.{Sides}
 use Rattle.golog_check.specs.Codes.{SORT_CLASH}
@@ -305,9 +308,9 @@ module _ (agent : Agent) (k : ℕ) (ready : Ready agent k) (theory : DraftTheory
   -- ---- conditions
 
   -- a form behind a word, by its parts
-  by-word : (f head : Form) (others : List Form) (n : ℕ) (text : Text) → parts f ≡ head ∷ others → word head ≡ text → cond_of theory f n ≡ cond_list theory f n text (map (cond_part theory) others)
+  by-word : (f head : Form) (others : List Form) (n : ℕ) (text : Text) → parts f ≡ head ∷ others → word head ≡ text → cond_of theory f n ≡ cond_list theory f n (cond_keyword text) (map (cond_part theory) others)
   by-word f head others n text are e =
-      cond_of-parts theory f n ∙ ap (λ (fs : List Form). cond_by theory f (map (cond_part theory) fs) n) are ∙ ap (λ (t : Text). cond_list theory f n t (map (cond_part theory) others)) e
+      cond_of-parts theory f n ∙ ap (λ (fs : List Form). cond_by theory f (map (cond_part theory) fs) n) are ∙ ap (λ (t : Text). cond_list theory f n (cond_keyword t) (map (cond_part theory) others)) e
 
   truth-ok : (b : Bool) (f : Form) → word f ≡ truth_text b → (truth_of f).outcome ≡ Ok (draft.Truth b (place_of f))
   unfolding truth_of
@@ -325,7 +328,7 @@ module _ (agent : Agent) (k : ℕ) (ready : Ready agent k) (theory : DraftTheory
   module _ (bound : fits.Scope) (scope : Scope) (n : ℕ) (long : n ≡ length scope) (scoped : Scoped stem bound scope) where
     fluent-falls : (fluent : ℕ) (args : List Arg) (f : Form) (r : FluentRead agent k ready theory of bound scope scoped bool_sort fluent args f)
         → (cond_of theory f n).outcome ≡ Ok (draft.Is fluent r.drafts (place_of f))
-    unfolding cond_list fluent_cond
+    unfolding cond_keyword fluent_cond
     fluent-falls fluent args f r =
         let at = place_of f in
         let ps = map (cond_part theory) r.others in
@@ -333,10 +336,12 @@ module _ (agent : Agent) (k : ℕ) (ready : Ready agent k) (theory : DraftTheory
         let equal : same r.name (codes "=") ≡ false = name-not r.name (codes "=") r.is_word refl in
         let less : same r.name (codes "<") ≡ false = name-not r.name (codes "<") r.is_word refl in
         let most : same r.name (codes "<=") ≡ false = name-not r.name (codes "<=") r.is_word refl in
+        let fluent_word : cond_keyword r.name ≡ None =
+        (λ i. if equal i then Some keyword.Equal else if less i then Some keyword.Less else if most i then Some keyword.AtMost
+        else if none.not_not i then Some keyword.Not else if none.not_and i then Some keyword.And else if none.not_or i then Some keyword.Or
+        else if none.not_some i then Some keyword.ForSome else if none.not_all i then Some keyword.ForAll else None) in
         ap (λ (x : Reading DraftCond). x.outcome) (by-word f r.first r.others n r.name r.are r.named)
-        ∙ (λ i. (if equal i then equal_of theory at ps else if less i then less_of theory at ps else if most i then at_most_of theory at ps
-        else if none.not_not i then not_of n at ps else if none.not_and i then and_of n at ps else if none.not_or i then or_of n at ps
-        else if none.not_some i then some_of theory n at ps else if none.not_all i then all_of theory n at ps else fluent_cond theory f).outcome)
+        ∙ ap (λ (word : Option CondKeyword). (cond_list theory f n word ps).outcome) fluent_word
         ∙ then-ok (fluent_called theory f) (λ (c : Called). gives (draft.Is c.item c.args at)) (call_of fluent r.drafts) (draft.Is fluent r.drafts at) r.calls refl
 
     is-ok : (fluent at : ℕ) (args : List Arg) (drafts : List DraftArg) → fluent_sort names fluent ≡ Some bool_sort → (args_in names scope (fluent_sorts names fluent) drafts).outcome ≡ Ok args
@@ -403,21 +408,21 @@ module _ (agent : Agent) (k : ℕ) (ready : Ready agent k) (theory : DraftTheory
 
     equal-spelled : (f sign one other : Form) (d e : DraftTerm) → parts f ≡ sign ∷ one ∷ other ∷ [] → word sign ≡ codes "=" → (sides_of theory (place_of f) (map (cond_part theory) (one ∷ other ∷ []))).outcome ≡ Ok (sides_made d e)
         → (cond_of theory f n).outcome ≡ Ok (draft.Equal d e (place_of f))
-    unfolding cond_list equal_of
+    unfolding cond_keyword keyword_cond equal_of
     equal-spelled f sign one other d e are s h =
         ap (λ (x : Reading DraftCond). x.outcome) (by-word f sign (one ∷ other ∷ []) n (codes "=") are s)
         ∙ then-ok (sides_of theory (place_of f) (map (cond_part theory) (one ∷ other ∷ []))) (λ (x : DraftSides). gives (draft.Equal x.one x.other (place_of f))) (sides_made d e) (draft.Equal d e (place_of f)) h refl
 
     less-spelled : (f sign one other : Form) (d e : DraftTerm) → parts f ≡ sign ∷ one ∷ other ∷ [] → word sign ≡ codes "<" → (sides_of theory (place_of f) (map (cond_part theory) (one ∷ other ∷ []))).outcome ≡ Ok (sides_made d e)
         → (cond_of theory f n).outcome ≡ Ok (draft.Less d e (place_of f))
-    unfolding cond_list less_of
+    unfolding cond_keyword keyword_cond less_of
     less-spelled f sign one other d e are s h =
         ap (λ (x : Reading DraftCond). x.outcome) (by-word f sign (one ∷ other ∷ []) n (codes "<") are s)
         ∙ then-ok (sides_of theory (place_of f) (map (cond_part theory) (one ∷ other ∷ []))) (λ (x : DraftSides). gives (draft.Less x.one x.other (place_of f))) (sides_made d e) (draft.Less d e (place_of f)) h refl
 
     at-most-spelled : (f sign one other : Form) (d e : DraftTerm) → parts f ≡ sign ∷ one ∷ other ∷ [] → word sign ≡ codes "<=" → (sides_of theory (place_of f) (map (cond_part theory) (one ∷ other ∷ []))).outcome ≡ Ok (sides_made d e)
         → (cond_of theory f n).outcome ≡ Ok (draft.AtMost d e (place_of f))
-    unfolding cond_list at_most_of
+    unfolding cond_keyword keyword_cond at_most_of
     at-most-spelled f sign one other d e are s h =
         ap (λ (x : Reading DraftCond). x.outcome) (by-word f sign (one ∷ other ∷ []) n (codes "<=") are s)
         ∙ then-ok (sides_of theory (place_of f) (map (cond_part theory) (one ∷ other ∷ []))) (λ (x : DraftSides). gives (draft.AtMost x.one x.other (place_of f))) (sides_made d e) (draft.AtMost d e (place_of f)) h refl
@@ -465,7 +470,7 @@ module _ (agent : Agent) (k : ℕ) (ready : Ready agent k) (theory : DraftTheory
         }
 
     not-spelled : (f sign one : Form) (d : DraftCond) → parts f ≡ sign ∷ one ∷ [] → word sign ≡ codes "not" → (cond_of theory one n).outcome ≡ Ok d → (cond_of theory f n).outcome ≡ Ok (draft.Not d (place_of f))
-    unfolding cond_list not_of
+    unfolding cond_keyword keyword_cond not_of
     not-spelled f sign one d are s h =
         ap (λ (x : Reading DraftCond). x.outcome) (by-word f sign (one ∷ []) n (codes "not") are s)
         ∙ then-ok (cond_of theory one n) (λ (x : DraftCond). gives (draft.Not x (place_of f))) d (draft.Not d (place_of f)) h refl
@@ -522,14 +527,14 @@ module _ (agent : Agent) (k : ℕ) (ready : Ready agent k) (theory : DraftTheory
 
     and-spelled : (f sign : Form) (others : List Form) (ds : List DraftCond) → parts f ≡ sign ∷ others → word sign ≡ codes "and"
         → (each (λ (_ : List DraftCond) (part : Part (ℕ → Reading DraftCond)). part.spelled n) [] (map (cond_part theory) others)).outcome ≡ Ok ds → (cond_of theory f n).outcome ≡ Ok (draft.And ds (place_of f))
-    unfolding cond_list and_of conds_of
+    unfolding cond_keyword keyword_cond and_of conds_of
     and-spelled f sign others ds are s h =
         ap (λ (x : Reading DraftCond). x.outcome) (by-word f sign others n (codes "and") are s)
         ∙ then-ok (conds_of n (map (cond_part theory) others)) (λ (x : List DraftCond). gives (draft.And x (place_of f))) ds (draft.And ds (place_of f)) h refl
 
     or-spelled : (f sign : Form) (others : List Form) (ds : List DraftCond) → parts f ≡ sign ∷ others → word sign ≡ codes "or"
         → (each (λ (_ : List DraftCond) (part : Part (ℕ → Reading DraftCond)). part.spelled n) [] (map (cond_part theory) others)).outcome ≡ Ok ds → (cond_of theory f n).outcome ≡ Ok (draft.Or ds (place_of f))
-    unfolding cond_list or_of conds_of
+    unfolding cond_keyword keyword_cond or_of conds_of
     or-spelled f sign others ds are s h =
         ap (λ (x : Reading DraftCond). x.outcome) (by-word f sign others n (codes "or") are s)
         ∙ then-ok (conds_of n (map (cond_part theory) others)) (λ (x : List DraftCond). gives (draft.Or x (place_of f))) ds (draft.Or ds (place_of f)) h refl
@@ -607,14 +612,14 @@ module _ (agent : Agent) (k : ℕ) (ready : Ready agent k) (theory : DraftTheory
 
     some-spelled : (f sign binder body : Form) (var : Text) (sort : ℕ) (d : DraftCond) → parts f ≡ sign ∷ binder ∷ body ∷ [] → word sign ≡ codes "some"
         → (bound_of theory n (place_of f) (map (cond_part theory) (binder ∷ body ∷ []))).outcome ≡ Ok (bound_made (binder_made var sort) d) → (cond_of theory f n).outcome ≡ Ok (draft.ForSome var sort d (place_of f))
-    unfolding cond_list some_of
+    unfolding cond_keyword keyword_cond some_of
     some-spelled f sign binder body var sort d are s h =
         ap (λ (x : Reading DraftCond). x.outcome) (by-word f sign (binder ∷ body ∷ []) n (codes "some") are s)
         ∙ then-ok (bound_of theory n (place_of f) (map (cond_part theory) (binder ∷ body ∷ []))) (λ (x : Bound). gives (draft.ForSome x.binder.var x.binder.sort x.body (place_of f))) (bound_made (binder_made var sort) d) (draft.ForSome var sort d (place_of f)) h refl
 
     all-spelled : (f sign binder body : Form) (var : Text) (sort : ℕ) (d : DraftCond) → parts f ≡ sign ∷ binder ∷ body ∷ [] → word sign ≡ codes "all"
         → (bound_of theory n (place_of f) (map (cond_part theory) (binder ∷ body ∷ []))).outcome ≡ Ok (bound_made (binder_made var sort) d) → (cond_of theory f n).outcome ≡ Ok (draft.ForAll var sort d (place_of f))
-    unfolding cond_list all_of
+    unfolding cond_keyword keyword_cond all_of
     all-spelled f sign binder body var sort d are s h =
         ap (λ (x : Reading DraftCond). x.outcome) (by-word f sign (binder ∷ body ∷ []) n (codes "all") are s)
         ∙ then-ok (bound_of theory n (place_of f) (map (cond_part theory) (binder ∷ body ∷ []))) (λ (x : Bound). gives (draft.ForAll x.binder.var x.binder.sort x.body (place_of f))) (bound_made (binder_made var sort) d) (draft.ForAll var sort d (place_of f)) h refl

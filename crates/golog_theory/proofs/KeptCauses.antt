@@ -1,6 +1,6 @@
 -- An effect that was read keeps what it has to, in the whole theory too: sorts stand before the words of the
 -- effects behind them.
-use Rattle.std.proofs.Common.{◌≡◌, ℕ, ◌+◌, ◌<◌, ◌≤◌, Bool, true, not, ◌&&◌, ◌||◌, ◌==◌, IsTrue, List, [], ◌∷◌, ◌++◌, length, Ok, refl, sym, ap, subst, ◌∙◌, arith}
+use Rattle.std.proofs.Common.{◌≡◌, ℕ, ◌+◌, ◌<◌, ◌≤◌, Bool, true, not, ◌&&◌, ◌||◌, ◌==◌, IsTrue, List, [], ◌∷◌, ◌++◌, Option, Some, None, length, Ok, refl, sym, ap, subst, ◌∙◌, arith}
 use Rattle.std.proofs.lemmas.List.{length_push}
 use Rattle.std.proofs.lemmas.List.Quantifiers.{position-Some}
 use Rattle.std.specs.Prelude.{codes, nat_le, nat_lt}
@@ -33,7 +33,10 @@ use Rattle.golog_theory.specs.Sorts.{bound, is_above, is_too_wide, range_of, con
 use Rattle.golog_theory.specs.Fluents.{fluent_item, start_item}
 use Rattle.golog_theory.specs.Actions.{device_item, action_item, exo_item}
 use Rattle.golog_theory.specs.Effects.{variable_count, effect_of, cause_of, poss_item, causes_item, senses_item}
-use Rattle.golog_theory.specs.Items.{built_in, with_fluent, sort_read, device_read, fluent_read, start_read, action_read, exo_read, poss_read, causes_read, senses_read, other_read, read_by, item_read, items_read, theory_of}
+use Rattle.golog_theory.specs.Keywords.{item_keyword}
+use Rattle.golog_theory.specs.declared.keyword.ItemKeyword.{ItemKeyword}
+use Rattle.golog_theory.specs.declared.keyword.ItemKeyword.TheVariants.{Sort, Device, Fluent, Start, Action, Exo, Poss, Causes, Senses, Proc, Main}
+use Rattle.golog_theory.specs.Items.{built_in, with_fluent, sort_read, device_read, fluent_read, start_read, action_read, exo_read, poss_read, causes_read, senses_read, read_as, read_by, item_read, items_read, theory_of}
 use Rattle.golog_draft.specs.Drafts.{signature, fluent_keeps, term_keeps, cond_keeps, is_constant_at, cause_vars, draft_action_at, draft_cause_keeps}
 use Rattle.golog_theory.proofs.Yields.{Yields, gives-yields, refused-yields, row-yields, if-yields, then-yields}
 use Rattle.golog_theory.proofs.Inside.{end_of, Between, stands, between-to, arguments-between}
@@ -314,34 +317,36 @@ module _ (from at to : ℕ) (le : from ≤ at) (lt : at < to) (theory : DraftThe
             (cause-still to to (omega arith) theory next grew (λ name at' before. refl) item fits, tt);
       }
 
-  read_by-up_to : (keyword : List ℕ) (fs : List Form) → Between (at + 1) fs to → Yields (ReadUpTo to) (read_by theory at keyword fs)
-  unfolding read_by sort_read device_read fluent_read start_read action_read exo_read poss_read causes_read senses_read other_read
-  read_by-up_to keyword fs b =
-      let choose = if-yields (ReadUpTo to) in
-      choose (same keyword (codes "sort")) (sort_read theory at fs) _
-      (λ _. then-yields _ _ (sort_item theory at fs).outcome _ (sort_item-placed theory at fs) (λ item placed. gives-yields (ReadUpTo to) _ (with-sort item placed)))
-      (λ _. choose (same keyword (codes "device")) (device_read theory at fs) _
-      (λ _. then-yields (λ _. Unit {0}) _ (device_item theory at fs).outcome _ (λ x e. tt) (λ item _. gives-yields (ReadUpTo to) _ (nothing _ refl refl refl refl)))
-      (λ _. choose (same keyword (codes "fluent")) (fluent_read theory at fs) _
-      (λ _. then-yields (λ _. Unit {0}) _ (fluent_item theory at fs).outcome _ (λ x e. tt) (λ item _. gives-yields (ReadUpTo to) _ (with-new_fluent item)))
-      (λ _. choose (same keyword (codes "start")) (start_read theory at fs) _
-      (λ _. then-yields (λ _. Unit {0}) _ (start_item theory at fs).outcome _ (λ x e. tt) (λ item _. gives-yields (ReadUpTo to) _ (nothing _ refl refl refl refl)))
-      (λ _. choose (same keyword (codes "action")) (action_read theory at fs) _
-      (λ _. then-yields (λ _. Unit {0}) _ (action_item theory at fs).outcome _ (λ x e. tt) (λ item _. gives-yields (ReadUpTo to) _ (with-action item)))
-      (λ _. choose (same keyword (codes "exo")) (exo_read theory at fs) _
-      (λ _. then-yields (λ _. Unit {0}) _ (exo_item theory at fs).outcome _ (λ x e. tt) (λ item _. gives-yields (ReadUpTo to) _ (with-action item)))
-      (λ _. choose (same keyword (codes "poss")) (poss_read theory at fs) _
-      (λ _. then-yields (λ _. Unit {0}) _ (poss_item theory at fs).outcome _ (λ x e. tt) (λ item _. gives-yields (ReadUpTo to) _ (nothing _ refl refl refl refl)))
-      (λ _. choose (same keyword (codes "causes")) (causes_read theory at fs) _
-      (λ _. then-yields _ _ (causes_item theory at fs).outcome _ (causes_item-fits from to theory k.sorts at fs le b) (λ item fits. gives-yields (ReadUpTo to) _ (with-cause item fits)))
-      (λ _. choose (same keyword (codes "senses")) (senses_read theory at fs) _
-      (λ _. then-yields (λ _. Unit {0}) _ (senses_item theory at fs).outcome _ (λ x e. tt) (λ item _. gives-yields (ReadUpTo to) _ (nothing _ refl refl refl refl)))
-      (λ _. choose (same keyword (codes "proc") || same keyword (codes "main")) (gives theory) (refused 20 at)
-      (λ _. gives-yields (ReadUpTo to) theory (nothing theory refl refl refl refl)) (λ _. refused-yields (ReadUpTo to) 20 at))))))))))
+  read_as-up_to : (keyword : ItemKeyword) (fs : List Form) → Between (at + 1) fs to → Yields (ReadUpTo to) (read_as theory at keyword fs)
+  unfolding read_as sort_read device_read fluent_read start_read action_read exo_read poss_read causes_read senses_read
+  read_as-up_to Sort fs b =
+      then-yields _ _ (sort_item theory at fs).outcome _ (sort_item-placed theory at fs) (λ item placed. gives-yields (ReadUpTo to) _ (with-sort item placed))
+  read_as-up_to Device fs b =
+      then-yields (λ _. Unit {0}) _ (device_item theory at fs).outcome _ (λ x e. tt) (λ item _. gives-yields (ReadUpTo to) _ (nothing _ refl refl refl refl))
+  read_as-up_to Fluent fs b =
+      then-yields (λ _. Unit {0}) _ (fluent_item theory at fs).outcome _ (λ x e. tt) (λ item _. gives-yields (ReadUpTo to) _ (with-new_fluent item))
+  read_as-up_to Start fs b =
+      then-yields (λ _. Unit {0}) _ (start_item theory at fs).outcome _ (λ x e. tt) (λ item _. gives-yields (ReadUpTo to) _ (nothing _ refl refl refl refl))
+  read_as-up_to Action fs b =
+      then-yields (λ _. Unit {0}) _ (action_item theory at fs).outcome _ (λ x e. tt) (λ item _. gives-yields (ReadUpTo to) _ (with-action item))
+  read_as-up_to Exo fs b =
+      then-yields (λ _. Unit {0}) _ (exo_item theory at fs).outcome _ (λ x e. tt) (λ item _. gives-yields (ReadUpTo to) _ (with-action item))
+  read_as-up_to Poss fs b =
+      then-yields (λ _. Unit {0}) _ (poss_item theory at fs).outcome _ (λ x e. tt) (λ item _. gives-yields (ReadUpTo to) _ (nothing _ refl refl refl refl))
+  read_as-up_to Causes fs b =
+      then-yields _ _ (causes_item theory at fs).outcome _ (causes_item-fits from to theory k.sorts at fs le b) (λ item fits. gives-yields (ReadUpTo to) _ (with-cause item fits))
+  read_as-up_to Senses fs b =
+      then-yields (λ _. Unit {0}) _ (senses_item theory at fs).outcome _ (λ x e. tt) (λ item _. gives-yields (ReadUpTo to) _ (nothing _ refl refl refl refl))
+  read_as-up_to Proc fs b = gives-yields (ReadUpTo to) theory (nothing theory refl refl refl refl)
+  read_as-up_to Main fs b = gives-yields (ReadUpTo to) theory (nothing theory refl refl refl refl)
+
+  read_by-up_to : (keyword : Option ItemKeyword) (fs : List Form) → Between (at + 1) fs to → Yields (ReadUpTo to) (read_by theory at keyword fs)
+  read_by-up_to None fs b = refused-yields (ReadUpTo to) 20 at
+  read_by-up_to (Some keyword) fs b = read_as-up_to keyword fs b
 
 item_read-up_to : (from : ℕ) (theory : DraftTheory) → ReadUpTo from theory → (f : Form) → from ≤ place_of f → IsInOrder f → Yields (ReadUpTo (end_of f)) (item_read theory f)
 item_read-up_to from theory k f le order =
-    read_by-up_to from (place_of f) (end_of f) le (stands f order).size theory k (head_word f) (arguments f) (arguments-between f order)
+    read_by-up_to from (place_of f) (end_of f) le (stands f order).size theory k (item_keyword (head_word f)) (arguments f) (arguments-between f order)
 
 items_read-up_to : (from : ℕ) (theory : DraftTheory) → ReadUpTo from theory → (fs : List Form) (to : ℕ) → Between from fs to → Yields (ReadUpTo (to + 1)) (items_read theory fs)
 items_read-up_to from theory k [] to b = gives-yields (ReadUpTo (to + 1)) theory (nothing from from (to + 1) (omega arith) (omega (arith, b)) theory k theory refl refl refl refl)

@@ -22,7 +22,10 @@ use Rattle.golog_theory.specs.Parts.{word, parts, short_name, sort_of}
 use Rattle.golog_theory.specs.Heads.{fluent_called}
 use Rattle.golog_theory.specs.Recursion.{Part}
 use Rattle.golog_theory.specs.Terms.{term_of}
-use Rattle.golog_theory.specs.Conditions.{InScope, truth_of, fluent_cond, sides_of, equal_of, less_of, at_most_of, not_of, conds_of, and_of, or_of, binder_by, binder_of, bound_of, some_of, all_of, cond_list, cond_by, cond_of, cond_part}
+use Rattle.golog_theory.specs.Keywords.{cond_keyword}
+use Rattle.golog_theory.specs.declared.keyword.CondKeyword.{CondKeyword}
+use Rattle.golog_theory.specs.declared.keyword.CondKeyword.TheVariants as keyword
+use Rattle.golog_theory.specs.Conditions.{InScope, truth_of, fluent_cond, sides_of, equal_of, less_of, at_most_of, not_of, conds_of, and_of, or_of, binder_by, binder_of, bound_of, some_of, all_of, keyword_cond, cond_list, cond_by, cond_of, cond_part}
 use Rattle.golog_draft.specs.Drafts.{signature, fluent_keeps, term_keeps, binder_keeps, cond_keeps_step, cond_keeps, is_draft_sort}
 use Rattle.golog_theory.proofs.Inside.{Each, by_parts}
 use Rattle.golog_theory.proofs.Conds.{cond_of-parts}
@@ -160,43 +163,38 @@ module _ (theory : DraftTheory) where
       gives-yields (BoundKeeps scope) (record { binder = b; body = c }) (record { binder = rw (room scope few, is) refl; body = k }))))
   bound_of-yields scope at (binder ∷ body ∷ other ∷ fs) e = refused-yields (BoundKeeps scope) 20 at
 
-  cond_list-yields : (f : Form) (scope : ℕ) (keyword : List ℕ) (fs : List Form) → Each IsKept fs → Yields (Keeps scope) (cond_list theory f scope keyword (as_parts fs))
-  unfolding cond_list equal_of less_of at_most_of and_of or_of some_of all_of conds_of
-  cond_list-yields f scope keyword fs e =
-      let at = place_of f in let parts = as_parts fs in
-      let sides = sides_of-yields at fs in
-      let conds = conds_of-yields scope fs e [] refl in
-      let bound = bound_of-yields scope at fs e in
-      let choose = if-yields (Keeps scope) in
-      let r8 = if same keyword (codes "all") then all_of theory scope at parts else fluent_cond theory f in
-      let r7 = if same keyword (codes "some") then some_of theory scope at parts else r8 in
-      let r6 = if same keyword (codes "or") then or_of scope at parts else r7 in
-      let r5 = if same keyword (codes "and") then and_of scope at parts else r6 in
-      let r4 = if same keyword (codes "not") then not_of scope at parts else r5 in
-      let r3 = if same keyword (codes "<=") then at_most_of theory at parts else r4 in
-      let r2 = if same keyword (codes "<") then less_of theory at parts else r3 in
-      choose (same keyword (codes "=")) (equal_of theory at parts) r2
-      (λ _. then-yields _ _ (sides_of theory at parts).outcome _ sides (λ s k. gives-yields (Keeps scope) (cond.Equal s.one s.other at) (keeps-Equal s.one s.other at scope ∙ rw (k.one, k.other) refl)))
-      (λ _. choose (same keyword (codes "<")) (less_of theory at parts) r3
-      (λ _. then-yields _ _ (sides_of theory at parts).outcome _ sides (λ s k. gives-yields (Keeps scope) (cond.Less s.one s.other at) (keeps-Less s.one s.other at scope ∙ rw (k.one, k.other) refl)))
-      (λ _. choose (same keyword (codes "<=")) (at_most_of theory at parts) r4
-      (λ _. then-yields _ _ (sides_of theory at parts).outcome _ sides (λ s k. gives-yields (Keeps scope) (cond.AtMost s.one s.other at) (keeps-AtMost s.one s.other at scope ∙ rw (k.one, k.other) refl)))
-      (λ _. choose (same keyword (codes "not")) (not_of scope at parts) r5 (λ _. not_of-yields scope at fs e)
-      (λ _. choose (same keyword (codes "and")) (and_of scope at parts) r6
-      (λ _. then-yields _ _ (conds_of scope parts).outcome _ conds (λ cs k. gives-yields (Keeps scope) (cond.And cs at) (keeps-And cs at scope ∙ k)))
-      (λ _. choose (same keyword (codes "or")) (or_of scope at parts) r7
-      (λ _. then-yields _ _ (conds_of scope parts).outcome _ conds (λ cs k. gives-yields (Keeps scope) (cond.Or cs at) (keeps-Or cs at scope ∙ k)))
-      (λ _. choose (same keyword (codes "some")) (some_of theory scope at parts) r8
-      (λ _. then-yields _ _ (bound_of theory scope at parts).outcome _ bound
-      (λ b k. gives-yields (Keeps scope) (cond.ForSome b.binder.var b.binder.sort b.body at) (keeps-ForSome b.binder.var b.binder.sort b.body at scope ∙ rw (k.binder, k.body) refl)))
-      (λ _. choose (same keyword (codes "all")) (all_of theory scope at parts) (fluent_cond theory f)
-      (λ _. then-yields _ _ (bound_of theory scope at parts).outcome _ bound
-      (λ b k. gives-yields (Keeps scope) (cond.ForAll b.binder.var b.binder.sort b.body at) (keeps-ForAll b.binder.var b.binder.sort b.body at scope ∙ rw (k.binder, k.body) refl)))
-      (λ _. fluent_cond-yields f scope))))))))
+  keyword_cond-yields : (at scope : ℕ) (keyword : CondKeyword) (fs : List Form) → Each IsKept fs → Yields (Keeps scope) (keyword_cond theory at scope keyword (as_parts fs))
+  unfolding keyword_cond equal_of less_of at_most_of and_of or_of some_of all_of conds_of
+  keyword_cond-yields at scope keyword.Equal fs e =
+      then-yields _ _ (sides_of theory at (as_parts fs)).outcome _ (sides_of-yields at fs)
+      (λ s k. gives-yields (Keeps scope) (cond.Equal s.one s.other at) (keeps-Equal s.one s.other at scope ∙ rw (k.one, k.other) refl))
+  keyword_cond-yields at scope keyword.Less fs e =
+      then-yields _ _ (sides_of theory at (as_parts fs)).outcome _ (sides_of-yields at fs)
+      (λ s k. gives-yields (Keeps scope) (cond.Less s.one s.other at) (keeps-Less s.one s.other at scope ∙ rw (k.one, k.other) refl))
+  keyword_cond-yields at scope keyword.AtMost fs e =
+      then-yields _ _ (sides_of theory at (as_parts fs)).outcome _ (sides_of-yields at fs)
+      (λ s k. gives-yields (Keeps scope) (cond.AtMost s.one s.other at) (keeps-AtMost s.one s.other at scope ∙ rw (k.one, k.other) refl))
+  keyword_cond-yields at scope keyword.Not fs e = not_of-yields scope at fs e
+  keyword_cond-yields at scope keyword.And fs e =
+      then-yields _ _ (conds_of scope (as_parts fs)).outcome _ (conds_of-yields scope fs e [] refl)
+      (λ cs k. gives-yields (Keeps scope) (cond.And cs at) (keeps-And cs at scope ∙ k))
+  keyword_cond-yields at scope keyword.Or fs e =
+      then-yields _ _ (conds_of scope (as_parts fs)).outcome _ (conds_of-yields scope fs e [] refl)
+      (λ cs k. gives-yields (Keeps scope) (cond.Or cs at) (keeps-Or cs at scope ∙ k))
+  keyword_cond-yields at scope keyword.ForSome fs e =
+      then-yields _ _ (bound_of theory scope at (as_parts fs)).outcome _ (bound_of-yields scope at fs e)
+      (λ b k. gives-yields (Keeps scope) (cond.ForSome b.binder.var b.binder.sort b.body at) (keeps-ForSome b.binder.var b.binder.sort b.body at scope ∙ rw (k.binder, k.body) refl))
+  keyword_cond-yields at scope keyword.ForAll fs e =
+      then-yields _ _ (bound_of theory scope at (as_parts fs)).outcome _ (bound_of-yields scope at fs e)
+      (λ b k. gives-yields (Keeps scope) (cond.ForAll b.binder.var b.binder.sort b.body at) (keeps-ForAll b.binder.var b.binder.sort b.body at scope ∙ rw (k.binder, k.body) refl))
+
+  cond_list-yields : (f : Form) (scope : ℕ) (keyword : Option CondKeyword) (fs : List Form) → Each IsKept fs → Yields (Keeps scope) (cond_list theory f scope keyword (as_parts fs))
+  cond_list-yields f scope None fs e = fluent_cond-yields f scope
+  cond_list-yields f scope (Some keyword) fs e = keyword_cond-yields (place_of f) scope keyword fs e
 
   cond_by-yields : (f : Form) (fs : List Form) (scope : ℕ) → Each IsKept fs → Yields (Keeps scope) (cond_by theory f (as_parts fs) scope)
   cond_by-yields f [] scope e = truth_of-yields f scope
-  cond_by-yields f (head ∷ fs) scope e = cond_list-yields f scope (word head) fs e.1
+  cond_by-yields f (head ∷ fs) scope e = cond_list-yields f scope (cond_keyword (word head)) fs e.1
 
   pub cond_of-yields : (f : Form) (scope : ℕ) → Yields (Keeps scope) (cond_of theory f scope)
   cond_of-yields = by_parts IsKept (λ f e scope.

@@ -1,5 +1,5 @@
 -- The names that a theory declares are words, no keywords, and stand once.
-use Rattle.std.proofs.Common.{◌≡◌, ℕ, true, false, not, ◌||◌, List, [], ◌∷◌, ◌++◌, map, Ok, refl, sym, ap, subst, ◌∙◌, arith}
+use Rattle.std.proofs.Common.{◌≡◌, ℕ, true, false, not, ◌||◌, List, [], ◌∷◌, ◌++◌, Option, Some, None, map, Ok, refl, sym, ap, subst, ◌∙◌, arith}
 use Rattle.std.proofs.lemmas.List.{append_assoc, append-nil, map-append, flat_map_more}
 use Rattle.std.proofs.lemmas.List.Elements.{All-from_recursion}
 use Rattle.std.proofs.lemmas.Cmp.{nat_list_eq_equiv}
@@ -21,7 +21,10 @@ use Rattle.golog_theory.specs.Sorts.{sort_item}
 use Rattle.golog_theory.specs.Fluents.{fluent_item, start_item}
 use Rattle.golog_theory.specs.Actions.{device_item, action_item, exo_item}
 use Rattle.golog_theory.specs.Effects.{poss_item, causes_item, senses_item}
-use Rattle.golog_theory.specs.Items.{built_in, with_fluent, sort_read, device_read, fluent_read, start_read, action_read, exo_read, poss_read, causes_read, senses_read, other_read, read_by, item_read, items_read, theory_of}
+use Rattle.golog_theory.specs.Keywords.{item_keyword}
+use Rattle.golog_theory.specs.declared.keyword.ItemKeyword.{ItemKeyword}
+use Rattle.golog_theory.specs.declared.keyword.ItemKeyword.TheVariants.{Sort, Device, Fluent, Start, Action, Exo, Poss, Causes, Senses, Proc, Main}
+use Rattle.golog_theory.specs.Items.{built_in, with_fluent, sort_read, device_read, fluent_read, start_read, action_read, exo_read, poss_read, causes_read, senses_read, read_as, read_by, item_read, items_read, theory_of}
 use Rattle.golog_semantics.specs.BuiltIn.{is_keyword, same_text}
 use Rattle.golog_draft.specs.Drafts.{AreNames, draft_sort_names, theory_names}
 use Rattle.golog_theory.proofs.Yields.{Yields, gives-yields, refused-yields, row-yields, if-yields, then-yields}
@@ -117,33 +120,35 @@ module _ (theory : DraftTheory) (named : Named (theory_names theory)) where
   abbrev StillNamed : DraftTheory → Type 0
   StillNamed next = Named (theory_names next)
 
-  read_by-named : (at : ℕ) (keyword : List ℕ) (fs : List Form) → Yields StillNamed (read_by theory at keyword fs)
-  unfolding read_by sort_read device_read fluent_read start_read action_read exo_read poss_read causes_read senses_read other_read
-  read_by-named at keyword fs =
-      let choose = if-yields StillNamed in
-      choose (same keyword (codes "sort")) (sort_read theory at fs) _
-      (λ _. then-yields _ _ (sort_item theory at fs).outcome _ (sort_item-new theory at fs) (λ item are. gives-yields StillNamed _ (with-sort item are)))
-      (λ _. choose (same keyword (codes "device")) (device_read theory at fs) _
-      (λ _. then-yields _ _ (device_item theory at fs).outcome _ (device_item-yields theory at fs) (λ item fits. gives-yields StillNamed _ (with-device item fits)))
-      (λ _. choose (same keyword (codes "fluent")) (fluent_read theory at fs) _
-      (λ _. then-yields _ _ (fluent_item theory at fs).outcome _ (fluent_item-yields theory at fs) (λ item fits. gives-yields StillNamed _ (with-new_fluent at item fits)))
-      (λ _. choose (same keyword (codes "start")) (start_read theory at fs) _
-      (λ _. then-yields (λ _. Unit {0}) _ (start_item theory at fs).outcome _ (λ x e. tt) (λ item _. gives-yields StillNamed _ named))
-      (λ _. choose (same keyword (codes "action")) (action_read theory at fs) _
-      (λ _. then-yields _ _ (action_item theory at fs).outcome _ (action_item-yields theory at fs) (λ item fits. gives-yields StillNamed _ (with-action item fits)))
-      (λ _. choose (same keyword (codes "exo")) (exo_read theory at fs) _
-      (λ _. then-yields _ _ (exo_item theory at fs).outcome _ (exo_item-yields theory at fs) (λ item fits. gives-yields StillNamed _ (with-action item fits)))
-      (λ _. choose (same keyword (codes "poss")) (poss_read theory at fs) _
-      (λ _. then-yields (λ _. Unit {0}) _ (poss_item theory at fs).outcome _ (λ x e. tt) (λ item _. gives-yields StillNamed _ named))
-      (λ _. choose (same keyword (codes "causes")) (causes_read theory at fs) _
-      (λ _. then-yields (λ _. Unit {0}) _ (causes_item theory at fs).outcome _ (λ x e. tt) (λ item _. gives-yields StillNamed _ named))
-      (λ _. choose (same keyword (codes "senses")) (senses_read theory at fs) _
-      (λ _. then-yields (λ _. Unit {0}) _ (senses_item theory at fs).outcome _ (λ x e. tt) (λ item _. gives-yields StillNamed _ named))
-      (λ _. choose (same keyword (codes "proc") || same keyword (codes "main")) (gives theory) (refused 20 at)
-      (λ _. gives-yields StillNamed theory named) (λ _. refused-yields StillNamed 20 at))))))))))
+  read_as-named : (at : ℕ) (keyword : ItemKeyword) (fs : List Form) → Yields StillNamed (read_as theory at keyword fs)
+  unfolding read_as sort_read device_read fluent_read start_read action_read exo_read poss_read causes_read senses_read
+  read_as-named at Sort fs =
+      then-yields _ _ (sort_item theory at fs).outcome _ (sort_item-new theory at fs) (λ item are. gives-yields StillNamed _ (with-sort item are))
+  read_as-named at Device fs =
+      then-yields _ _ (device_item theory at fs).outcome _ (device_item-yields theory at fs) (λ item fits. gives-yields StillNamed _ (with-device item fits))
+  read_as-named at Fluent fs =
+      then-yields _ _ (fluent_item theory at fs).outcome _ (fluent_item-yields theory at fs) (λ item fits. gives-yields StillNamed _ (with-new_fluent at item fits))
+  read_as-named at Start fs =
+      then-yields (λ _. Unit {0}) _ (start_item theory at fs).outcome _ (λ x e. tt) (λ item _. gives-yields StillNamed _ named)
+  read_as-named at Action fs =
+      then-yields _ _ (action_item theory at fs).outcome _ (action_item-yields theory at fs) (λ item fits. gives-yields StillNamed _ (with-action item fits))
+  read_as-named at Exo fs =
+      then-yields _ _ (exo_item theory at fs).outcome _ (exo_item-yields theory at fs) (λ item fits. gives-yields StillNamed _ (with-action item fits))
+  read_as-named at Poss fs =
+      then-yields (λ _. Unit {0}) _ (poss_item theory at fs).outcome _ (λ x e. tt) (λ item _. gives-yields StillNamed _ named)
+  read_as-named at Causes fs =
+      then-yields (λ _. Unit {0}) _ (causes_item theory at fs).outcome _ (λ x e. tt) (λ item _. gives-yields StillNamed _ named)
+  read_as-named at Senses fs =
+      then-yields (λ _. Unit {0}) _ (senses_item theory at fs).outcome _ (λ x e. tt) (λ item _. gives-yields StillNamed _ named)
+  read_as-named at Proc fs = gives-yields StillNamed theory named
+  read_as-named at Main fs = gives-yields StillNamed theory named
+
+  read_by-named : (at : ℕ) (keyword : Option ItemKeyword) (fs : List Form) → Yields StillNamed (read_by theory at keyword fs)
+  read_by-named at None fs = refused-yields StillNamed 20 at
+  read_by-named at (Some keyword) fs = read_as-named at keyword fs
 
   item_read-named : (f : Form) → Yields StillNamed (item_read theory f)
-  item_read-named f = read_by-named (place_of f) (head_word f) (arguments f)
+  item_read-named f = read_by-named (place_of f) (item_keyword (head_word f)) (arguments f)
 
 abbrev IsNamed : DraftTheory → Type 0
 IsNamed theory = Named (theory_names theory)

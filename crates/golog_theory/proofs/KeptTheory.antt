@@ -28,7 +28,10 @@ use Rattle.golog_theory.specs.Fluents.{fluent_item, start_item}
 use Rattle.golog_theory.specs.Actions.{device_item, action_item, exo_item}
 use Rattle.golog_theory.specs.Conditions.{cond_of}
 use Rattle.golog_theory.specs.Effects.{poss_item, variable_count, effect_of, cause_of, causes_item, senses_item}
-use Rattle.golog_theory.specs.Items.{built_in, with_fluent, sort_read, device_read, fluent_read, start_read, action_read, exo_read, poss_read, causes_read, senses_read, other_read, read_by, item_read, items_read, theory_of}
+use Rattle.golog_theory.specs.Keywords.{item_keyword}
+use Rattle.golog_theory.specs.declared.keyword.ItemKeyword.{ItemKeyword}
+use Rattle.golog_theory.specs.declared.keyword.ItemKeyword.TheVariants.{Sort, Device, Fluent, Start, Action, Exo, Poss, Causes, Senses, Proc, Main}
+use Rattle.golog_theory.specs.Items.{built_in, with_fluent, sort_read, device_read, fluent_read, start_read, action_read, exo_read, poss_read, causes_read, senses_read, read_as, read_by, item_read, items_read, theory_of}
 use Rattle.golog_draft.specs.Drafts.{BeginsBuiltIn, IsFew, is_draft_sort, is_draft_device, draft_args_keep, draft_sort_keeps, draft_fluent_keeps, draft_action_keeps}
 use Rattle.golog_semantics.specs.Ways.{is_empty}
 use Rattle.golog_theory.proofs.Yields.{Yields, On, gives-yields, refused-yields, row-yields, found-yields, if-yields, then-yields, each-yields}
@@ -275,33 +278,35 @@ module _ (theory : DraftTheory) (d : Declares theory) where
       row-yields _ (nat_le 1026 (length theory.causes)) (25, at) _ (λ few x e. is_less (length theory.causes) few)
   causes_item-yields at (action ∷ fluent ∷ term ∷ cond ∷ other ∷ fs) = refused-yields _ 20 at
 
-  read_by-yields : (at : ℕ) (keyword : List ℕ) (fs : List Form) → Yields Declares (read_by theory at keyword fs)
-  unfolding read_by sort_read device_read fluent_read start_read action_read exo_read poss_read causes_read senses_read other_read
-  read_by-yields at keyword fs =
-      let choose = if-yields Declares in
-      choose (same keyword (codes "sort")) (sort_read theory at fs) _
-      (λ _. then-yields _ _ (sort_item theory at fs).outcome _ (sort_item-yields theory at fs) (λ item fits. gives-yields Declares _ (grown-sort item fits)))
-      (λ _. choose (same keyword (codes "device")) (device_read theory at fs) _
-      (λ _. then-yields _ _ (device_item theory at fs).outcome _ (device_item-yields theory at fs) (λ item fits. gives-yields Declares _ (grown-device item fits)))
-      (λ _. choose (same keyword (codes "fluent")) (fluent_read theory at fs) _
-      (λ _. then-yields _ _ (fluent_item theory at fs).outcome _ (fluent_item-yields theory at fs) (λ item fits. gives-yields Declares _ (grown-fluent at item fits)))
-      (λ _. choose (same keyword (codes "start")) (start_read theory at fs) _
-      (λ _. then-yields (λ _. Unit {0}) _ (start_item theory at fs).outcome _ (λ x e. tt) (λ item _. gives-yields Declares _ (grown-start item)))
-      (λ _. choose (same keyword (codes "action")) (action_read theory at fs) _
-      (λ _. then-yields _ _ (action_item theory at fs).outcome _ (action_item-yields theory at fs) (λ item fits. gives-yields Declares _ (grown-action item fits)))
-      (λ _. choose (same keyword (codes "exo")) (exo_read theory at fs) _
-      (λ _. then-yields _ _ (exo_item theory at fs).outcome _ (exo_item-yields theory at fs) (λ item fits. gives-yields Declares _ (grown-action item fits)))
-      (λ _. choose (same keyword (codes "poss")) (poss_read theory at fs) _
-      (λ _. then-yields (λ _. Unit {0}) _ (poss_item theory at fs).outcome _ (λ x e. tt) (λ item _. gives-yields Declares _ (grown-poss item)))
-      (λ _. choose (same keyword (codes "causes")) (causes_read theory at fs) _
-      (λ _. then-yields _ _ (causes_item theory at fs).outcome _ (causes_item-yields at fs) (λ item few. gives-yields Declares _ (grown-cause item few)))
-      (λ _. choose (same keyword (codes "senses")) (senses_read theory at fs) _
-      (λ _. then-yields (λ _. Unit {0}) _ (senses_item theory at fs).outcome _ (λ x e. tt) (λ item _. gives-yields Declares _ (grown-sense item)))
-      (λ _. choose (same keyword (codes "proc") || same keyword (codes "main")) (gives theory) (refused 20 at)
-      (λ _. gives-yields Declares theory d) (λ _. refused-yields Declares 20 at))))))))))
+  read_as-yields : (at : ℕ) (keyword : ItemKeyword) (fs : List Form) → Yields Declares (read_as theory at keyword fs)
+  unfolding read_as sort_read device_read fluent_read start_read action_read exo_read poss_read causes_read senses_read
+  read_as-yields at Sort fs =
+      then-yields _ _ (sort_item theory at fs).outcome _ (sort_item-yields theory at fs) (λ item fits. gives-yields Declares _ (grown-sort item fits))
+  read_as-yields at Device fs =
+      then-yields _ _ (device_item theory at fs).outcome _ (device_item-yields theory at fs) (λ item fits. gives-yields Declares _ (grown-device item fits))
+  read_as-yields at Fluent fs =
+      then-yields _ _ (fluent_item theory at fs).outcome _ (fluent_item-yields theory at fs) (λ item fits. gives-yields Declares _ (grown-fluent at item fits))
+  read_as-yields at Start fs =
+      then-yields (λ _. Unit {0}) _ (start_item theory at fs).outcome _ (λ x e. tt) (λ item _. gives-yields Declares _ (grown-start item))
+  read_as-yields at Action fs =
+      then-yields _ _ (action_item theory at fs).outcome _ (action_item-yields theory at fs) (λ item fits. gives-yields Declares _ (grown-action item fits))
+  read_as-yields at Exo fs =
+      then-yields _ _ (exo_item theory at fs).outcome _ (exo_item-yields theory at fs) (λ item fits. gives-yields Declares _ (grown-action item fits))
+  read_as-yields at Poss fs =
+      then-yields (λ _. Unit {0}) _ (poss_item theory at fs).outcome _ (λ x e. tt) (λ item _. gives-yields Declares _ (grown-poss item))
+  read_as-yields at Causes fs =
+      then-yields _ _ (causes_item theory at fs).outcome _ (causes_item-yields at fs) (λ item few. gives-yields Declares _ (grown-cause item few))
+  read_as-yields at Senses fs =
+      then-yields (λ _. Unit {0}) _ (senses_item theory at fs).outcome _ (λ x e. tt) (λ item _. gives-yields Declares _ (grown-sense item))
+  read_as-yields at Proc fs = gives-yields Declares theory d
+  read_as-yields at Main fs = gives-yields Declares theory d
+
+  read_by-yields : (at : ℕ) (keyword : Option ItemKeyword) (fs : List Form) → Yields Declares (read_by theory at keyword fs)
+  read_by-yields at None fs = refused-yields Declares 20 at
+  read_by-yields at (Some keyword) fs = read_as-yields at keyword fs
 
   item_read-yields : (f : Form) → Yields Declares (item_read theory f)
-  item_read-yields f = read_by-yields (place_of f) (head_word f) (arguments f)
+  item_read-yields f = read_by-yields (place_of f) (item_keyword (head_word f)) (arguments f)
 
 items_read-yields : (theory : DraftTheory) → Declares theory → (fs : List Form) → Yields Declares (items_read theory fs)
 items_read-yields theory d [] = gives-yields Declares theory d

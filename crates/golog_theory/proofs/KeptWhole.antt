@@ -26,7 +26,10 @@ use Rattle.golog_theory.specs.Sorts.{sort_item}
 use Rattle.golog_theory.specs.Fluents.{fluent_item, start_item}
 use Rattle.golog_theory.specs.Actions.{device_item, action_item, exo_item}
 use Rattle.golog_theory.specs.Effects.{poss_item, causes_item, senses_item}
-use Rattle.golog_theory.specs.Items.{built_in, with_fluent, sort_read, device_read, fluent_read, start_read, action_read, exo_read, poss_read, causes_read, senses_read, other_read, read_by, item_read, items_read, theory_of}
+use Rattle.golog_theory.specs.Keywords.{item_keyword}
+use Rattle.golog_theory.specs.declared.keyword.ItemKeyword.{ItemKeyword}
+use Rattle.golog_theory.specs.declared.keyword.ItemKeyword.TheVariants.{Sort, Device, Fluent, Start, Action, Exo, Poss, Causes, Senses, Proc, Main}
+use Rattle.golog_theory.specs.Items.{built_in, with_fluent, sort_read, device_read, fluent_read, start_read, action_read, exo_read, poss_read, causes_read, senses_read, read_as, read_by, item_read, items_read, theory_of}
 use Rattle.golog_draft.specs.Drafts.{signature, fluent_keeps, cond_keeps, draft_action_at, draft_poss_keeps, draft_sense_keeps, draft_start_keeps, same_start}
 use Rattle.golog_semantics.specs.Ways.{is_empty}
 use Rattle.golog_semantics.specs.BuiltIn.{same_text}
@@ -236,33 +239,35 @@ module _ (theory : DraftTheory) (k : Kept theory) where
         starts_once = k.starts_once;
       }
 
-  read_by-yields : (at : ℕ) (keyword : List ℕ) (fs : List Form) → Yields Kept (read_by theory at keyword fs)
-  unfolding read_by sort_read device_read fluent_read start_read action_read exo_read poss_read causes_read senses_read other_read
-  read_by-yields at keyword fs =
-      let choose = if-yields Kept in
-      choose (same keyword (codes "sort")) (sort_read theory at fs) _
-      (λ _. then-yields _ _ (sort_item theory at fs).outcome _ (sort_item-yields theory at fs) (λ item fits. gives-yields Kept _ (with-sort item fits)))
-      (λ _. choose (same keyword (codes "device")) (device_read theory at fs) _
-      (λ _. then-yields _ _ (device_item theory at fs).outcome _ (device_item-yields theory at fs) (λ item fits. gives-yields Kept _ (with-device item fits)))
-      (λ _. choose (same keyword (codes "fluent")) (fluent_read theory at fs) _
-      (λ _. then-yields _ _ (fluent_item theory at fs).outcome _ (fluent_item-yields theory at fs) (λ item fits. gives-yields Kept _ (with-fluent at item fits)))
-      (λ _. choose (same keyword (codes "start")) (start_read theory at fs) _
-      (λ _. then-yields _ _ (start_item theory at fs).outcome _ (start_item-yields theory at fs) (λ item fits. gives-yields Kept _ (with-start item fits)))
-      (λ _. choose (same keyword (codes "action")) (action_read theory at fs) _
-      (λ _. then-yields _ _ (action_item theory at fs).outcome _ (action_item-yields theory at fs) (λ item fits. gives-yields Kept _ (with-action item fits)))
-      (λ _. choose (same keyword (codes "exo")) (exo_read theory at fs) _
-      (λ _. then-yields _ _ (exo_item theory at fs).outcome _ (exo_item-yields theory at fs) (λ item fits. gives-yields Kept _ (with-action item fits)))
-      (λ _. choose (same keyword (codes "poss")) (poss_read theory at fs) _
-      (λ _. then-yields _ _ (poss_item theory at fs).outcome _ (poss_item-yields theory at fs) (λ item fits. gives-yields Kept _ (with-poss item fits)))
-      (λ _. choose (same keyword (codes "causes")) (causes_read theory at fs) _
-      (λ _. then-yields _ _ (causes_item theory at fs).outcome _ (causes_item-yields theory k.declares at fs) (λ item few. gives-yields Kept _ (with-cause item few)))
-      (λ _. choose (same keyword (codes "senses")) (senses_read theory at fs) _
-      (λ _. then-yields _ _ (senses_item theory at fs).outcome _ (senses_item-yields theory at fs) (λ item fits. gives-yields Kept _ (with-sense item fits)))
-      (λ _. choose (same keyword (codes "proc") || same keyword (codes "main")) (gives theory) (refused 20 at)
-      (λ _. gives-yields Kept theory k) (λ _. refused-yields Kept 20 at))))))))))
+  read_as-yields : (at : ℕ) (keyword : ItemKeyword) (fs : List Form) → Yields Kept (read_as theory at keyword fs)
+  unfolding read_as sort_read device_read fluent_read start_read action_read exo_read poss_read causes_read senses_read
+  read_as-yields at Sort fs =
+      then-yields _ _ (sort_item theory at fs).outcome _ (sort_item-yields theory at fs) (λ item fits. gives-yields Kept _ (with-sort item fits))
+  read_as-yields at Device fs =
+      then-yields _ _ (device_item theory at fs).outcome _ (device_item-yields theory at fs) (λ item fits. gives-yields Kept _ (with-device item fits))
+  read_as-yields at Fluent fs =
+      then-yields _ _ (fluent_item theory at fs).outcome _ (fluent_item-yields theory at fs) (λ item fits. gives-yields Kept _ (with-fluent at item fits))
+  read_as-yields at Start fs =
+      then-yields _ _ (start_item theory at fs).outcome _ (start_item-yields theory at fs) (λ item fits. gives-yields Kept _ (with-start item fits))
+  read_as-yields at Action fs =
+      then-yields _ _ (action_item theory at fs).outcome _ (action_item-yields theory at fs) (λ item fits. gives-yields Kept _ (with-action item fits))
+  read_as-yields at Exo fs =
+      then-yields _ _ (exo_item theory at fs).outcome _ (exo_item-yields theory at fs) (λ item fits. gives-yields Kept _ (with-action item fits))
+  read_as-yields at Poss fs =
+      then-yields _ _ (poss_item theory at fs).outcome _ (poss_item-yields theory at fs) (λ item fits. gives-yields Kept _ (with-poss item fits))
+  read_as-yields at Causes fs =
+      then-yields _ _ (causes_item theory at fs).outcome _ (causes_item-yields theory k.declares at fs) (λ item few. gives-yields Kept _ (with-cause item few))
+  read_as-yields at Senses fs =
+      then-yields _ _ (senses_item theory at fs).outcome _ (senses_item-yields theory at fs) (λ item fits. gives-yields Kept _ (with-sense item fits))
+  read_as-yields at Proc fs = gives-yields Kept theory k
+  read_as-yields at Main fs = gives-yields Kept theory k
+
+  read_by-yields : (at : ℕ) (keyword : Option ItemKeyword) (fs : List Form) → Yields Kept (read_by theory at keyword fs)
+  read_by-yields at None fs = refused-yields Kept 20 at
+  read_by-yields at (Some keyword) fs = read_as-yields at keyword fs
 
   item_read-yields : (f : Form) → Yields Kept (item_read theory f)
-  item_read-yields f = read_by-yields (place_of f) (head_word f) (arguments f)
+  item_read-yields f = read_by-yields (place_of f) (item_keyword (head_word f)) (arguments f)
 
 items_read-yields : (theory : DraftTheory) → Kept theory → (fs : List Form) → Yields Kept (items_read theory fs)
 items_read-yields theory k [] = gives-yields Kept theory k

@@ -19,7 +19,10 @@ use Rattle.golog_theory.specs.Parts.{word, parts, short_name, sort_of, arg_of}
 use Rattle.golog_theory.specs.Heads.{fluent_called}
 use Rattle.golog_theory.specs.Recursion.{Part}
 use Rattle.golog_theory.specs.Terms.{step_of, plus_of, minus_of, fluent_term, atom_term, term_list, term_by, term_of, term_part}
-use Rattle.golog_theory.specs.Conditions.{InScope, truth_of, fluent_cond, sides_of, equal_of, less_of, at_most_of, not_of, conds_of, and_of, or_of, binder_by, binder_of, bound_of, some_of, all_of, cond_list, cond_by, cond_of, cond_part}
+use Rattle.golog_theory.specs.Keywords.{cond_keyword}
+use Rattle.golog_theory.specs.declared.keyword.CondKeyword.{CondKeyword}
+use Rattle.golog_theory.specs.declared.keyword.CondKeyword.TheVariants as keyword
+use Rattle.golog_theory.specs.Conditions.{InScope, truth_of, fluent_cond, sides_of, equal_of, less_of, at_most_of, not_of, conds_of, and_of, or_of, binder_by, binder_of, bound_of, some_of, all_of, keyword_cond, cond_list, cond_by, cond_of, cond_part}
 use Rattle.golog_rows.proofs.Chain.{key, Chain, chain-low, chain-high, Spans, then-chain, then-spans, gives-spans, found-chain, Parts, ReadsFrom, each-spans, if-chain, wider}
 use Rattle.golog_theory.proofs.Inside.{Each, by_parts, end_of, Between, Stands, stands, between-from, between-to}
 use Rattle.golog_theory.proofs.Tables.{Covers, between-le, short_name-behind, sort_of-covers, arg_of-covers, fluent_called-covers}
@@ -217,39 +220,37 @@ module _ (theory : DraftTheory) where
   bound_of-spans scope at (binder ∷ body ∷ other ∷ fs) from to lt b e =
       refused-covers Bound at to 20 (omega (arith, between-le from (binder ∷ body ∷ other ∷ fs) to b)) (omega arith) (omega arith)
 
-  cond_list-covers : (f : Form) (scope : ℕ) (keyword : List ℕ) (fs : List Form) (from : ℕ) → IsInOrder f → place_of f < from → Between from fs (end_of f) → Each CondCovers fs
+  keyword_cond-spans : (at scope : ℕ) (keyword : CondKeyword) (fs : List Form) (from to : ℕ) → at < from → Between from fs to → Each CondCovers fs
+      → Spans at to (keyword_cond theory at scope keyword (as_parts fs))
+  unfolding keyword_cond equal_of less_of at_most_of and_of or_of some_of all_of
+  keyword_cond-spans at scope keyword.Equal fs from to lt b e =
+      gives-spans at to (sides_of theory at (as_parts fs)) (λ sides. cond.Equal sides.one sides.other at) (sides_of-spans at fs from to lt b)
+  keyword_cond-spans at scope keyword.Less fs from to lt b e =
+      gives-spans at to (sides_of theory at (as_parts fs)) (λ sides. cond.Less sides.one sides.other at) (sides_of-spans at fs from to lt b)
+  keyword_cond-spans at scope keyword.AtMost fs from to lt b e =
+      gives-spans at to (sides_of theory at (as_parts fs)) (λ sides. cond.AtMost sides.one sides.other at) (sides_of-spans at fs from to lt b)
+  keyword_cond-spans at scope keyword.Not fs from to lt b e = not_of-spans scope at fs from to lt b e
+  keyword_cond-spans at scope keyword.And fs from to lt b e =
+      gives-spans at to (conds_of scope (as_parts fs)) (λ conds. cond.And conds at) (conds_of-spans scope at fs from to lt b e)
+  keyword_cond-spans at scope keyword.Or fs from to lt b e =
+      gives-spans at to (conds_of scope (as_parts fs)) (λ conds. cond.Or conds at) (conds_of-spans scope at fs from to lt b e)
+  keyword_cond-spans at scope keyword.ForSome fs from to lt b e =
+      gives-spans at to (bound_of theory scope at (as_parts fs)) (λ bound. cond.ForSome bound.binder.var bound.binder.sort bound.body at)
+      (bound_of-spans scope at fs from to lt b e)
+  keyword_cond-spans at scope keyword.ForAll fs from to lt b e =
+      gives-spans at to (bound_of theory scope at (as_parts fs)) (λ bound. cond.ForAll bound.binder.var bound.binder.sort bound.body at)
+      (bound_of-spans scope at fs from to lt b e)
+
+  cond_list-covers : (f : Form) (scope : ℕ) (keyword : Option CondKeyword) (fs : List Form) (from : ℕ) → IsInOrder f → place_of f < from → Between from fs (end_of f) → Each CondCovers fs
       → Covers f (cond_list theory f scope keyword (as_parts fs))
-  unfolding cond_list equal_of less_of at_most_of and_of or_of some_of all_of
-  cond_list-covers f scope keyword fs from order lt b e =
-      let at = place_of f in let to = end_of f in let parts = as_parts fs in
-      let sides = sides_of-spans at fs from to lt b in
-      let conds = conds_of-spans scope at fs from to lt b e in
-      let bound = bound_of-spans scope at fs from to lt b e in
-      let choose = if-chain (64 * at) (64 * to) in
-      let r8 = if same keyword (codes "all") then all_of theory scope at parts else fluent_cond theory f in
-      let r7 = if same keyword (codes "some") then some_of theory scope at parts else r8 in
-      let r6 = if same keyword (codes "or") then or_of scope at parts else r7 in
-      let r5 = if same keyword (codes "and") then and_of scope at parts else r6 in
-      let r4 = if same keyword (codes "not") then not_of scope at parts else r5 in
-      let r3 = if same keyword (codes "<=") then at_most_of theory at parts else r4 in
-      let r2 = if same keyword (codes "<") then less_of theory at parts else r3 in
-      choose (same keyword (codes "=")) (equal_of theory at parts) r2 (gives-spans at to (sides_of theory at parts) (λ sides. cond.Equal sides.one sides.other at) sides)
-      (choose (same keyword (codes "<")) (less_of theory at parts) r3 (gives-spans at to (sides_of theory at parts) (λ sides. cond.Less sides.one sides.other at) sides)
-      (choose (same keyword (codes "<=")) (at_most_of theory at parts) r4 (gives-spans at to (sides_of theory at parts) (λ sides. cond.AtMost sides.one sides.other at) sides)
-      (choose (same keyword (codes "not")) (not_of scope at parts) r5 (not_of-spans scope at fs from to lt b e)
-      (choose (same keyword (codes "and")) (and_of scope at parts) r6 (gives-spans at to (conds_of scope parts) (λ conds. cond.And conds at) conds)
-      (choose (same keyword (codes "or")) (or_of scope at parts) r7 (gives-spans at to (conds_of scope parts) (λ conds. cond.Or conds at) conds)
-      (choose (same keyword (codes "some")) (some_of theory scope at parts) r8
-      (gives-spans at to (bound_of theory scope at parts) (λ bound. cond.ForSome bound.binder.var bound.binder.sort bound.body at) bound)
-      (choose (same keyword (codes "all")) (all_of theory scope at parts) (fluent_cond theory f)
-      (gives-spans at to (bound_of theory scope at parts) (λ bound. cond.ForAll bound.binder.var bound.binder.sort bound.body at) bound)
-      (fluent_cond-covers f order))))))))
+  cond_list-covers f scope None fs from order lt b e = fluent_cond-covers f order
+  cond_list-covers f scope (Some keyword) fs from order lt b e = keyword_cond-spans (place_of f) scope keyword fs from (end_of f) lt b e
 
   cond_by-covers : (f : Form) (fs : List Form) (scope : ℕ) → IsInOrder f → Between (place_of f + 1) fs (end_of f) → Each CondCovers fs
       → Covers f (cond_by theory f (as_parts fs) scope)
   cond_by-covers f [] scope order b e = truth_of-covers f order
   cond_by-covers f (head ∷ fs) scope order b e =
-      cond_list-covers f scope (word head) fs (end_of head) order (omega (arith, b.0, (stands head b.1).size)) b.2 e.1
+      cond_list-covers f scope (cond_keyword (word head)) fs (end_of head) order (omega (arith, b.0, (stands head b.1).size)) b.2 e.1
 
   pub cond_of-covers : (f : Form) → IsInOrder f → (scope : ℕ) → Covers f (cond_of theory f scope)
   cond_of-covers = by_parts CondCovers (λ f e order scope.

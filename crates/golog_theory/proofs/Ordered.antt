@@ -35,7 +35,10 @@ use Rattle.golog_theory.specs.Actions.{device_item, device_of, action_of, action
 use Rattle.golog_theory.specs.Terms.{term_of}
 use Rattle.golog_theory.specs.Conditions.{cond_of}
 use Rattle.golog_theory.specs.Effects.{poss_item, variable_count, effect_of, cause_of, causes_item, senses_item}
-use Rattle.golog_theory.specs.Items.{built_in, with_fluent, sort_read, device_read, fluent_read, start_read, action_read, exo_read, poss_read, causes_read, senses_read, other_read, read_by, item_read, items_read, theory_of}
+use Rattle.golog_theory.specs.Keywords.{item_keyword}
+use Rattle.golog_theory.specs.declared.keyword.ItemKeyword.{ItemKeyword}
+use Rattle.golog_theory.specs.declared.keyword.ItemKeyword.TheVariants.{Sort, Device, Fluent, Start, Action, Exo, Poss, Causes, Senses, Proc, Main}
+use Rattle.golog_theory.specs.Items.{built_in, with_fluent, sort_read, device_read, fluent_read, start_read, action_read, exo_read, poss_read, causes_read, senses_read, read_as, read_by, item_read, items_read, theory_of}
 use Rattle.golog_theory.specs.Order.{StandIn, TablesAreOrdered, IsLeastRow}
 use Rattle.golog_rows.proofs.Chain.{key, Chain, chain-low, chain-high, Spans, then-chain, then-spans, gives-spans, found-chain, Parts, ReadsFrom, each-spans, if-chain, chain-ordered, chain-within, least_row}
 use Rattle.golog_theory.proofs.Theory.{first_row}
@@ -329,29 +332,36 @@ module _ (theory : DraftTheory) where
       (λ fluent. record { action = schema'.action; vars = schema'.vars; fluent = fluent.item; args = fluent.args; at = at }) b.2 (fluent_called-covers theory fluent b.2.1))
   senses_item-spans at (schema ∷ fluent ∷ other ∷ fs) to lt b = none DraftSense at to lt
 
-  other_read-spans : (at : ℕ) (keyword : List ℕ) (to : ℕ) → at < to → Spans at to (other_read theory at keyword)
-  unfolding other_read
-  other_read-spans at keyword to lt =
-      if-chain (64 * at) (64 * to) _ (gives theory) (refused 20 at) (omega arith) (none DraftTheory at to lt)
+  read_as-spans : (at : ℕ) (keyword : ItemKeyword) (fs : List Form) (to : ℕ) → at < to → Between (at + 1) fs to → Spans at to (read_as theory at keyword fs)
+  unfolding read_as sort_read device_read fluent_read start_read action_read exo_read poss_read causes_read senses_read
+  read_as-spans at Sort fs to lt b =
+      gives-spans at to (sort_item theory at fs) (λ item. record theory { sorts = theory.sorts ++ item ∷ [] }) (sort_item-spans at fs to lt b)
+  read_as-spans at Device fs to lt b =
+      gives-spans at to (device_item theory at fs) (λ item. record theory { devices = theory.devices ++ item ∷ [] }) (device_item-spans at fs to lt b)
+  read_as-spans at Fluent fs to lt b =
+      gives-spans at to (fluent_item theory at fs) (λ item. with_fluent theory item at) (fluent_item-spans at fs to lt b)
+  read_as-spans at Start fs to lt b =
+      gives-spans at to (start_item theory at fs) (λ item. record theory { starts = theory.starts ++ item ∷ [] }) (start_item-spans at fs to lt b)
+  read_as-spans at Action fs to lt b =
+      gives-spans at to (action_item theory at fs) (λ item. record theory { actions = theory.actions ++ item ∷ [] }) (action_item-spans at fs to lt b)
+  read_as-spans at Exo fs to lt b =
+      gives-spans at to (exo_item theory at fs) (λ item. record theory { actions = theory.actions ++ item ∷ [] }) (exo_item-spans at fs to lt b)
+  read_as-spans at Poss fs to lt b =
+      gives-spans at to (poss_item theory at fs) (λ item. record theory { poss = theory.poss ++ item ∷ [] }) (poss_item-spans at fs to lt b)
+  read_as-spans at Causes fs to lt b =
+      gives-spans at to (causes_item theory at fs) (λ item. record theory { causes = theory.causes ++ item ∷ [] }) (causes_item-spans at fs to lt b)
+  read_as-spans at Senses fs to lt b =
+      gives-spans at to (senses_item theory at fs) (λ item. record theory { senses = theory.senses ++ item ∷ [] }) (senses_item-spans at fs to lt b)
+  read_as-spans at Proc fs to lt b = omega arith
+  read_as-spans at Main fs to lt b = omega arith
 
-  read_by-spans : (at : ℕ) (keyword : List ℕ) (fs : List Form) (to : ℕ) → at < to → Between (at + 1) fs to → Spans at to (read_by theory at keyword fs)
-  unfolding read_by sort_read device_read fluent_read start_read action_read exo_read poss_read causes_read senses_read
-  read_by-spans at keyword fs to lt b =
-      let choose = if-chain (64 * at) (64 * to) in
-      choose (same keyword (codes "sort")) (sort_read theory at fs) _ (gives-spans at to (sort_item theory at fs) (λ item. record theory { sorts = theory.sorts ++ item ∷ [] }) (sort_item-spans at fs to lt b))
-      (choose (same keyword (codes "device")) (device_read theory at fs) _ (gives-spans at to (device_item theory at fs) (λ item. record theory { devices = theory.devices ++ item ∷ [] }) (device_item-spans at fs to lt b))
-      (choose (same keyword (codes "fluent")) (fluent_read theory at fs) _ (gives-spans at to (fluent_item theory at fs) (λ item. with_fluent theory item at) (fluent_item-spans at fs to lt b))
-      (choose (same keyword (codes "start")) (start_read theory at fs) _ (gives-spans at to (start_item theory at fs) (λ item. record theory { starts = theory.starts ++ item ∷ [] }) (start_item-spans at fs to lt b))
-      (choose (same keyword (codes "action")) (action_read theory at fs) _ (gives-spans at to (action_item theory at fs) (λ item. record theory { actions = theory.actions ++ item ∷ [] }) (action_item-spans at fs to lt b))
-      (choose (same keyword (codes "exo")) (exo_read theory at fs) _ (gives-spans at to (exo_item theory at fs) (λ item. record theory { actions = theory.actions ++ item ∷ [] }) (exo_item-spans at fs to lt b))
-      (choose (same keyword (codes "poss")) (poss_read theory at fs) _ (gives-spans at to (poss_item theory at fs) (λ item. record theory { poss = theory.poss ++ item ∷ [] }) (poss_item-spans at fs to lt b))
-      (choose (same keyword (codes "causes")) (causes_read theory at fs) _ (gives-spans at to (causes_item theory at fs) (λ item. record theory { causes = theory.causes ++ item ∷ [] }) (causes_item-spans at fs to lt b))
-      (choose (same keyword (codes "senses")) (senses_read theory at fs) (other_read theory at keyword) (gives-spans at to (senses_item theory at fs) (λ item. record theory { senses = theory.senses ++ item ∷ [] }) (senses_item-spans at fs to lt b))
-      (other_read-spans at keyword to lt)))))))))
+  read_by-spans : (at : ℕ) (keyword : Option ItemKeyword) (fs : List Form) (to : ℕ) → at < to → Between (at + 1) fs to → Spans at to (read_by theory at keyword fs)
+  read_by-spans at None fs to lt b = none DraftTheory at to lt
+  read_by-spans at (Some keyword) fs to lt b = read_as-spans at keyword fs to lt b
 
   pub item_read-covers : (f : Form) → IsInOrder f → Covers f (item_read theory f)
   item_read-covers f order =
-      read_by-spans (place_of f) (head_word f) (arguments f) (end_of f) (stands f order).size (arguments-between f order)
+      read_by-spans (place_of f) (item_keyword (head_word f)) (arguments f) (end_of f) (stands f order).size (arguments-between f order)
 
 pub items_read-spans : (theory : DraftTheory) (from : ℕ) (fs : List Form) (to : ℕ) → Between from fs to → Spans from to (items_read theory fs)
 items_read-spans theory from [] to b = omega (arith, b)

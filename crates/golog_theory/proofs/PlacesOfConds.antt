@@ -1,5 +1,5 @@
 -- The places of the condition that a form spells ascend.
-use Rattle.std.proofs.Common.{◌≡◌, ℕ, ◌+◌, ◌<◌, ◌≤◌, Bool, true, false, not, List, [], ◌∷◌, ◌++◌, map, sym, ap, subst, ◌∙◌, arith}
+use Rattle.std.proofs.Common.{◌≡◌, ℕ, ◌+◌, ◌<◌, ◌≤◌, Bool, true, false, not, List, [], ◌∷◌, ◌++◌, Option, Some, None, map, sym, ap, subst, ◌∙◌, arith}
 use Rattle.std.specs.Prelude.{if◌then◌else◌, codes, nat_le}
 use Rattle.golog_form.specs.declared.form.Form.{Form}
 use Rattle.golog_form.specs.Shape.{place_of}
@@ -21,7 +21,10 @@ use Rattle.golog_theory.specs.Parts.{word, parts}
 use Rattle.golog_theory.specs.Heads.{fluent_called}
 use Rattle.golog_theory.specs.Recursion.{Part}
 use Rattle.golog_theory.specs.Terms.{term_of}
-use Rattle.golog_theory.specs.Conditions.{InScope, truth_of, fluent_cond, sides_of, equal_of, less_of, at_most_of, not_of, conds_of, and_of, or_of, binder_of, bound_of, some_of, all_of, cond_list, cond_by, cond_of, cond_part}
+use Rattle.golog_theory.specs.Keywords.{cond_keyword}
+use Rattle.golog_theory.specs.declared.keyword.CondKeyword.{CondKeyword}
+use Rattle.golog_theory.specs.declared.keyword.CondKeyword.TheVariants as keyword
+use Rattle.golog_theory.specs.Conditions.{InScope, truth_of, fluent_cond, sides_of, equal_of, less_of, at_most_of, not_of, conds_of, and_of, or_of, binder_of, bound_of, some_of, all_of, keyword_cond, cond_list, cond_by, cond_of, cond_part}
 use Rattle.golog_theory.proofs.Inside.{Each, by_parts, end_of, Between, stands, between-from}
 use Rattle.golog_theory.proofs.Conds.{cond_of-parts}
 use Rattle.golog_theory.proofs.Yields.{Yields, gives-yields, refused-yields, row-yields, if-yields, then-yields}
@@ -166,53 +169,44 @@ module _ (theory : DraftTheory) where
       (inner at (end_of binder) to body c (omega (arith, lt, b.0, (stands binder b.1).size)) b.2.0 b.2.2 is))))
   bound_of-ascend scope at (binder ∷ body ∷ other ∷ fs) from to lt b e = refused-yields (BoundWithin at to) 20 at
 
-  cond_list-ascend : (f : Form) (scope : ℕ) (keyword : List ℕ) (fs : List Form) (from : ℕ) → IsInOrder f → place_of f < from → Between from fs (end_of f) → Each CondAscends fs
-      → Ascends cond_places f (cond_list theory f scope keyword (as_parts fs))
-  unfolding cond_list equal_of less_of at_most_of and_of or_of some_of all_of conds_of
-  cond_list-ascend f scope keyword fs from order lt b e =
-      let at = place_of f in let to = end_of f in let parts = as_parts fs in
-      let sides = sides_of-ascend at fs from to lt b in
-      let conds = conds_of-ascend scope at at fs to (between-from at from fs to (omega arith) b) e [] (omega arith) in
-      let bound = bound_of-ascend scope at fs from to lt b e in
-      let choose = if-yields (Within at to) in
-      let r8 = if same keyword (codes "all") then all_of theory scope at parts else fluent_cond theory f in
-      let r7 = if same keyword (codes "some") then some_of theory scope at parts else r8 in
-      let r6 = if same keyword (codes "or") then or_of scope at parts else r7 in
-      let r5 = if same keyword (codes "and") then and_of scope at parts else r6 in
-      let r4 = if same keyword (codes "not") then not_of scope at parts else r5 in
-      let r3 = if same keyword (codes "<=") then at_most_of theory at parts else r4 in
-      let r2 = if same keyword (codes "<") then less_of theory at parts else r3 in
-      choose (same keyword (codes "=")) (equal_of theory at parts) r2
-      (λ _. then-yields _ _ (sides_of theory at parts).outcome _ sides
-      (λ s is. gives-yields (Within at to) (cond.Equal s.one s.other at) (made at to (cond.Equal s.one s.other at) (term_places s.one ++ term_places s.other) (places-Equal s.one s.other at) is)))
-      (λ _. choose (same keyword (codes "<")) (less_of theory at parts) r3
-      (λ _. then-yields _ _ (sides_of theory at parts).outcome _ sides
-      (λ s is. gives-yields (Within at to) (cond.Less s.one s.other at) (made at to (cond.Less s.one s.other at) (term_places s.one ++ term_places s.other) (places-Less s.one s.other at) is)))
-      (λ _. choose (same keyword (codes "<=")) (at_most_of theory at parts) r4
-      (λ _. then-yields _ _ (sides_of theory at parts).outcome _ sides
-      (λ s is. gives-yields (Within at to) (cond.AtMost s.one s.other at) (made at to (cond.AtMost s.one s.other at) (term_places s.one ++ term_places s.other) (places-AtMost s.one s.other at) is)))
-      (λ _. choose (same keyword (codes "not")) (not_of scope at parts) r5 (λ _. not_of-ascend scope at fs from to lt b e)
-      (λ _. choose (same keyword (codes "and")) (and_of scope at parts) r6
-      (λ _. then-yields _ _ (conds_of scope parts).outcome _ conds
-      (λ cs is. gives-yields (Within at to) (cond.And cs at) (made at to (cond.And cs at) (all_places cs) (places-And cs at) is)))
-      (λ _. choose (same keyword (codes "or")) (or_of scope at parts) r7
-      (λ _. then-yields _ _ (conds_of scope parts).outcome _ conds
-      (λ cs is. gives-yields (Within at to) (cond.Or cs at) (made at to (cond.Or cs at) (all_places cs) (places-Or cs at) is)))
-      (λ _. choose (same keyword (codes "some")) (some_of theory scope at parts) r8
-      (λ _. then-yields _ _ (bound_of theory scope at parts).outcome _ bound
+  keyword_cond-ascend : (at scope : ℕ) (keyword : CondKeyword) (fs : List Form) (from to : ℕ) → at < from → Between from fs to → Each CondAscends fs
+      → Yields (Within at to) (keyword_cond theory at scope keyword (as_parts fs))
+  unfolding keyword_cond equal_of less_of at_most_of and_of or_of some_of all_of conds_of
+  keyword_cond-ascend at scope keyword.Equal fs from to lt b e =
+      then-yields _ _ (sides_of theory at (as_parts fs)).outcome _ (sides_of-ascend at fs from to lt b)
+      (λ s is. gives-yields (Within at to) (cond.Equal s.one s.other at) (made at to (cond.Equal s.one s.other at) (term_places s.one ++ term_places s.other) (places-Equal s.one s.other at) is))
+  keyword_cond-ascend at scope keyword.Less fs from to lt b e =
+      then-yields _ _ (sides_of theory at (as_parts fs)).outcome _ (sides_of-ascend at fs from to lt b)
+      (λ s is. gives-yields (Within at to) (cond.Less s.one s.other at) (made at to (cond.Less s.one s.other at) (term_places s.one ++ term_places s.other) (places-Less s.one s.other at) is))
+  keyword_cond-ascend at scope keyword.AtMost fs from to lt b e =
+      then-yields _ _ (sides_of theory at (as_parts fs)).outcome _ (sides_of-ascend at fs from to lt b)
+      (λ s is. gives-yields (Within at to) (cond.AtMost s.one s.other at) (made at to (cond.AtMost s.one s.other at) (term_places s.one ++ term_places s.other) (places-AtMost s.one s.other at) is))
+  keyword_cond-ascend at scope keyword.Not fs from to lt b e = not_of-ascend scope at fs from to lt b e
+  keyword_cond-ascend at scope keyword.And fs from to lt b e =
+      then-yields _ _ (conds_of scope (as_parts fs)).outcome _ (conds_of-ascend scope at at fs to (between-from at from fs to (omega arith) b) e [] (omega arith))
+      (λ cs is. gives-yields (Within at to) (cond.And cs at) (made at to (cond.And cs at) (all_places cs) (places-And cs at) is))
+  keyword_cond-ascend at scope keyword.Or fs from to lt b e =
+      then-yields _ _ (conds_of scope (as_parts fs)).outcome _ (conds_of-ascend scope at at fs to (between-from at from fs to (omega arith) b) e [] (omega arith))
+      (λ cs is. gives-yields (Within at to) (cond.Or cs at) (made at to (cond.Or cs at) (all_places cs) (places-Or cs at) is))
+  keyword_cond-ascend at scope keyword.ForSome fs from to lt b e =
+      then-yields _ _ (bound_of theory scope at (as_parts fs)).outcome _ (bound_of-ascend scope at fs from to lt b e)
       (λ b' is. gives-yields (Within at to) (cond.ForSome b'.binder.var b'.binder.sort b'.body at)
-      (made at to (cond.ForSome b'.binder.var b'.binder.sort b'.body at) (cond_places b'.body) (places-ForSome b'.binder.var b'.binder.sort b'.body at) is)))
-      (λ _. choose (same keyword (codes "all")) (all_of theory scope at parts) (fluent_cond theory f)
-      (λ _. then-yields _ _ (bound_of theory scope at parts).outcome _ bound
+      (made at to (cond.ForSome b'.binder.var b'.binder.sort b'.body at) (cond_places b'.body) (places-ForSome b'.binder.var b'.binder.sort b'.body at) is))
+  keyword_cond-ascend at scope keyword.ForAll fs from to lt b e =
+      then-yields _ _ (bound_of theory scope at (as_parts fs)).outcome _ (bound_of-ascend scope at fs from to lt b e)
       (λ b' is. gives-yields (Within at to) (cond.ForAll b'.binder.var b'.binder.sort b'.body at)
-      (made at to (cond.ForAll b'.binder.var b'.binder.sort b'.body at) (cond_places b'.body) (places-ForAll b'.binder.var b'.binder.sort b'.body at) is)))
-      (λ _. fluent_cond-ascend f order))))))))
+      (made at to (cond.ForAll b'.binder.var b'.binder.sort b'.body at) (cond_places b'.body) (places-ForAll b'.binder.var b'.binder.sort b'.body at) is))
+
+  cond_list-ascend : (f : Form) (scope : ℕ) (keyword : Option CondKeyword) (fs : List Form) (from : ℕ) → IsInOrder f → place_of f < from → Between from fs (end_of f) → Each CondAscends fs
+      → Ascends cond_places f (cond_list theory f scope keyword (as_parts fs))
+  cond_list-ascend f scope None fs from order lt b e = fluent_cond-ascend f order
+  cond_list-ascend f scope (Some keyword) fs from order lt b e = keyword_cond-ascend (place_of f) scope keyword fs from (end_of f) lt b e
 
   cond_by-ascend : (f : Form) (fs : List Form) (scope : ℕ) → IsInOrder f → Between (place_of f + 1) fs (end_of f) → Each CondAscends fs
       → Ascends cond_places f (cond_by theory f (as_parts fs) scope)
   cond_by-ascend f [] scope order b e = truth_of-ascend f order
   cond_by-ascend f (head ∷ fs) scope order b e =
-      cond_list-ascend f scope (word head) fs (end_of head) order (omega (arith, b.0, (stands head b.1).size)) b.2 e.1
+      cond_list-ascend f scope (cond_keyword (word head)) fs (end_of head) order (omega (arith, b.0, (stands head b.1).size)) b.2 e.1
 
   pub cond_of-ascend : (f : Form) → IsInOrder f → (scope : ℕ) → Ascends cond_places f (cond_of theory f scope)
   cond_of-ascend = by_parts CondAscends (λ f e order scope.

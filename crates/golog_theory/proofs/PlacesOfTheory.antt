@@ -1,5 +1,5 @@
 -- The places of a theory and of a condition that are read stand in order, where the parts of the form do.
-use Rattle.std.proofs.Common.{◌≡◌, ℕ, ◌+◌, ◌<◌, ◌≤◌, true, false, not, ◌||◌, List, [], ◌∷◌, ◌++◌, length, map, Result, Ok, Err, sym, subst, arith}
+use Rattle.std.proofs.Common.{◌≡◌, ℕ, ◌+◌, ◌<◌, ◌≤◌, true, false, not, ◌||◌, List, [], ◌∷◌, ◌++◌, Option, Some, None, length, map, Result, Ok, Err, sym, subst, arith}
 use Rattle.std.specs.Prelude.{codes, IfOk}
 use Rattle.golog_form.specs.declared.form.Form.{Form}
 use Rattle.golog_form.specs.Shape.{place_of}
@@ -29,7 +29,10 @@ use Rattle.golog_theory.specs.Fluents.{fluent_item, start_item}
 use Rattle.golog_theory.specs.Actions.{device_item, action_item, exo_item}
 use Rattle.golog_theory.specs.Conditions.{cond_of}
 use Rattle.golog_theory.specs.Effects.{poss_item, causes_item, senses_item}
-use Rattle.golog_theory.specs.Items.{built_in_cause, built_in, with_fluent, sort_read, device_read, fluent_read, start_read, action_read, exo_read, poss_read, causes_read, senses_read, other_read, read_by, item_read, items_read, theory_of}
+use Rattle.golog_theory.specs.Keywords.{item_keyword}
+use Rattle.golog_theory.specs.declared.keyword.ItemKeyword.{ItemKeyword}
+use Rattle.golog_theory.specs.declared.keyword.ItemKeyword.TheVariants.{Sort, Device, Fluent, Start, Action, Exo, Poss, Causes, Senses, Proc, Main}
+use Rattle.golog_theory.specs.Items.{built_in_cause, built_in, with_fluent, sort_read, device_read, fluent_read, start_read, action_read, exo_read, poss_read, causes_read, senses_read, read_as, read_by, item_read, items_read, theory_of}
 use Rattle.golog_theory.proofs.Inside.{end_of, Between, stands, arguments-between}
 use Rattle.golog_theory.proofs.Yields.{Yields, gives-yields, refused-yields, row-yields, if-yields, then-yields}
 use Rattle.golog_theory.proofs.Ascend.{is_ascending, are_push, RiseTo, rise, rise-to, rise_push}
@@ -144,31 +147,33 @@ module _ (theory : DraftTheory) (from at to : ℕ) (before : from ≤ at) (size 
     senses = are_push sense_places theory.senses item o.senses is;
   }
 
-  read_by-order : (keyword : List ℕ) (fs : List Form) → Between (at + 1) fs to → Yields (OrderTo to) (read_by theory at keyword fs)
-  unfolding read_by sort_read device_read fluent_read start_read action_read exo_read poss_read causes_read senses_read other_read
-  read_by-order keyword fs b =
-      let choose = if-yields (OrderTo to) in
-      choose (same keyword (codes "sort")) (sort_read theory at fs) _
-      (λ _. then-yields (λ _. Unit {0}) _ (sort_item theory at fs).outcome _ (λ x e. tt) (λ item _. gives-yields (OrderTo to) _ (more-sorts item)))
-      (λ _. choose (same keyword (codes "device")) (device_read theory at fs) _
-      (λ _. then-yields (λ _. Unit {0}) _ (device_item theory at fs).outcome _ (λ x e. tt) (λ item _. gives-yields (OrderTo to) _ (more-devices item)))
-      (λ _. choose (same keyword (codes "fluent")) (fluent_read theory at fs) _
-      (λ _. then-yields _ _ (fluent_item theory at fs).outcome _ (fluent_item-ascend theory at fs (at + 1) to b) (λ item is. gives-yields (OrderTo to) _ (more-fluents item is)))
-      (λ _. choose (same keyword (codes "start")) (start_read theory at fs) _
-      (λ _. then-yields _ _ (start_item theory at fs).outcome _ (start_item-ascend theory at fs (at + 1) to b) (λ item is. gives-yields (OrderTo to) _ (more-starts item is)))
-      (λ _. choose (same keyword (codes "action")) (action_read theory at fs) _
-      (λ _. then-yields _ _ (action_item theory at fs).outcome _ (action_item-place theory at fs) (λ item is. gives-yields (OrderTo to) _ (more-actions item is)))
-      (λ _. choose (same keyword (codes "exo")) (exo_read theory at fs) _
-      (λ _. then-yields _ _ (exo_item theory at fs).outcome _ (exo_item-place theory at fs) (λ item is. gives-yields (OrderTo to) _ (more-actions item is)))
-      (λ _. choose (same keyword (codes "poss")) (poss_read theory at fs) _
-      (λ _. then-yields _ _ (poss_item theory at fs).outcome _ (poss_item-ascend theory at fs (at + 1) to b) (λ item is. gives-yields (OrderTo to) _ (more-poss item is)))
-      (λ _. choose (same keyword (codes "causes")) (causes_read theory at fs) _
-      (λ _. then-yields _ _ (causes_item theory at fs).outcome _ (causes_item-ascend theory at fs (at + 1) to b) (λ item is. gives-yields (OrderTo to) _ (more-causes item is)))
-      (λ _. choose (same keyword (codes "senses")) (senses_read theory at fs) _
-      (λ _. then-yields _ _ (senses_item theory at fs).outcome _ (senses_item-ascend theory at fs (at + 1) to (omega arith) b)
-      (λ item is. gives-yields (OrderTo to) _ (more-senses item is)))
-      (λ _. choose (same keyword (codes "proc") || same keyword (codes "main")) (gives theory) (refused 20 at)
-      (λ _. gives-yields (OrderTo to) theory still) (λ _. refused-yields (OrderTo to) 20 at))))))))))
+  read_as-order : (keyword : ItemKeyword) (fs : List Form) → Between (at + 1) fs to → Yields (OrderTo to) (read_as theory at keyword fs)
+  unfolding read_as sort_read device_read fluent_read start_read action_read exo_read poss_read causes_read senses_read
+  read_as-order Sort fs b =
+      then-yields (λ _. Unit {0}) _ (sort_item theory at fs).outcome _ (λ x e. tt) (λ item _. gives-yields (OrderTo to) _ (more-sorts item))
+  read_as-order Device fs b =
+      then-yields (λ _. Unit {0}) _ (device_item theory at fs).outcome _ (λ x e. tt) (λ item _. gives-yields (OrderTo to) _ (more-devices item))
+  read_as-order Fluent fs b =
+      then-yields _ _ (fluent_item theory at fs).outcome _ (fluent_item-ascend theory at fs (at + 1) to b) (λ item is. gives-yields (OrderTo to) _ (more-fluents item is))
+  read_as-order Start fs b =
+      then-yields _ _ (start_item theory at fs).outcome _ (start_item-ascend theory at fs (at + 1) to b) (λ item is. gives-yields (OrderTo to) _ (more-starts item is))
+  read_as-order Action fs b =
+      then-yields _ _ (action_item theory at fs).outcome _ (action_item-place theory at fs) (λ item is. gives-yields (OrderTo to) _ (more-actions item is))
+  read_as-order Exo fs b =
+      then-yields _ _ (exo_item theory at fs).outcome _ (exo_item-place theory at fs) (λ item is. gives-yields (OrderTo to) _ (more-actions item is))
+  read_as-order Poss fs b =
+      then-yields _ _ (poss_item theory at fs).outcome _ (poss_item-ascend theory at fs (at + 1) to b) (λ item is. gives-yields (OrderTo to) _ (more-poss item is))
+  read_as-order Causes fs b =
+      then-yields _ _ (causes_item theory at fs).outcome _ (causes_item-ascend theory at fs (at + 1) to b) (λ item is. gives-yields (OrderTo to) _ (more-causes item is))
+  read_as-order Senses fs b =
+      then-yields _ _ (senses_item theory at fs).outcome _ (senses_item-ascend theory at fs (at + 1) to (omega arith) b)
+      (λ item is. gives-yields (OrderTo to) _ (more-senses item is))
+  read_as-order Proc fs b = gives-yields (OrderTo to) theory still
+  read_as-order Main fs b = gives-yields (OrderTo to) theory still
+
+  read_by-order : (keyword : Option ItemKeyword) (fs : List Form) → Between (at + 1) fs to → Yields (OrderTo to) (read_by theory at keyword fs)
+  read_by-order None fs b = refused-yields (OrderTo to) 20 at
+  read_by-order (Some keyword) fs b = read_as-order keyword fs b
 
 items_read-order : (theory : DraftTheory) (from : ℕ) (fs : List Form) (to : ℕ) → OrderTo from theory → Between from fs to → Yields (OrderTo to) (items_read theory fs)
 items_read-order theory from [] to o b = gives-yields (OrderTo to) theory (record {
@@ -181,7 +186,7 @@ items_read-order theory from [] to o b = gives-yields (OrderTo to) theory (recor
 })
 items_read-order theory from (f ∷ fs) to o b =
     then-yields _ _ (item_read theory f).outcome (λ next. items_read next fs)
-    (read_by-order theory from (place_of f) (end_of f) b.0 (stands f b.1).size o (head_word f) (arguments f) (arguments-between f b.1))
+    (read_by-order theory from (place_of f) (end_of f) b.0 (stands f b.1).size o (item_keyword (head_word f)) (arguments f) (arguments-between f b.1))
     (λ next o'. items_read-order next (end_of f) fs to o' b.2)
 
 -- what is built in stands at place 0

@@ -1,5 +1,5 @@
 -- Conditions, within so many variables.
-use Rattle.std.specs.Prelude.{ℕ, ◌+◌, nat_le, not, true, false, if◌then◌else◌, List, [], ◌∷◌, map, codes}
+use Rattle.std.specs.Prelude.{ℕ, ◌+◌, nat_le, not, true, false, if◌then◌else◌, List, [], ◌∷◌, map, Option, Some, None, codes}
 use Rattle.golog_base.specs.Names.{is_name}
 use Rattle.golog_form.specs.declared.form.Form.{Form}
 use Rattle.golog_form.specs.Shape.{place_of}
@@ -13,6 +13,9 @@ use Rattle.golog_theory.specs.Codes.{UNKNOWN_FORM, COUNT}
 use Rattle.golog_theory.specs.Limits.{VARIABLES}
 use Rattle.golog_theory.specs.Reading.{Reading, gives, refused, row, ◌>>=◌, each}
 use Rattle.golog_theory.specs.Names.{same}
+use Rattle.golog_theory.specs.Keywords.{cond_keyword}
+use Rattle.golog_theory.specs.declared.keyword.CondKeyword.{CondKeyword}
+use Rattle.golog_theory.specs.declared.keyword.CondKeyword.TheVariants as keyword
 use Rattle.golog_theory.specs.Parts.{word, parts, short_name, sort_of}
 use Rattle.golog_theory.specs.Heads.{fluent_called}
 use Rattle.golog_theory.specs.Terms.{term_of}
@@ -98,22 +101,24 @@ all_of theory scope at parts =
     bound_of theory scope at parts >>= λ bound.
     gives (ForAll bound.binder.var bound.binder.sort bound.body at)
 
--- A list spells a condition by its first word.
-unfoldable pub cond_list : DraftTheory → Form → ℕ → List ℕ → List (Part InScope) → Reading DraftCond
-cond_list theory form scope keyword parts =
-    if same keyword (codes "=") then equal_of theory (place_of form) parts
-    else if same keyword (codes "<") then less_of theory (place_of form) parts
-    else if same keyword (codes "<=") then at_most_of theory (place_of form) parts
-    else if same keyword (codes "not") then not_of scope (place_of form) parts
-    else if same keyword (codes "and") then and_of scope (place_of form) parts
-    else if same keyword (codes "or") then or_of scope (place_of form) parts
-    else if same keyword (codes "some") then some_of theory scope (place_of form) parts
-    else if same keyword (codes "all") then all_of theory scope (place_of form) parts
-    else fluent_cond theory form
+-- A list spells a condition by its keyword; without one it is a fluent.
+unfoldable pub keyword_cond : DraftTheory → ℕ → ℕ → CondKeyword → List (Part InScope) → Reading DraftCond
+keyword_cond theory at scope keyword.Equal parts = equal_of theory at parts
+keyword_cond theory at scope keyword.Less parts = less_of theory at parts
+keyword_cond theory at scope keyword.AtMost parts = at_most_of theory at parts
+keyword_cond theory at scope keyword.Not parts = not_of scope at parts
+keyword_cond theory at scope keyword.And parts = and_of scope at parts
+keyword_cond theory at scope keyword.Or parts = or_of scope at parts
+keyword_cond theory at scope keyword.ForSome parts = some_of theory scope at parts
+keyword_cond theory at scope keyword.ForAll parts = all_of theory scope at parts
+
+abbrev pub cond_list : DraftTheory → Form → ℕ → Option CondKeyword → List (Part InScope) → Reading DraftCond
+cond_list theory form scope None parts = fluent_cond theory form
+cond_list theory form scope (Some keyword) parts = keyword_cond theory (place_of form) scope keyword parts
 
 abbrev pub cond_by : DraftTheory → Form → List (Part InScope) → InScope
 cond_by theory form [] scope = truth_of form
-cond_by theory form (head ∷ parts) scope = cond_list theory form scope (word head.form) parts
+cond_by theory form (head ∷ parts) scope = cond_list theory form scope (cond_keyword (word head.form)) parts
 
 -- the condition that a form spells within so many variables
 unfoldable pub cond_of : DraftTheory → Form → ℕ → Reading DraftCond

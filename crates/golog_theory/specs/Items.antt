@@ -1,5 +1,5 @@
 -- The items of an agent file but `proc` and `main`, one after another, and the theory that they make.
-use Rattle.std.specs.Prelude.{ℕ, ◌||◌, not, true, if◌then◌else◌, List, [], ◌∷◌, ◌++◌, length, Some, None, codes}
+use Rattle.std.specs.Prelude.{ℕ, not, true, if◌then◌else◌, List, [], ◌∷◌, ◌++◌, length, Option, Some, None, codes}
 use Rattle.golog_form.specs.declared.form.Form.{Form}
 use Rattle.golog_form.specs.Shape.{place_of}
 use Rattle.golog_tree.specs.declared.draft.DraftTheory.{DraftTheory}
@@ -13,6 +13,9 @@ use Rattle.golog_tree.specs.declared.draft_cond.DraftCond.TheVariants.{Truth}
 use Rattle.golog_theory.specs.Codes.{UNKNOWN_FORM}
 use Rattle.golog_theory.specs.Reading.{Reading, gives, refused, row, ◌>>=◌}
 use Rattle.golog_theory.specs.Names.{same}
+use Rattle.golog_theory.specs.Keywords.{item_keyword}
+use Rattle.golog_theory.specs.declared.keyword.ItemKeyword.{ItemKeyword}
+use Rattle.golog_theory.specs.declared.keyword.ItemKeyword.TheVariants.{Sort, Device, Fluent, Start, Action, Exo, Poss, Causes, Senses, Proc, Main}
 use Rattle.golog_theory.specs.Heads.{head_word, arguments}
 use Rattle.golog_theory.specs.Sorts.{sort_item}
 use Rattle.golog_theory.specs.Fluents.{fluent_item, start_item}
@@ -74,7 +77,7 @@ with_fluent theory item at = record theory {
   starts = theory.starts ++ Each (length theory.fluents) item.value at ∷ [];
 }
 
--- The items, each by its first word, put into the theory.
+-- Items of each kind, put into the theory.
 unfoldable pub sort_read : DraftTheory → ℕ → List Form → Reading DraftTheory
 sort_read theory at parts =
     sort_item theory at parts >>= λ item. gives (record theory { sorts = theory.sorts ++ item ∷ [] })
@@ -110,28 +113,27 @@ unfoldable pub senses_read : DraftTheory → ℕ → List Form → Reading Draft
 senses_read theory at parts =
     senses_item theory at parts >>= λ item. gives (record theory { senses = theory.senses ++ item ∷ [] })
 
--- Items `proc` and `main` are passed over.
-unfoldable pub other_read : DraftTheory → ℕ → List ℕ → Reading DraftTheory
-other_read theory at keyword =
-    if same keyword (codes "proc")
-    || same keyword (codes "main") then gives theory else refused UNKNOWN_FORM at
+-- An item put into the theory by its keyword. A `proc` or a `main` is passed over.
+unfoldable pub read_as : DraftTheory → ℕ → ItemKeyword → List Form → Reading DraftTheory
+read_as theory at Sort parts = sort_read theory at parts
+read_as theory at Device parts = device_read theory at parts
+read_as theory at Fluent parts = fluent_read theory at parts
+read_as theory at Start parts = start_read theory at parts
+read_as theory at Action parts = action_read theory at parts
+read_as theory at Exo parts = exo_read theory at parts
+read_as theory at Poss parts = poss_read theory at parts
+read_as theory at Causes parts = causes_read theory at parts
+read_as theory at Senses parts = senses_read theory at parts
+read_as theory at Proc parts = gives theory
+read_as theory at Main parts = gives theory
 
-unfoldable pub read_by : DraftTheory → ℕ → List ℕ → List Form → Reading DraftTheory
-read_by theory at keyword parts =
-    if same keyword (codes "sort") then sort_read theory at parts
-    else if same keyword (codes "device") then device_read theory at parts
-    else if same keyword (codes "fluent") then fluent_read theory at parts
-    else if same keyword (codes "start") then start_read theory at parts
-    else if same keyword (codes "action") then action_read theory at parts
-    else if same keyword (codes "exo") then exo_read theory at parts
-    else if same keyword (codes "poss") then poss_read theory at parts
-    else if same keyword (codes "causes") then causes_read theory at parts
-    else if same keyword (codes "senses") then senses_read theory at parts
-    else other_read theory at keyword
+abbrev pub read_by : DraftTheory → ℕ → Option ItemKeyword → List Form → Reading DraftTheory
+read_by theory at None parts = refused UNKNOWN_FORM at
+read_by theory at (Some keyword) parts = read_as theory at keyword parts
 
 -- the theory after an item
 abbrev pub item_read : DraftTheory → Form → Reading DraftTheory
-item_read theory form = read_by theory (place_of form) (head_word form) (arguments form)
+item_read theory form = read_by theory (place_of form) (item_keyword (head_word form)) (arguments form)
 
 -- the theory after these items, one after another
 abbrev pub items_read : DraftTheory → List Form → Reading DraftTheory

@@ -2,6 +2,7 @@ pub mod Codes
 pub mod Limits
 pub mod Reading
 pub mod Names
+pub mod Keywords
 pub mod Parts
 pub mod Heads
 pub mod Fluents

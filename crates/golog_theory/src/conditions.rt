@@ -1,10 +1,11 @@
 ghost use Rattle.std.specs.Prelude.{◌≡◌};
 ghost use Rattle.golog_theory.specs.Reading.{Answers};
-ghost use Rattle.golog_theory.specs.Conditions.{truth_of, fluent_cond, sides_of, equal_of, less_of, at_most_of, not_of, conds_of, and_of, or_of, binder_of, bound_of, some_of, all_of, cond_list, cond_of, cond_parts};
+ghost use Rattle.golog_theory.specs.Conditions.{truth_of, fluent_cond, sides_of, equal_of, less_of, at_most_of, not_of, conds_of, and_of, or_of, binder_of, bound_of, some_of, all_of, keyword_cond, cond_of, cond_parts};
 
 use crate::fault::{COUNT, TheoryFault, UNKNOWN_FORM, refuse_where, unknown_form};
 use crate::heads::{Called, fluent_called};
 use crate::indexed::Indexed;
+use crate::keyword::{CondKeyword, cond_keyword};
 use crate::limits::VARIABLES;
 use crate::parts::{parts, short_name, sort_of, split_list, word};
 use crate::terms::term_of;
@@ -139,44 +140,37 @@ pub fn cond_of(
 ) -> Result<DraftCond, TheoryFault>
     ensures { Answers result (cond_of theory.now form.now scope) }
 {
-    match split_list(form) {
-        Some((head, parts)) => cond_list(alloc, theory, form, scope, word(head), parts),
-        None => truth_of(form),
+    let Some((head, parts)) = split_list(form) else {
+        return truth_of(form);
+    };
+    match cond_keyword(word(head)) {
+        Some(keyword) => keyword_cond(alloc, theory, form.at(), scope, keyword, parts),
+        None => fluent_cond(alloc, theory, form),
     }
 }
 
 #[cycle(conditions)]
-#[tactic(auto, using(crate::proofs::Conds::laws), unfolding(crate::specs::Conditions::cond_list))]
-fn cond_list(
+#[tactic(auto, using(crate::proofs::Conds::laws), unfolding(crate::specs::Conditions::keyword_cond))]
+fn keyword_cond(
     alloc: Global,
     theory: &Indexed<'_>,
-    form: &Form,
+    at: Place,
     scope: usize,
-    keyword: &[u8],
+    keyword: CondKeyword,
     parts: &[Form],
 ) -> Result<DraftCond, TheoryFault>
     ensures { Answers result
-        (cond_list theory.now form.now scope keyword.now (cond_parts theory.now parts.now)) }
+        (keyword_cond theory.now at scope keyword (cond_parts theory.now parts.now)) }
 {
-    let at = form.at();
-    if keyword == b"=".as_slice() {
-        equal_of(alloc, theory, at, parts)
-    } else if keyword == b"<".as_slice() {
-        less_of(alloc, theory, at, parts)
-    } else if keyword == b"<=".as_slice() {
-        at_most_of(alloc, theory, at, parts)
-    } else if keyword == b"not".as_slice() {
-        not_of(alloc, theory, scope, at, parts)
-    } else if keyword == b"and".as_slice() {
-        and_of(alloc, theory, scope, at, parts)
-    } else if keyword == b"or".as_slice() {
-        or_of(alloc, theory, scope, at, parts)
-    } else if keyword == b"some".as_slice() {
-        some_of(alloc, theory, scope, at, parts)
-    } else if keyword == b"all".as_slice() {
-        all_of(alloc, theory, scope, at, parts)
-    } else {
-        fluent_cond(alloc, theory, form)
+    match keyword {
+        CondKeyword::Equal => equal_of(alloc, theory, at, parts),
+        CondKeyword::Less => less_of(alloc, theory, at, parts),
+        CondKeyword::AtMost => at_most_of(alloc, theory, at, parts),
+        CondKeyword::Not => not_of(alloc, theory, scope, at, parts),
+        CondKeyword::And => and_of(alloc, theory, scope, at, parts),
+        CondKeyword::Or => or_of(alloc, theory, scope, at, parts),
+        CondKeyword::ForSome => some_of(alloc, theory, scope, at, parts),
+        CondKeyword::ForAll => all_of(alloc, theory, scope, at, parts),
     }
 }
 

@@ -7,7 +7,7 @@ ghost use Rattle.golog_form.specs.Places.{IsInOrder};
 ghost use Rattle.golog_theory.specs.Order.{IsLeastRow};
 ghost use Rattle.golog_theory.specs.Conditions.{cond_of};
 ghost use Rattle.golog_theory.specs.Draft.{IsDraft};
-ghost use Rattle.golog_theory.specs.Items.{sort_read, device_read, fluent_read, start_read, action_read, exo_read, poss_read, causes_read, senses_read, other_read, read_by, item_read, items_read, built_in, theory_of};
+ghost use Rattle.golog_theory.specs.Items.{sort_read, device_read, fluent_read, start_read, action_read, exo_read, poss_read, causes_read, senses_read, read_as, item_read, items_read, built_in, theory_of};
 
 use crate::actions::{action_item, device_item, exo_item};
 use crate::conditions::cond_of;
@@ -18,6 +18,7 @@ use crate::fluents::{FluentItem, fluent_item, start_item};
 use crate::heads::{arguments, head_word};
 use crate::index::Index;
 use crate::indexed::Indexed;
+use crate::keyword::{ItemKeyword, item_keyword};
 use crate::parts::item_no;
 use crate::sorts::sort_item;
 use golog_form::Form;
@@ -163,52 +164,42 @@ fn read_senses(
     Ok(())
 }
 
-/// Passes over a `proc` or `main` item.
-#[tactic(auto, unfolding(crate::specs::Items::other_read))]
-fn pass_over(draft: &mut Draft, at: Place, keyword: &[u8]) -> Result<(), TheoryFault>
-    requires { IsDraft draft.old }
-    ensures read { Leaves result draft.new.theory (other_read draft.old.theory at keyword.now) }
-    ensures kept { OnOk result (IsDraft draft.new) }
-{
-    if keyword == b"proc".as_slice() || keyword == b"main".as_slice() {
-        return Ok(());
-    }
-    Err(unknown_form(at))
-}
-
-/// Adds an item by its first word.
-#[tactic(auto, unfolding(crate::specs::Items::read_by))]
+/// Adds an item by its keyword. A `proc` or a `main` is passed over.
+#[tactic(auto, unfolding(crate::specs::Items::read_as))]
 fn read_item(
     alloc: Global,
     draft: &mut Draft,
     at: Place,
-    keyword: &[u8],
+    keyword: ItemKeyword,
     parts: &[Form],
 ) -> Result<(), TheoryFault>
     requires { IsDraft draft.old }
-    ensures read { Leaves result draft.new.theory (read_by draft.old.theory at keyword.now parts.now) }
+    ensures read { Leaves result draft.new.theory (read_as draft.old.theory at keyword parts.now) }
     ensures kept { OnOk result (IsDraft draft.new) }
 {
-    if keyword == b"sort".as_slice() {
-        read_sort(alloc, draft, at, parts)
-    } else if keyword == b"device".as_slice() {
-        read_device(draft, at, parts)
-    } else if keyword == b"fluent".as_slice() {
-        read_fluent(alloc, draft, at, parts)
-    } else if keyword == b"start".as_slice() {
-        read_start(alloc, draft, at, parts)
-    } else if keyword == b"action".as_slice() {
-        read_action(alloc, draft, at, parts)
-    } else if keyword == b"exo".as_slice() {
-        read_exo(alloc, draft, at, parts)
-    } else if keyword == b"poss".as_slice() {
-        read_poss(alloc, draft, at, parts)
-    } else if keyword == b"causes".as_slice() {
-        read_causes(alloc, draft, at, parts)
-    } else if keyword == b"senses".as_slice() {
-        read_senses(alloc, draft, at, parts)
-    } else {
-        pass_over(draft, at, keyword)
+    match keyword {
+        ItemKeyword::Sort => read_sort(alloc, draft, at, parts),
+        ItemKeyword::Device => read_device(draft, at, parts),
+        ItemKeyword::Fluent => read_fluent(alloc, draft, at, parts),
+        ItemKeyword::Start => read_start(alloc, draft, at, parts),
+        ItemKeyword::Action => read_action(alloc, draft, at, parts),
+        ItemKeyword::Exo => read_exo(alloc, draft, at, parts),
+        ItemKeyword::Poss => read_poss(alloc, draft, at, parts),
+        ItemKeyword::Causes => read_causes(alloc, draft, at, parts),
+        ItemKeyword::Senses => read_senses(alloc, draft, at, parts),
+        ItemKeyword::Proc | ItemKeyword::Main => Ok(()),
+    }
+}
+
+/// Adds an item by its first word.
+fn read_form(alloc: Global, draft: &mut Draft, form: &Form) -> Result<(), TheoryFault>
+    requires { IsDraft draft.old }
+    ensures read { Leaves result draft.new.theory (item_read draft.old.theory form.now) }
+    ensures kept { OnOk result (IsDraft draft.new) }
+{
+    match item_keyword(head_word(form)) {
+        Some(keyword) => read_item(alloc, draft, form.at(), keyword, arguments(form)),
+        None => Err(unknown_form(form.at())),
     }
 }
 
@@ -220,13 +211,7 @@ pub fn theory_of_items(alloc: Global, items: &[Form]) -> Result<DraftTheory, The
 {
     let mut draft = Draft::built_in(alloc)?;
     for item in items {
-        read_item(
-            alloc,
-            &mut draft,
-            item.at(),
-            head_word(item),
-            arguments(item),
-        )?;
+        read_form(alloc, &mut draft, item)?;
     }
     Ok(draft.into_theory())
 }

@@ -12,6 +12,7 @@ pub mod heads;
 pub mod index;
 mod indexed;
 mod items;
+mod keyword;
 pub mod limits;
 pub mod names;
 mod numbers;

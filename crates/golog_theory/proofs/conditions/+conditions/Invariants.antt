@@ -10,8 +10,8 @@ use Rattle.golog_theory.proofs.conditions.+conditions.Given as goal
 abbrev pub decreases-cond_of : goal.decreases-cond_of
 decreases-cond_of l = 4 * nest l.form.now
 
-abbrev pub decreases-cond_list : goal.decreases-cond_list
-decreases-cond_list l = 4 * deepest l.parts.now + 3
+abbrev pub decreases-keyword_cond : goal.decreases-keyword_cond
+decreases-keyword_cond l = 4 * deepest l.parts.now + 3
 
 abbrev pub decreases-not_of : goal.decreases-not_of
 decreases-not_of l = 4 * deepest l.parts.now + 2
