@@ -17,7 +17,7 @@ use Rattle.golog_semantics.specs.Blocks.{moves}
 use Rattle.golog_semantics.specs.Journal.{Journal, count, is_at_rest, is_full, is_open, is_quiet, is_settled, limit, outstanding}
 use Rattle.golog_semantics.specs.Progress.{values_after, left_after}
 use Rattle.golog_semantics.specs.ProgFits.{fits}
-use Rattle.golog_semantics.specs.Answer.{answer_after, first_that_fits, is_deep, is_unanswered}
+use Rattle.golog_semantics.specs.Answer.{answer_after, is_unanswered}
 use Rattle.golog_semantics.proofs.LeftFits.{left_after-fits}
 use Rattle.golog_ways.specs.First.{head_of}
 use Rattle.golog_search.specs.declared.decision.Blocked.{Blocked}
@@ -25,7 +25,7 @@ use Rattle.golog_search.specs.declared.decision.Decision.{Decision}
 use Rattle.golog_search.specs.declared.decision.Decision.TheVariants.{Final, Step, Blocked as Blocking, Fuel, Deep}
 use Rattle.golog_search.specs.Decided.{IsAhead, IsDecided, LacksFuel, ahead, along, blocked, decision, stepping}
 use Rattle.golog_search.specs.Laws.{answer_of, blocked_answer}
-use Rattle.golog_search.proofs.Answering.{decided_answered}
+use Rattle.golog_search.proofs.Answering.{answer_cases, decided_answered}
 use Rattle.golog_journal.specs.Boards.{IsBoardList}
 use Rattle.golog_agent.specs.declared.plan.Plan.{Plan}
 use Rattle.golog_agent.specs.declared.plan.Plan.TheVariants as plan
@@ -37,22 +37,6 @@ use Rattle.golog_agent.specs.Turns.{Course}
 use Rattle.golog_agent.specs.Waiting.{has_no_step, waits}
 use Rattle.golog_agent.proofs.Growth.{seen_as}
 use Rattle.golog_agent.proofs.Resting.{rest-is-answered}
-
--- the answer, by what it is decided by
-abbrev pub answer_cases : Bool → Bool → Bool → Bool → List Move → Bool → Bool → Bool → Option Answer
-answer_cases full unanswered settled ends steps quiet near may =
-    first_that_fits
-    ((full, Some answer.Full)
-    ∷ (unanswered, Some answer.Unanswered)
-    ∷ (not settled, None)
-    ∷ (ends, Some answer.Done)
-    ∷ (is_deep steps, Some answer.Deep)
-    ∷ (not (is_empty steps), None)
-    ∷ (not quiet, None)
-    ∷ (near, Some answer.Unknown)
-    ∷ (may, Some answer.Depth)
-    ∷ [])
-    (Some answer.Stuck)
 
 all-but-one : (f : ℕ → Bool) (d : ℕ) → f d ≡ false → (a n : ℕ) → a ≤ d → d < a + n → list_all f (range_with_len a n) ≡ false
 all-but-one f d h a zero low high = absurd (omega (arith, low, high))

@@ -11,7 +11,7 @@ use Rattle.golog_semantics.specs.Journal.{Journal, is_open, is_close}
 use Rattle.golog_semantics.specs.Online.{IsOnline}
 use Rattle.golog_semantics.specs.Inline.{rounds, round_limit}
 use Rattle.golog_semantics.specs.InlineText.{report_of, scripted}
-use Rattle.golog_semantics.specs.Dealt.{Script, Dealt}
+use Rattle.golog_semantics.specs.Dealt.{Script, WasDealtWith}
 use Rattle.golog_journal.specs.Taken.{IsReady}
 use Rattle.golog_device.specs.Dealing.{DealtNow}
 use Rattle.golog_device.specs.Slots.{Standing, EachSlot, ChangesIf}
@@ -27,7 +27,7 @@ AreReady agent journal =
 abbrev pub IsDealtWith : Agent → Journal → Journal → ℕ → Standing → Standing → Type 0
 IsDealtWith agent old new device was is =
     (script : Script) → DealtNow agent device old 0 script was.meaning
-    → Dealt agent device new script is.meaning
+    → WasDealtWith agent device new script is.meaning
 
 -- a device is dealt with, and one that was closed at first stays as it was
 pub record HasServed (agent : Agent) (old new : Journal) (device : ℕ) (was is : Standing) : Type 0 where

@@ -2,6 +2,7 @@
 #![tactic(auto)]
 
 mod laws;
+mod left;
 mod plan;
 mod rounds;
 mod runner;

@@ -7,7 +7,8 @@ ghost use Rattle.golog_semantics.specs.Answer.{is_unanswered};
 ghost use Rattle.golog_semantics.specs.InlineText.{report_of};
 ghost use Rattle.golog_semantics.specs.Online.{IsOnlineSoFar};
 ghost use Rattle.golog_semantics.specs.Progress.{values_after, left_after};
-ghost use Rattle.golog_semantics.specs.Search.{final};
+ghost use Rattle.golog_semantics.specs.Search.{final, nest_limit};
+ghost use Rattle.golog_tree.specs.Nest.{nest};
 ghost use Rattle.golog_semantics.specs.Ways.{is_empty};
 ghost use Rattle.golog_semantics.specs.WellFormed.{WellFormed};
 ghost use Rattle.golog_journal.specs.Boards.{IsBoardList};
@@ -20,14 +21,15 @@ ghost use Rattle.golog_agent.specs.Run.{is_step_entry};
 ghost use Rattle.golog_agent.specs.UnderWay.{entry_for};
 ghost use Rattle.golog_agent.specs.Turns.{AttemptIs, CommitGives, Follows, IsCurrent, IsOver, MayAnswer, TurnIs};
 
+use crate::left::Left;
 use crate::plan::{Plan, planned};
 use crate::runs::Runs;
 use golog_base::{List, NoMemory};
 use golog_journal::{Board, Commit, Journal, Lead, Led, Report};
 use golog_progress::{State, start};
-use golog_search::{decide_blocked, decide_step};
+use golog_search::decide_blocked;
 use golog_semantics::{Answer, Entry, Mode, Move};
-use golog_tree::{Agent, Label, Prog, copy_prog};
+use golog_tree::{Agent, Label, Prog};
 use std::alloc::Global;
 use std::marker::Model;
 
@@ -52,7 +54,7 @@ pub struct Runner<'a> {
     /// What is known after the entries.
     state: State,
     /// The program left after them.
-    left: Prog,
+    left: Left,
     /// The device whose result is still to come.
     awaited: Option<u8>,
     /// How the program ended.
@@ -122,15 +124,6 @@ fn entry_of(label: Label) -> Entry
     }
 }
 
-/// Puts the new program in the place of the old, if there is one.
-fn replace(left: &mut Prog, new: Option<Prog>)
-    ensures { left.new ≡ unwrap_or new left.old }
-{
-    if let Some(new) = new {
-        *left = new;
-    }
-}
-
 impl<'a> Runner<'a> {
     /// A runner of this agent that has seen nothing, with room for the longest journal and its runs.
     pub fn new(alloc: Global, agent: &'a Agent) -> Result<Runner<'a>, NoMemory>
@@ -139,7 +132,7 @@ impl<'a> Runner<'a> {
     {
         let journal = Journal::new(alloc, agent)?;
         let state = start(alloc, agent)?;
-        let left = copy_prog(alloc, &agent.main)?;
+        let left = Left::new(alloc, agent)?;
         let runs = Runs::new(alloc)?;
         Ok(Runner {
             agent,
@@ -189,6 +182,7 @@ impl<'a> Runner<'a> {
         requires online { KeepsRules self.old.agent self.old.list entry }
         requires left { left_after self.old.agent (self.old.list ++ entry ∷ [])
             ≡ unwrap_or left (left_after self.old.agent self.old.list) }
+        requires nests { IfSome left (λ left. nest left ≤ nest_limit) }
         requires run { run ≡ begun_by self.old.agent self.old.list entry }
         ensures { self.new ≡ record { agent = self.old.agent; list = self.old.list ++ entry ∷ [] } }
     {
@@ -197,7 +191,7 @@ impl<'a> Runner<'a> {
         self.state.roll(self.agent, &[entry]);
         self.runs.keep(self.journal.len(), run);
         self.journal.add(entry);
-        replace(&mut self.left, left);
+        self.left.replace(left);
         self.awaited = awaited;
         self.ended = ended;
     }
@@ -241,7 +235,7 @@ impl<'a> Runner<'a> {
         requires room { is_full self.now.list ≡ false }
         ensures { PlanIs self.now.agent self.now.list result }
     {
-        match decide_step(self.alloc, self.agent, &self.left, &self.state) {
+        match self.left.decide_step(self.alloc, self.agent, &self.state) {
             Ok(Some(decision)) => planned(decision),
             Ok(None) if self.journal.is_quiet() => self.blocked_plan(),
             Ok(None) => Plan::Wait,
@@ -261,7 +255,7 @@ impl<'a> Runner<'a> {
             Mode.Must (left_after self.now.agent self.now.list))) }
         ensures { PlanIs self.now.agent self.now.list result }
     {
-        match decide_blocked(self.alloc, self.agent, &self.left, &self.state) {
+        match decide_blocked(self.alloc, self.agent, self.left.prog(), &self.state) {
             Ok(decision) => planned(decision),
             Err(_) => Plan::End(Answer::Memory),
         }
@@ -298,6 +292,7 @@ impl<'a> Runner<'a> {
         requires online { KeepsRules self.old.agent self.old.list entry }
         requires left { left_after self.old.agent (self.old.list ++ entry ∷ [])
             ≡ unwrap_or left (left_after self.old.agent self.old.list) }
+        requires nests { IfSome left (λ left. nest left ≤ nest_limit) }
         requires run { run ≡ begun_by self.old.agent self.old.list entry }
         ensures same { self.new.agent ≡ self.old.agent }
         ensures commits { CommitGives entry (B.sight board.old) (B.sight board.new) result }

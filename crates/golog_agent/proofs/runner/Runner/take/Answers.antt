@@ -34,7 +34,7 @@ pub invariant_of-self : goal.invariant_of-self
 invariant_of-self c =
     let r = c.self.inside in (
       ap (λ (j : AgentJournal). j.agent) c.add.ensures ∙ c.self.invariant.0,
-      kept-then r.agent.now r.journal.entries c.add.new.self.entries c.args.self.now c.args.entry r.state c.roll.new.self r.left c.replace.new.left c.args.left r.awaited c.awaited_after-awaited.result r.ended c.ended_after-ended.result
+      kept-then r.agent.now r.journal.entries c.add.new.self.entries c.args.self.now c.args.entry r.state c.roll.new.self r.left c.replace.new.self c.args.left r.awaited c.awaited_after-awaited.result r.ended c.ended_after-ended.result
           r.runs c.keep.new.self
           c.self.view_is c.self.invariant.1 c.requires.lawful c.requires.online c.requires.left
           (ap (λ (j : AgentJournal). j.entries) c.add.ensures) c.roll.ensures.values c.replace.ensures
