@@ -1,4 +1,5 @@
-//! Runs the program of an agent file: `golog run AGENT [DEVICES] [--inline]`.
+//! Runs, checks and asks agent files: `golog run AGENT [DEVICES] [--inline]`, `golog check AGENT`,
+//! `golog ask AGENT JOURNAL CONDITION`, `golog demo N`.
 #![tactic(auto)]
 
 use golog_base::{FileFiles, OutSink};

@@ -10,7 +10,7 @@ use Rattle.golog_semantics.specs.declared.journal.Entry.TheVariants.{Do, Test, E
 use Rattle.golog_semantics.specs.declared.journal.Reason.TheVariants.{Refused}
 use Rattle.golog_semantics.specs.Journal.{Journal, is_close, is_open, is_posted_by, posted}
 use Rattle.golog_semantics.specs.Text.{Text}
-use Rattle.golog_semantics.specs.Dealt.{Script, Dealt}
+use Rattle.golog_semantics.specs.Dealt.{Script, WasDealtWith}
 use Rattle.golog_semantics.proofs.Tests.{or_cases}
 use Rattle.golog_journal.specs.Leading.{IsBehind, is_of_program}
 use Rattle.golog_device.specs.Devices.{Restarts}
@@ -158,7 +158,7 @@ module _ (agent : Agent) (texts : List Text) (scripts : List Script) (are : AreT
 
     dealt-slot : (slot : ℕ) (a b c : Standing) → slot < n → BeginsUnless (get_or begun.refused slot false) (get_or texts slot []) a b
         → ((script : Script) → HasLeft script b.meaning → DealtNow agent slot journal 0 script b.meaning)
-        → IsDealtWith agent journal new slot b c → (o : Option Script) → slice_get scripts slot ≡ o → IfSome o (λ script. Dealt agent slot new script c.meaning)
+        → IsDealtWith agent journal new slot b c → (o : Option Script) → slice_get scripts slot ≡ o → IfSome o (λ script. WasDealtWith agent slot new script c.meaning)
     dealt-slot slot a b c within begins first runs None is = tt
     dealt-slot slot a b c within begins first runs (Some script) is =
         runs script (first script (begun-left (get_or begun.refused slot false) (get_or texts slot []) a b script begins (at-slot slot within ∙ is)))

@@ -1,78 +1,37 @@
 -- The causes exclude one another, and each outcome has one status.
-use Rattle.std.proofs.Common.{◌≡◌, Bool, ℕ, ◌<◌, List, Option, Some, None, Ok, Err, ◌⊎◌, inl, inr, arith, sym, ◌∙◌, refl, subst, IsSome}
+use Rattle.std.proofs.Common.{◌≡◌, Bool, ℕ, ◌<◌, ◌≤◌, List, [], Option, Some, None, Ok, Err, ◌⊎◌, inl, inr, arith, sym, ap, ◌∙◌, refl, subst, IsSome}
 use Rattle.golog_base.specs.Faults.{Rose}
 use Rattle.golog_base.specs.Files.{HasNone, FileHas, bytes_of}
+use Rattle.golog_base.specs.Known.{and_then_bytes}
 use Rattle.golog_base.specs.declared.mem_files.HeldFile.{HeldFile}
 use Rattle.golog_tree.specs.declared.agent.Agent.{Agent}
+use Rattle.golog_tree.specs.declared.cond.Cond.{Cond}
+use Rattle.golog_tree.specs.declared.draft.DraftTheory.{DraftTheory}
 use Rattle.golog_semantics.specs.Text.{Text}
+use Rattle.golog_semantics.specs.Progress.{values_after}
+use Rattle.golog_semantics.specs.Truth.{env_of, truth_of}
 use Rattle.golog_semantics.specs.declared.journal.Answer.{Answer}
 use Rattle.golog_semantics.specs.declared.journal.Answer.TheVariants.{Done, Stuck, Unknown, Depth, Fuel, Unanswered, Full, Deep, Memory}
 use Rattle.golog_semantics.specs.Execution.{status_of as answer_status}
-use Rattle.golog_device.specs.Slots.{Standing}
 use Rattle.golog_script.specs.declared.scripts.Script.{Script}
-use Rattle.golog_file.specs.Spelled.{SpellsAgent, IsFirstRefusal}
-use Rattle.golog_file.proofs.Excluded.{excluded, one-agent}
-use Rattle.golog_main.specs.declared.outcome.Input.TheVariants.{Agent as AgentFile, Devices as DevicesFile}
+use Rattle.golog_file.specs.Spelled.{SpellsAgent, FormSpellsWith, IsFirstRefusal}
+use Rattle.golog_file.specs.Conditions.{SpellsCond, RefusesCond}
+use Rattle.golog_file.specs.Laws.{OneCondIsSpelled, SpelledCondIsUnrefused}
+use Rattle.golog_file.specs.declared.reading.Understood.{Understood}
+use Rattle.golog_file.proofs.Answers.{without-theory}
+use Rattle.golog_file.proofs.Excluded.{excluded, one-agent, one-form, theory-same}
+use Rattle.golog_check_text.specs.Counts.{check_text}
+use Rattle.golog_words.specs.Commands.{Command, run, check, replay, ask, demo}
+use Rattle.golog_main.specs.declared.outcome.Input.{Input}
+use Rattle.golog_main.specs.declared.outcome.Input.TheVariants.{Agent as AgentFile, Devices as DevicesFile, Journal as JournalFile}
 use Rattle.golog_main.specs.declared.outcome.Outcome.{Outcome}
-use Rattle.golog_main.specs.declared.outcome.Outcome.TheVariants.{WordsRefused, ReadFault, Refused, Ran}
-use Rattle.golog_main.specs.Words.{Names}
-use Rattle.golog_main.specs.Inputs.{SpellsScripts, RefusesScripts, too_long, of_row, ReadsAgent, ReadsScripts, Reads, Tells, IsUnread, fault_text, scripts_for}
+use Rattle.golog_main.specs.declared.outcome.Outcome.TheVariants.{WordsRefused, ReadFault, Refused, Ran, Checked, Asked, Demonstrated}
+use Rattle.golog_main.specs.declared.ready.Told.{Told}
+use Rattle.golog_main.specs.Inputs.{SpellsScripts, RefusesScripts, too_long, of_row, SpellsJournal, RefusesJournal, journal_too_long, of_line, SpellsBoth, Reads, Tells, IsUnread, scripts_for}
+use Rattle.golog_main.specs.Demos.{Demonstrates, demo_text}
 use Rattle.golog_main.specs.Runs.{IsRunOf}
-use Rattle.golog_main.specs.Outcome.{Outside, RunsScripts, ComesOfAgent, ComesBehind, IsCaused, Reports, text_of, status_of}
-use Rattle.golog_main.specs.Exact.{IsCommand, Writes, Wrote, TellsRefusal, TellsFault, TellsRun, IsRunStatus, SaysItsCause, IsStopped, Answers, IsRead, GivesAgent, GivesScripts, FilesFollow, FollowsItsCause, StatusesAreExact}
-
--- ---- the status of a report
-
-abbrev Reported : ℕ → Outcome → Outside → Outside → Type 0
-Reported status outcome before after =
-    Reports status (text_of outcome) (status_of outcome) before.taken after.taken before.sink_faults after.sink_faults
-
--- a report of one outcome has its status, or is stopped
-stopped_or : (status : ℕ) (outcome : Outcome) (before after : Outside) → Reported status outcome before after → Answers status (status_of outcome) before after
-stopped_or status outcome before after (inl written) = inl written.0
-stopped_or status outcome before after (inr failed) = inr (inl (failed.0, failed.2))
-
--- no refusal and no fault has the status of a run
-low : (k : ℕ) → 0 < k → k < 10 → IsRunStatus k → ⊥
-low k some few (inl e) = omega (arith, some, e)
-low k some few (inr (more, less)) = omega (arith, few, more)
-
-neither : {P : Type 0} (status k : ℕ) → status ≡ k → 0 < k → k < 10 → IsRunStatus status → P
-neither status k is some few run = absurd (low k some few (subst IsRunStatus is run))
-
--- a run has a status of its own, or was stopped for want of memory
-run_status : (answer : Answer) → (answer_status answer ≡ 6) ⊎ IsRunStatus (answer_status answer)
-run_status Done = inr (inl refl)
-run_status Stuck = inr (inr (omega arith, omega arith))
-run_status Unknown = inr (inr (omega arith, omega arith))
-run_status Depth = inr (inr (omega arith, omega arith))
-run_status Fuel = inr (inr (omega arith, omega arith))
-run_status Unanswered = inr (inr (omega arith, omega arith))
-run_status Full = inr (inr (omega arith, omega arith))
-run_status Deep = inr (inr (omega arith, omega arith))
-run_status Memory = inl refl
-
--- ---- what comes of an agent
-
-module _ (held : Option (List HeldFile)) (first now : ℕ) (olds news : List Standing) (agent : Agent) (inline : Bool) where
-  pub agent-fault : (named : Option Text) → ComesOfAgent held first now olds news agent named inline (ReadFault DevicesFile)
-      → (name : Text) × (named ≡ Some name) × IsUnread held name first now
-  agent-fault None comes = absurd comes
-  agent-fault (Some name) (unread, same) = (name, refl, unread)
-
-  pub agent-refusal : (named : Option Text) (text : Text) → ComesOfAgent held first now olds news agent named inline (Refused DevicesFile text)
-      → (name : Text) × (named ≡ Some name) × FileHas held name (λ bytes. Tells DevicesFile (RefusesScripts agent bytes) text)
-  agent-refusal None text comes = absurd comes
-  agent-refusal (Some name) text (refused, same) = (name, refl, refused)
-
-  pub agent-run : (named : Option Text) (text : Text) (answer : Answer) → ComesOfAgent held first now olds news agent named inline (Ran text answer)
-      → RunsScripts held first now olds news agent named inline text (answer_status answer)
-  agent-run None text answer comes = comes
-  agent-run (Some name) text answer comes = comes
-
-  pub agent-no-words : (named : Option Text) → ComesOfAgent held first now olds news agent named inline WordsRefused → ⊥
-  agent-no-words None comes = comes
-  agent-no-words (Some name) comes = comes
+use Rattle.golog_main.specs.Outcome.{ComesOf, unread, refused, holds, OfFile, OfScripts, OfJournal, OfCondition, RunOf, TruthOf, Outside, IsCaused, Reports, text_of, status_of}
+use Rattle.golog_main.specs.Exact.{Writes, Shows, IsRefused, SaysItsCause, IsStopped, Answers, Says, IsRead, FileFollows, CondFollows, ScriptsFollow, JournalFollows, RunFollows, DemoFollows, TruthFollows, FollowsItsCause, StatusesAreExact}
 
 -- ---- what is read
 
@@ -81,7 +40,7 @@ held_or_not None name P none has = none
 held_or_not (Some files) name P none has = rw none at has
 
 module _ (name bytes : Text) (before after : Outside) (read : IsRead name bytes before after) where
-  pub read_has : (P : Text → Type 0) → FileHas before.held name P → P bytes
+  read_has : (P : Text → Type 0) → FileHas before.held name P → P bytes
   read_has P has = rw (read.told, read.has) at has
 
   read_is_there : HasNone before.held name → ⊥
@@ -90,7 +49,7 @@ module _ (name bytes : Text) (before after : Outside) (read : IsRead name bytes 
       let there : bytes_of read.files name ≡ Some bytes = read.has in
       cc
 
-  pub no_fault : IsUnread before.held name before.file_faults after.file_faults → ⊥
+  no_fault : IsUnread before.held name before.file_faults after.file_faults → ⊥
   no_fault (inl none) = read_is_there none
   no_fault (inr rose) = read.unfailed rose
 
@@ -98,294 +57,387 @@ module _ (name bytes : Text) (before after : Outside) (read : IsRead name bytes 
   read_so : (P : Text → Type 0) → Reads before.held name P → P bytes
   read_so P reads = subst P (sym (read_has (λ told. told ≡ reads.bytes) reads.has)) reads.so
 
+-- ---- what comes of an input, and what follows of it
+
+-- bytes that spell a value are not refused
+abbrev pub Excludes : {A : Type 0} → (Text → ℕ → ℕ → Type 0) → (Text → A → Type 0) → Type 0
+Excludes {A} Refuses Spells = (bytes : Text) (x : A) (code at : ℕ) → Spells bytes x → Refuses bytes code at → ⊥
+
+-- they spell one value
+abbrev pub SpellsOne : {A : Type 0} → (Text → A → Type 0) → Type 0
+SpellsOne {A} Spells = (bytes : Text) (x y : A) → Spells bytes x → Spells bytes y → y ≡ x
+
+module _ {A : Type 0} (before after : Outside) (input : Input) (name : Text) (Refuses : Text → ℕ → ℕ → Type 0) (Spells : Text → A → Type 0)
+    (excludes : Excludes Refuses Spells) (one : SpellsOne Spells) (outcome : Outcome) where
+  -- where a file is read and spells a value, the outcome is of that
+  pub file-spells : (P : A → Outcome → Type 0) (bytes : Text) (x : A) → IsRead name bytes before after → Spells bytes x
+      → OfFile before.held before.file_faults after.file_faults input name Refuses Spells P outcome → P x outcome
+  file-spells P bytes x read spells (unread is u) = absurd (no_fault name bytes before after read u)
+  file-spells P bytes x read spells (refused text is has) =
+      let tells = read_has name bytes before after read (λ b. Tells input (Refuses b) text) has in
+      absurd (excludes bytes x tells.code tells.at spells tells.refused)
+  file-spells P bytes x read spells (holds y reads next) =
+      subst (λ z. P z outcome) (one bytes x y spells (read_so name bytes before after read (λ b. Spells b y) reads)) next
+
+  module _ (status : ℕ) (shown : status ≡ status_of outcome) where
+    no-file : (P : A → Outcome → Type 0) → OfFile before.held before.file_faults after.file_faults input name Refuses Spells P outcome
+        → HasNone before.held name → Answers status 4 before after
+    no-file P (unread is u) none = inl (shown ∙ ap status_of is)
+    no-file P (refused text is has) none = absurd (held_or_not before.held name (λ b. Tells input (Refuses b) text) none has)
+    no-file P (holds y reads next) none = absurd (held_or_not before.held name (λ told. told ≡ reads.bytes) none reads.has)
+
+    file-refused : (P : A → Outcome → Type 0) → OfFile before.held before.file_faults after.file_faults input name Refuses Spells P outcome
+        → (bytes : Text) (code at : ℕ) → IsRead name bytes before after → Refuses bytes code at → Answers status 3 before after
+    file-refused P (unread is u) bytes code at read r = absurd (no_fault name bytes before after read u)
+    file-refused P (refused text is has) bytes code at read r = inl (shown ∙ ap status_of is)
+    file-refused P (holds y reads next) bytes code at read r =
+        absurd (excludes bytes y code at (read_so name bytes before after read (λ b. Spells b y) reads) r)
+
+    pub file-follows : (P : A → Outcome → Type 0) (Next : A → Type 0) → ((x : A) → P x outcome → Next x)
+        → OfFile before.held before.file_faults after.file_faults input name Refuses Spells P outcome
+        → FileFollows status before after Refuses Spells name Next
+    file-follows P Next so comes = record {
+      no_file = no-file P comes;
+      refused = file-refused P comes;
+      spelled = λ bytes x read spells. so x (file-spells P bytes x read spells comes);
+    }
+
+-- where a call is stopped, that follows of each input
+file-stopped : {A : Type 0} (status : ℕ) (before after : Outside) (name : Text) (Refuses : Text → ℕ → ℕ → Type 0) (Spells : Text → A → Type 0) (Next : A → Type 0)
+    → IsStopped status before after → ((x : A) → Next x) → FileFollows status before after Refuses Spells name Next
+file-stopped status before after name Refuses Spells Next stopped so = record {
+  no_file = λ none. inr stopped;
+  refused = λ bytes code at read refuses. inr stopped;
+  spelled = λ bytes x read spells. so x;
+}
+
+-- ---- the inputs of the commands
+
+pub agents-exclude : Excludes IsFirstRefusal SpellsAgent
+agents-exclude bytes agent code at spells refuses = excluded bytes agent spells code at refuses
+
+pub agents-one : SpellsOne SpellsAgent
+agents-one bytes x y s t = one-agent bytes y x t s
+
+both-exclude : Excludes IsFirstRefusal SpellsBoth
+both-exclude bytes u code at spells refuses = excluded bytes u.agent (without-theory bytes u.theory u.agent spells) code at refuses
+
+both-one : SpellsOne SpellsBoth
+both-one bytes x y s t =
+    let same : s.form ≡ t.form = one-form bytes s.form t.form s.bytes_spell.spelled t.bytes_spell.spelled in
+    let moved : FormSpellsWith t.form x.theory x.agent = subst (λ f. FormSpellsWith f x.theory x.agent) same s.form_spells in
+    let theories : y.theory ≡ x.theory = theory-same t.form y.theory x.theory t.form_spells.theory_read moved.theory_read in
+    let agents : y.agent ≡ x.agent = one-agent bytes y.agent x.agent (without-theory bytes y.theory y.agent t) (without-theory bytes x.theory x.agent s) in
+    parts y x theories agents
+  where
+    parts : (a b : Understood) → a.theory ≡ b.theory → a.agent ≡ b.agent → a ≡ b
+    parts a b e h =
+        subst (λ t. a ≡ record { theory = t; agent = b.agent }) e (subst (λ g. a ≡ record { theory = a.theory; agent = g }) h refl)
+
+module _ (agent : Agent) where
+  pub scripts-exclude : Excludes (RefusesScripts agent) (SpellsScripts agent)
+  scripts-exclude bytes listed _ _ spells (too_long long) = let small = spells.small in absurd (omega (arith, small, long))
+  scripts-exclude bytes listed _ _ spells (of_row code at small refuses row) = let k : Ok listed ≡ Err (code, at) = sym spells.spelled ∙ refuses in absurd (cc)
+
+  pub scripts-one : SpellsOne (SpellsScripts agent)
+  scripts-one bytes a b s t = let k : Ok b ≡ Ok a = sym t.spelled ∙ s.spelled in cc
+
+  journals-exclude : Excludes (RefusesJournal agent) (SpellsJournal agent)
+  journals-exclude bytes told _ _ spells (journal_too_long long) = let small = spells.small in absurd (omega (arith, small, long))
+  journals-exclude bytes told _ _ spells (of_line code at small refuses row) = let k : Ok told.report ≡ Err (code, at) = sym spells.said ∙ refuses in absurd (cc)
+
+  journals-one : SpellsOne (SpellsJournal agent)
+  journals-one bytes a b s t =
+      let k : Ok b.report ≡ Ok a.report = sym t.said ∙ s.said in
+      let reports : b.report ≡ a.report = cc in
+      parts b a (t.same ∙ sym s.same) reports
+    where
+      parts : (c d : Told) → c.bytes ≡ d.bytes → c.report ≡ d.report → c ≡ d
+      parts c d e h =
+          subst (λ b. c ≡ record { bytes = b; report = d.report }) e (subst (λ r. c ≡ record { bytes = c.bytes; report = r }) h refl)
+
+module _ (unrefused : SpelledCondIsUnrefused) (one : OneCondIsSpelled) (status : ℕ) (before after : Outside) (outcome : Outcome) (shown : status ≡ status_of outcome)
+    (theory : DraftTheory) (agent : Agent) (bytes : Text) (P : Cond → Outcome → Type 0) where
+  cond-refused : OfCondition theory agent bytes P outcome → (code at : ℕ) → RefusesCond theory agent bytes code at → Answers status 3 before after
+  cond-refused (unread is u) code at r = absurd u
+  cond-refused (refused text is tells) code at r = inl (shown ∙ ap status_of is)
+  cond-refused (holds cond spells next) code at r = absurd (unrefused theory agent bytes cond spells code at r)
+
+  cond-spelled : OfCondition theory agent bytes P outcome → (cond : Cond) → SpellsCond theory agent bytes cond → P cond outcome
+  cond-spelled (unread is u) cond s = absurd u
+  cond-spelled (refused text is tells) cond s = absurd (unrefused theory agent bytes cond s tells.code tells.at tells.refused)
+  cond-spelled (holds other spells next) cond s = subst (λ k. P k outcome) (one theory agent bytes other cond spells s) next
+
+  cond-follows : (Next : Cond → Type 0) → ((cond : Cond) → P cond outcome → Next cond) → OfCondition theory agent bytes P outcome
+      → CondFollows status before after theory agent bytes Next
+  cond-follows Next so comes = record { refused = cond-refused comes; spelled = λ cond s. so cond (cond-spelled comes cond s) }
+
+-- ---- what follows of the cause
+
+module _ (status : ℕ) (before after : Outside) where
+  ran-follows : (agent : Agent) (listed : List Script) (inline : Bool) (outcome : Outcome) → status ≡ status_of outcome → Writes before after (text_of outcome)
+      → RunOf agent listed inline before.devices after.devices outcome → RunFollows status before after agent listed inline
+  ran-follows agent listed inline (Ran text answer) is written ran =
+      inl (record {
+        text = text;
+        runs = subst (IsRunOf agent (scripts_for agent listed) inline before.devices after.devices text) (sym is) ran;
+        written = written;
+      })
+  ran-follows agent listed inline WordsRefused is written ran = absurd ran
+  ran-follows agent listed inline (ReadFault input) is written ran = absurd ran
+  ran-follows agent listed inline (Refused input text) is written ran = absurd ran
+  ran-follows agent listed inline (Checked text) is written ran = absurd ran
+  ran-follows agent listed inline (Asked truth) is written ran = absurd ran
+  ran-follows agent listed inline (Demonstrated text) is written ran = absurd ran
+
+  module _ (unrefused : SpelledCondIsUnrefused) (one : OneCondIsSpelled) (outcome : Outcome) (shown : status ≡ status_of outcome)
+      (written : Writes before after (text_of outcome)) where
+    said : (o : Outcome) → outcome ≡ o → Says status (status_of o) (text_of o) before after
+    said o is = inl (shown ∙ ap status_of is, written ∙ ap (λ x. and_then_bytes before.taken (text_of x)) is)
+
+    abbrev Runs : Agent → Bool → List Script → Outcome → Type 0
+    Runs agent inline listed = RunOf agent listed inline before.devices after.devices
+
+    scripts-follow : (agent : Agent) (named : Option Text) (inline : Bool)
+        → OfScripts before.held before.file_faults after.file_faults agent named (Runs agent inline) outcome
+        → ScriptsFollow status before after agent named (λ listed. RunFollows status before after agent listed inline)
+    scripts-follow agent None inline ran = ran-follows agent [] inline outcome shown written ran
+    scripts-follow agent (Some name) inline comes =
+        file-follows before after DevicesFile name (RefusesScripts agent) (SpellsScripts agent) (scripts-exclude agent) (scripts-one agent) outcome status shown
+        (Runs agent inline) (λ listed. RunFollows status before after agent listed inline)
+        (λ listed ran. ran-follows agent listed inline outcome shown written ran) comes
+
+    abbrev Asks : Agent → Told → Cond → Type 0
+    Asks agent told cond = TruthFollows status before after agent told cond
+
+    ask-follows : (u : Understood) (journal condition : Text)
+        → OfJournal before.held before.file_faults after.file_faults u.agent journal (λ told. OfCondition u.theory u.agent condition (λ cond. TruthOf u.agent told cond)) outcome
+        → JournalFollows status before after u.agent journal (λ told. CondFollows status before after u.theory u.agent condition (Asks u.agent told))
+    ask-follows u journal condition comes =
+        file-follows before after JournalFile journal (RefusesJournal u.agent) (SpellsJournal u.agent) (journals-exclude u.agent) (journals-one u.agent) outcome status shown
+        (λ told. OfCondition u.theory u.agent condition (λ cond. TruthOf u.agent told cond))
+        (λ told. CondFollows status before after u.theory u.agent condition (Asks u.agent told))
+        (λ told. cond-follows unrefused one status before after outcome shown u.theory u.agent condition (TruthOf u.agent told) (Asks u.agent told)
+        (λ cond is. said (Asked (truth_of u.agent (values_after u.agent told.report.entries) cond (env_of []))) is)) comes
+
+    demo-follows : (size : ℕ) → Demonstrates size before.devices after.devices outcome → DemoFollows status before after size
+    demo-follows size shows =
+        let text = demo_text size shows.report.entries shows.answer in
+        inl (
+          shown ∙ ap status_of shows.is,
+          record {
+            text = text;
+            runs = subst (Demonstrates size before.devices after.devices) shows.is shows;
+            written = written ∙ ap (λ x. and_then_bytes before.taken (text_of x)) shows.is;
+          },
+        )
+
+    follows : (spelled : Option Command) → IsCaused spelled before after outcome → FollowsItsCause status before after spelled
+    follows None is = inl (shown ∙ ap status_of is)
+    follows (Some (run name named inline)) comes =
+        file-follows before after AgentFile name IsFirstRefusal SpellsAgent agents-exclude agents-one outcome status shown
+        (λ a. OfScripts before.held before.file_faults after.file_faults a named (Runs a inline))
+        (λ a. ScriptsFollow status before after a named (λ listed. RunFollows status before after a listed inline))
+        (λ a. scripts-follow a named inline) comes
+    follows (Some (check name)) comes =
+        file-follows before after AgentFile name IsFirstRefusal SpellsAgent agents-exclude agents-one outcome status shown
+        (λ a o. o ≡ Checked (check_text a)) (λ a. Says status 0 (check_text a) before after) (λ a is. said (Checked (check_text a)) is) comes
+    follows (Some (replay name journal)) is = inl (shown ∙ ap status_of is)
+    follows (Some (ask name journal condition)) comes =
+        file-follows before after AgentFile name IsFirstRefusal SpellsBoth both-exclude both-one outcome status shown
+        (λ u. OfJournal before.held before.file_faults after.file_faults u.agent journal (λ told. OfCondition u.theory u.agent condition (λ cond. TruthOf u.agent told cond)))
+        (λ u. JournalFollows status before after u.agent journal (λ told. CondFollows status before after u.theory u.agent condition (Asks u.agent told)))
+        (λ u. ask-follows u journal condition) comes
+    follows (Some (demo size)) comes = demo-follows size comes
+
+  module _ (stop : IsStopped status before after) where
+    scripts-stopped : (agent : Agent) (named : Option Text) (inline : Bool)
+        → ScriptsFollow status before after agent named (λ listed. RunFollows status before after agent listed inline)
+    scripts-stopped agent None inline = inr stop
+    scripts-stopped agent (Some name) inline =
+        file-stopped status before after name (RefusesScripts agent) (SpellsScripts agent) (λ listed. RunFollows status before after agent listed inline) stop (λ listed. inr stop)
+
+    ask-stopped : (u : Understood) (journal condition : Text)
+        → JournalFollows status before after u.agent journal
+        (λ told. CondFollows status before after u.theory u.agent condition (λ cond. TruthFollows status before after u.agent told cond))
+    ask-stopped u journal condition =
+        file-stopped status before after journal (RefusesJournal u.agent) (SpellsJournal u.agent)
+        (λ told. CondFollows status before after u.theory u.agent condition (λ cond. TruthFollows status before after u.agent told cond)) stop
+        (λ told. record { refused = λ code at r. inr stop; spelled = λ cond s. inr stop })
+
+    stopped : (spelled : Option Command) → FollowsItsCause status before after spelled
+    stopped None = inr stop
+    stopped (Some (run name named inline)) =
+        file-stopped status before after name IsFirstRefusal SpellsAgent
+        (λ a. ScriptsFollow status before after a named (λ listed. RunFollows status before after a listed inline)) stop (λ a. scripts-stopped a named inline)
+    stopped (Some (check name)) =
+        file-stopped status before after name IsFirstRefusal SpellsAgent (λ a. Says status 0 (check_text a) before after) stop (λ a. inr stop)
+    stopped (Some (replay name journal)) = inr stop
+    stopped (Some (ask name journal condition)) =
+        file-stopped status before after name IsFirstRefusal SpellsBoth
+        (λ u. JournalFollows status before after u.agent journal
+        (λ told. CondFollows status before after u.theory u.agent condition (λ cond. TruthFollows status before after u.agent told cond))) stop
+        (λ u. ask-stopped u journal condition)
+    stopped (Some (demo size)) = inr stop
+
 -- ---- a status only where its cause is
 
-module _ (status : ℕ) (named : Option Names) (before after : Outside) where
-  failed_says : status ≡ 5 → Rose before.sink_faults after.sink_faults → SaysItsCause status named before after
+-- a run has a status of its own, or was stopped for want of memory
+data RunStatus (answer : Answer) : Type 0 where
+  is_done : answer_status answer ≡ 0 → RunStatus answer
+  is_out : answer ≡ Memory → RunStatus answer
+  is_other : 10 ≤ answer_status answer → answer_status answer ≤ 16 → RunStatus answer
+
+run_status : (answer : Answer) → RunStatus answer
+run_status Done = is_done refl
+run_status Stuck = is_other (omega arith) (omega arith)
+run_status Unknown = is_other (omega arith) (omega arith)
+run_status Depth = is_other (omega arith) (omega arith)
+run_status Fuel = is_other (omega arith) (omega arith)
+run_status Unanswered = is_other (omega arith) (omega arith)
+run_status Full = is_other (omega arith) (omega arith)
+run_status Deep = is_other (omega arith) (omega arith)
+run_status Memory = is_out refl
+
+module _ (status : ℕ) (spelled : Option Command) (before after : Outside) where
+  failed_says : status ≡ 5 → Rose before.sink_faults after.sink_faults → SaysItsCause status spelled before after
   failed_says is rose = record {
     words_refused = λ two. absurd (omega (arith, is, two));
     refused = λ three. absurd (omega (arith, is, three));
     read_fault = λ four. absurd (omega (arith, is, four));
     write_fault = λ five. rose;
     starved = λ six. absurd (omega (arith, is, six));
-    ran = neither status 5 is (omega arith) (omega arith);
+    ran = λ more. let low = more.0 in absurd (omega (arith, is, low));
+    served = λ none. absurd (omega (arith, is, none));
   }
 
-  starved_says : status ≡ 6 → IsCommand named (λ names. (after.taken ≡ before.taken) ⊎ Wrote before after (TellsRun before after status names))
-      → SaysItsCause status named before after
+  starved_says : status ≡ 6
+      → IsSome spelled × ((after.taken ≡ before.taken) ⊎ ((text : Text) × Shows status spelled before after (Ran text Memory)))
+      → SaysItsCause status spelled before after
   starved_says is cause = record {
     words_refused = λ two. absurd (omega (arith, is, two));
     refused = λ three. absurd (omega (arith, is, three));
     read_fault = λ four. absurd (omega (arith, is, four));
     write_fault = λ five. absurd (omega (arith, is, five));
     starved = λ six. cause;
-    ran = neither status 6 is (omega arith) (omega arith);
+    ran = λ more. let low = more.0 in absurd (omega (arith, is, low));
+    served = λ none. absurd (omega (arith, is, none));
   }
 
-  refused_says : status ≡ 3 → IsCommand named (λ names. Wrote before after (TellsRefusal before.held names)) → SaysItsCause status named before after
-  refused_says is cause = record {
+  refused_says : (input : Input) (text : Text) → Shows status spelled before after (Refused input text) → SaysItsCause status spelled before after
+  refused_says input text shows = let is : status ≡ 3 = shows.shown in record {
     words_refused = λ two. absurd (omega (arith, is, two));
-    refused = λ three. cause;
+    refused = λ three. (input, text, shows);
     read_fault = λ four. absurd (omega (arith, is, four));
     write_fault = λ five. absurd (omega (arith, is, five));
     starved = λ six. absurd (omega (arith, is, six));
-    ran = neither status 3 is (omega arith) (omega arith);
+    ran = λ more. let low = more.0 in absurd (omega (arith, is, low));
+    served = λ none. absurd (omega (arith, is, none));
   }
 
-  fault_says : status ≡ 4 → IsCommand named (λ names. Wrote before after (TellsFault before.held before.file_faults after.file_faults names))
-      → SaysItsCause status named before after
-  fault_says is cause = record {
+  fault_says : (input : Input) → Shows status spelled before after (ReadFault input) → SaysItsCause status spelled before after
+  fault_says input shows = let is : status ≡ 4 = shows.shown in record {
     words_refused = λ two. absurd (omega (arith, is, two));
     refused = λ three. absurd (omega (arith, is, three));
-    read_fault = λ four. cause;
+    read_fault = λ four. (input, shows);
     write_fault = λ five. absurd (omega (arith, is, five));
     starved = λ six. absurd (omega (arith, is, six));
-    ran = neither status 4 is (omega arith) (omega arith);
+    ran = λ more. let low = more.0 in absurd (omega (arith, is, low));
+    served = λ none. absurd (omega (arith, is, none));
   }
 
-  words_say : status ≡ 2 → named ≡ None → SaysItsCause status named before after
+  words_say : status ≡ 2 → IsRefused spelled → SaysItsCause status spelled before after
   words_say is cause = record {
     words_refused = λ two. cause;
     refused = λ three. absurd (omega (arith, is, three));
     read_fault = λ four. absurd (omega (arith, is, four));
     write_fault = λ five. absurd (omega (arith, is, five));
     starved = λ six. absurd (omega (arith, is, six));
-    ran = neither status 2 is (omega arith) (omega arith);
+    ran = λ more. let low = more.0 in absurd (omega (arith, is, low));
+    served = λ none. absurd (omega (arith, is, none));
   }
 
-  run_says : IsRunStatus status → IsCommand named (λ names. Wrote before after (TellsRun before after status names)) → SaysItsCause status named before after
-  run_says run cause = record {
-    words_refused = λ e. neither status 2 e (omega arith) (omega arith) run;
-    refused = λ e. neither status 3 e (omega arith) (omega arith) run;
-    read_fault = λ e. neither status 4 e (omega arith) (omega arith) run;
-    write_fault = λ e. neither status 5 e (omega arith) (omega arith) run;
-    starved = λ e. neither status 6 e (omega arith) (omega arith) run;
-    ran = λ e. cause;
+  ran_says : (text : Text) (answer : Answer) → Shows status spelled before after (Ran text answer) → 10 ≤ status → SaysItsCause status spelled before after
+  ran_says text answer shows more = record {
+    words_refused = λ two. absurd (omega (arith, more, two));
+    refused = λ three. absurd (omega (arith, more, three));
+    read_fault = λ four. absurd (omega (arith, more, four));
+    write_fault = λ five. absurd (omega (arith, more, five));
+    starved = λ six. absurd (omega (arith, more, six));
+    ran = λ within. (text, answer, shows);
+    served = λ none. absurd (omega (arith, more, none));
   }
 
-module _ (status : ℕ) (names : Names) (before after : Outside) where
-  ran_says : (text : Text) (answer : Answer) → status ≡ answer_status answer → TellsRun before after status names text → Writes before after text
-      → (status ≡ 6) ⊎ IsRunStatus status → SaysItsCause status (Some names) before after
-  ran_says text answer is tells written (inl six) =
-      starved_says status (Some names) before after six (inr (record { text = text; runs = tells; written = written }))
-  ran_says text answer is tells written (inr run) =
-      run_says status (Some names) before after run (record { text = text; runs = tells; written = written })
-
-  tells-run : (text : Text) (answer : Answer) → status ≡ answer_status answer
-      → ComesBehind before.held before.file_faults after.file_faults before.devices after.devices names (Ran text answer) → TellsRun before after status names text
-  tells-run text answer is behind = record {
-    agent = behind.agent;
-    reads = behind.reads;
-    runs =
-        subst (RunsScripts before.held before.file_faults after.file_faults before.devices after.devices behind.agent names.devices names.inline text) (sym is)
-        (agent-run before.held before.file_faults after.file_faults before.devices after.devices behind.agent names.inline names.devices text answer behind.comes);
+  served_says : (outcome : Outcome) → status ≡ 0 → Shows status spelled before after outcome → SaysItsCause status spelled before after
+  served_says outcome is shows = record {
+    words_refused = λ two. absurd (omega (arith, is, two));
+    refused = λ three. absurd (omega (arith, is, three));
+    read_fault = λ four. absurd (omega (arith, is, four));
+    write_fault = λ five. absurd (omega (arith, is, five));
+    starved = λ six. absurd (omega (arith, is, six));
+    ran = λ more. let low = more.0 in absurd (omega (arith, is, low));
+    served = λ none. (outcome, shows);
   }
 
-  tells-fault : ComesBehind before.held before.file_faults after.file_faults before.devices after.devices names (ReadFault DevicesFile)
-      → TellsFault before.held before.file_faults after.file_faults names (fault_text DevicesFile)
-  tells-fault behind =
-      let f = agent-fault before.held before.file_faults after.file_faults before.devices after.devices behind.agent names.inline names.devices behind.comes in
-      inr (refl, record { agent = behind.agent; reads = behind.reads; name = f.0; named = f.1; so = f.2 })
+-- nothing else is refused as words are
+not-words : {A : Type 0} {input : Input} {Unread : Type 0} {Refuses : Text → Type 0} {Holds : A → Type 0} {P : A → Outcome → Type 0}
+    → ComesOf input Unread Refuses Holds P WordsRefused → ((x : A) → P x WordsRefused → ⊥) → ⊥
+not-words (unread is u) never = cc
+not-words (refused text is r) never = cc
+not-words (holds x h next) never = never x next
 
-  tells-refusal : (text : Text) → ComesBehind before.held before.file_faults after.file_faults before.devices after.devices names (Refused DevicesFile text)
-      → TellsRefusal before.held names text
-  tells-refusal text behind =
-      let f = agent-refusal before.held before.file_faults after.file_faults before.devices after.devices behind.agent names.inline names.devices text behind.comes in
-      inr (record { agent = behind.agent; reads = behind.reads; name = f.0; named = f.1; so = f.2 })
+module _ (before after : Outside) where
+  not-scripts : (agent : Agent) (named : Option Text) (inline : Bool)
+      → OfScripts before.held before.file_faults after.file_faults agent named (λ listed. RunOf agent listed inline before.devices after.devices) WordsRefused → ⊥
+  not-scripts agent None inline comes = comes
+  not-scripts agent (Some file) inline comes = not-words comes (λ listed none. none)
 
-  said : (outcome : Outcome) → IsCaused (Some names) before after outcome → status ≡ status_of outcome → Writes before after (text_of outcome)
-      → SaysItsCause status (Some names) before after
-  said WordsRefused behind is written =
-      absurd (agent-no-words before.held before.file_faults after.file_faults before.devices after.devices behind.agent names.inline names.devices behind.comes)
-  said (ReadFault AgentFile) (unread, same) is written =
-      fault_says status (Some names) before after is (record { text = fault_text AgentFile; runs = inl (refl, unread); written = written })
-  said (ReadFault DevicesFile) behind is written =
-      fault_says status (Some names) before after is (record { text = fault_text DevicesFile; runs = tells-fault behind; written = written })
-  said (Refused AgentFile text) (refused, same) is written =
-      refused_says status (Some names) before after is (record { text = text; runs = inl refused; written = written })
-  said (Refused DevicesFile text) behind is written =
-      refused_says status (Some names) before after is (record { text = text; runs = tells-refusal text behind; written = written })
-  said (Ran text answer) behind is written =
-      ran_says text answer is (tells-run text answer is behind) written (subst (λ k. (k ≡ 6) ⊎ IsRunStatus k) (sym is) (run_status answer))
+  refused-words : (spelled : Option Command) → IsCaused spelled before after WordsRefused → IsRefused spelled
+  refused-words None cause = tt
+  refused-words (Some (run name named inline)) cause = not-words cause (λ agent comes. not-scripts agent named inline comes)
+  refused-words (Some (check name)) cause = not-words cause (λ agent is. cc)
+  refused-words (Some (replay name journal)) cause = tt
+  refused-words (Some (ask name journal condition)) cause =
+      not-words cause (λ u comes. not-words comes (λ told also. not-words also (λ cond is. cc)))
+  refused-words (Some (demo size)) cause = let is = cause.is in cc
 
-says : (status : ℕ) (outcome : Outcome) (named : Option Names) (before after : Outside) → IsCaused named before after outcome → Reported status outcome before after
-    → SaysItsCause status named before after
-says status outcome named before after cause (inr failed) = failed_says status named before after failed.0 failed.2
-says status outcome (Some names) before after cause (inl written) = said status names before after outcome cause written.0 written.1
-says status WordsRefused None before after cause (inl written) = words_say status None before after written.0 refl
-says status (ReadFault input) None before after cause (inl written) = absurd cause
-says status (Refused input text) None before after cause (inl written) = absurd cause
-says status (Ran text answer) None before after cause (inl written) = absurd cause
+  some-command : (spelled : Option Command) (outcome : Outcome) → (outcome ≡ WordsRefused → ⊥) → IsCaused spelled before after outcome → IsSome spelled
+  some-command None outcome never cause = absurd (never cause)
+  some-command (Some command) outcome never cause = refl
 
--- ---- and wherever its cause is
+module _ (status : ℕ) (spelled : Option Command) (before after : Outside) where
+  run-says : (text : Text) (answer : Answer) → Shows status spelled before after (Ran text answer) → RunStatus answer → SaysItsCause status spelled before after
+  run-says text answer shows (is_done zero) = served_says status spelled before after (Ran text answer) (shows.shown ∙ zero) shows
+  run-says text answer shows (is_out is) =
+      starved_says status spelled before after (shows.shown ∙ ap answer_status is)
+      (some-command before after spelled (Ran text answer) (λ e. absurd (cc)) shows.cause, inr (text, subst (λ a. Shows status spelled before after (Ran text a)) is shows))
+  run-says text answer shows (is_other more less) =
+      ran_says status spelled before after text answer shows (let is = shows.shown in omega (arith, is, more))
 
-module _ (status : ℕ) (names : Names) (before after : Outside) where
-  abbrev RanOrStopped : Agent → List Script → Type 0
-  RanOrStopped agent listed =
-      Wrote before after (λ text. IsRunOf agent (scripts_for agent listed) names.inline before.devices after.devices text status) ⊎ IsStopped status before after
+  says : (outcome : Outcome) → Shows status spelled before after outcome → SaysItsCause status spelled before after
+  says WordsRefused shows = words_say status spelled before after shows.shown (refused-words before after spelled shows.cause)
+  says (ReadFault input) shows = fault_says status spelled before after input shows
+  says (Refused input text) shows = refused_says status spelled before after input text shows
+  says (Ran text answer) shows = run-says text answer shows (run_status answer)
+  says (Checked text) shows = served_says status spelled before after (Checked text) shows.shown shows
+  says (Asked truth) shows = served_says status spelled before after (Asked truth) shows.shown shows
+  says (Demonstrated text) shows = served_says status spelled before after (Demonstrated text) shows.shown shows
 
-  -- whatever stops a call
-  stopped-follow : IsStopped status before after → FilesFollow status names before after
-  stopped-follow stopped = record {
-    no_agent_file = λ none. inr stopped;
-    no_agent = λ bytes code at read refused. inr stopped;
-    no_devices_file = λ agent name gives named none. inr stopped;
-    no_scripts = λ agent name bytes code at gives named read refused. inr stopped;
-    runs = λ agent listed gives scripts. inr stopped;
-  }
+-- ---- both
 
-  -- ---- where the agent file cannot be read, or is refused
-
-  agent-unread : IsUnread before.held names.agent before.file_faults after.file_faults → status ≡ 4 → FilesFollow status names before after
-  agent-unread unread is = record {
-    no_agent_file = λ none. inl is;
-    no_agent = λ bytes code at read refused. absurd (no_fault names.agent bytes before after read unread);
-    no_devices_file = λ agent name gives named none. inl is;
-    no_scripts = λ agent name bytes code at gives named read refused. absurd (no_fault names.agent gives.bytes before after gives.read unread);
-    runs = λ agent listed gives scripts. absurd (no_fault names.agent gives.bytes before after gives.read unread);
-  }
-
-  abbrev RefusesAgent : Text → Text → Type 0
-  RefusesAgent text bytes = Tells AgentFile (IsFirstRefusal bytes) text
-
-  pub spelled-or-refused : (text : Text) → FileHas before.held names.agent (RefusesAgent text) → (agent : Agent) → GivesAgent names before after agent → ⊥
-  spelled-or-refused text has agent gives =
-      let refuses = read_has names.agent gives.bytes before after gives.read (RefusesAgent text) has in
-      excluded gives.bytes agent gives.spells refuses.code refuses.at refuses.refused
-
-  agent-refused : (text : Text) → FileHas before.held names.agent (RefusesAgent text) → status ≡ 3 → FilesFollow status names before after
-  agent-refused text has is = record {
-    no_agent_file = λ none. absurd (held_or_not before.held names.agent (RefusesAgent text) none has);
-    no_agent = λ bytes code at read refused. inl is;
-    no_devices_file = λ agent name gives named none. absurd (spelled-or-refused text has agent gives);
-    no_scripts = λ agent name bytes code at gives named read refused. inl is;
-    runs = λ agent listed gives scripts. absurd (spelled-or-refused text has agent gives);
-  }
-
-  -- ---- where it spells an agent
-
-  module _ (one : Agent) (reads : ReadsAgent before.held names.agent one) where
-    there : HasNone before.held names.agent → ⊥
-    there none = held_or_not before.held names.agent (λ told. told ≡ reads.bytes) none reads.has
-
-    unrefused : (bytes : Text) (code at : ℕ) → IsRead names.agent bytes before after → IsFirstRefusal bytes code at → ⊥
-    unrefused bytes code at read refused = excluded bytes one (read_so names.agent bytes before after read (λ told. SpellsAgent told one) reads) code at refused
-
-    pub the-one : (agent : Agent) → GivesAgent names before after agent → agent ≡ one
-    the-one agent gives = one-agent gives.bytes agent one gives.spells (read_so names.agent gives.bytes before after gives.read (λ told. SpellsAgent told one) reads)
-
-    of-agent : ((name : Text) → names.devices ≡ Some name → HasNone before.held name → Answers status 4 before after)
-        → ((name bytes : Text) (code at : ℕ) → names.devices ≡ Some name → IsRead name bytes before after → RefusesScripts one bytes code at → Answers status 3 before after)
-        → ((listed : List Script) → GivesScripts names.devices before after one listed → RanOrStopped one listed)
-        → FilesFollow status names before after
-    of-agent no_file refused runs = record {
-      no_agent_file = λ none. absurd (there none);
-      no_agent = λ bytes code at read refused. absurd (unrefused bytes code at read refused);
-      no_devices_file = λ agent name gives named none. no_file name named none;
-      no_scripts = λ agent name bytes code at gives named read refuses.
-          refused name bytes code at named read (subst (λ a. RefusesScripts a bytes code at) (the-one agent gives) refuses);
-      runs = λ agent listed gives scripts.
-          subst (λ a. RanOrStopped a listed) (sym (the-one agent gives))
-          (runs listed (subst (λ a. GivesScripts names.devices before after a listed) (the-one agent gives) scripts));
-    }
-
-    named-same : (one other : Text) → names.devices ≡ Some one → names.devices ≡ Some other → one ≡ other
-    named-same one other e h = let k : Some one ≡ Some other = sym e ∙ h in cc
-
-    pub gives-named : (name : Text) (listed : List Script) → names.devices ≡ Some name → GivesScripts names.devices before after one listed
-        → (bytes : Text) × IsRead name bytes before after × SpellsScripts one bytes listed
-    gives-named name listed named gives = subst (λ o. GivesScripts o before after one listed) named gives
-
-    -- the devices file cannot be read
-    devices-unread : (name : Text) → names.devices ≡ Some name → IsUnread before.held name before.file_faults after.file_faults → status ≡ 4 → FilesFollow status names before after
-    devices-unread name named unread is =
-        of-agent (λ other e none. inl is)
-        (λ other bytes code at e read refused.
-        absurd (no_fault name bytes before after (subst (λ k. IsRead k bytes before after) (named-same other name e named) read) unread))
-        (λ listed gives. let g = gives-named name listed named gives in absurd (no_fault name g.0 before after g.1 unread))
-
-    -- its bytes are refused
-    abbrev RefusesThem : Text → Text → Type 0
-    RefusesThem text bytes = Tells DevicesFile (RefusesScripts one bytes) text
-
-    pub spelled-once : (bytes : Text) (listed : List Script) (code at : ℕ) → SpellsScripts one bytes listed → RefusesScripts one bytes code at → ⊥
-    spelled-once bytes listed _ _ spells (too_long long) = let small = spells.small in absurd (omega (arith, small, long))
-    spelled-once bytes listed _ _ spells (of_row code at small refused row) = let k : Ok listed ≡ Err (code, at) = sym spells.spelled ∙ refused in absurd (cc)
-
-    devices-refused : (name text : Text) → names.devices ≡ Some name → FileHas before.held name (RefusesThem text) → status ≡ 3 → FilesFollow status names before after
-    devices-refused name text named has is =
-        of-agent (λ other e none. absurd (held_or_not before.held name (RefusesThem text) (subst (HasNone before.held) (named-same other name e named) none) has))
-        (λ other bytes code at e read refused. inl is)
-        (λ listed gives.
-        let g = gives-named name listed named gives in
-        let refuses = read_has name g.0 before after g.1 (RefusesThem text) has in
-        absurd (spelled-once g.0 listed refuses.code refuses.at g.2 refuses.refused))
-
-    -- its program ran
-    same-scripts : (bytes : Text) (a b : List Script) → SpellsScripts one bytes a → SpellsScripts one bytes b → a ≡ b
-    same-scripts bytes a b s t = let k : Ok a ≡ Ok b = sym s.spelled ∙ t.spelled in cc
-
-    scripts-there : (named : Option Text) (listed : List Script) → ReadsScripts before.held one named listed → (name : Text) → named ≡ Some name
-        → Reads before.held name (λ bytes. SpellsScripts one bytes listed)
-    scripts-there None listed reads name e = absurd (cc)
-    scripts-there (Some other) listed reads name e = let k : other ≡ name = cc in subst (λ x. Reads before.held x (λ bytes. SpellsScripts one bytes listed)) k reads
-
-    pub the-scripts : (named : Option Text) (a b : List Script) → ReadsScripts before.held one named a → GivesScripts named before after one b → b ≡ a
-    the-scripts None a b reads gives = gives ∙ sym reads
-    the-scripts (Some name) a b reads (bytes, read, spells) =
-        same-scripts bytes b a spells (read_so name bytes before after read (λ told. SpellsScripts one told a) reads)
-
-    ran-follow : (text : Text) → RunsScripts before.held before.file_faults after.file_faults before.devices after.devices one names.devices names.inline text status
-        → Writes before after text → FilesFollow status names before after
-    ran-follow text runs written =
-        of-agent
-        (λ name e none.
-        let r = scripts-there names.devices runs.listed runs.reads name e in absurd (held_or_not before.held name (λ told. told ≡ r.bytes) none r.has))
-        (λ name bytes code at e read refused.
-        let r = scripts-there names.devices runs.listed runs.reads name e in
-        absurd (spelled-once bytes runs.listed code at (read_so name bytes before after read (λ told. SpellsScripts one told runs.listed) r) refused))
-        (λ listed gives.
-        subst (RanOrStopped one) (sym (the-scripts names.devices runs.listed listed runs.reads gives)) (inl (record { text = text; runs = runs.run; written = written })))
-
-  followed : (outcome : Outcome) → IsCaused (Some names) before after outcome → status ≡ status_of outcome → Writes before after (text_of outcome)
-      → FilesFollow status names before after
-  followed WordsRefused behind is written =
-      absurd (agent-no-words before.held before.file_faults after.file_faults before.devices after.devices behind.agent names.inline names.devices behind.comes)
-  followed (ReadFault AgentFile) (unread, same) is written = agent-unread unread is
-  followed (ReadFault DevicesFile) behind is written =
-      let f = agent-fault before.held before.file_faults after.file_faults before.devices after.devices behind.agent names.inline names.devices behind.comes in
-      devices-unread behind.agent behind.reads f.0 f.1 f.2 is
-  followed (Refused AgentFile text) (refused, same) is written = agent-refused text refused is
-  followed (Refused DevicesFile text) behind is written =
-      let f = agent-refusal before.held before.file_faults after.file_faults before.devices after.devices behind.agent names.inline names.devices text behind.comes in
-      devices-refused behind.agent behind.reads f.0 text f.1 f.2 is
-  followed (Ran text answer) behind is written =
-      let tells = tells-run status names before after text answer is behind in ran-follow tells.agent tells.reads text tells.runs written
-
-follows : (status : ℕ) (outcome : Outcome) (named : Option Names) (before after : Outside) → IsCaused named before after outcome → Reported status outcome before after
-    → FollowsItsCause status named before after
-follows status outcome (Some names) before after cause (inr failed) = stopped-follow status names before after (inl (failed.0, failed.2))
-follows status outcome (Some names) before after cause (inl written) = followed status names before after outcome cause written.0 written.1
-follows status WordsRefused None before after cause reports = stopped_or status WordsRefused before after reports
-follows status (ReadFault input) None before after cause reports = absurd cause
-follows status (Refused input text) None before after cause reports = absurd cause
-follows status (Ran text answer) None before after cause reports = absurd cause
-
-starved_follows : (status : ℕ) (named : Option Names) (before after : Outside) → status ≡ 6 → IsSome named → FollowsItsCause status named before after
-starved_follows status None before after is command = let no : ⊥ = cc in absurd no
-starved_follows status (Some names) before after is command = stopped-follow status names before after (inr is)
-
-starved_cause : (status : ℕ) (named : Option Names) (before after : Outside) → IsSome named → after.taken ≡ before.taken
-    → IsCommand named (λ names. (after.taken ≡ before.taken) ⊎ Wrote before after (TellsRun before after status names))
-starved_cause status None before after command nothing = let no : ⊥ = cc in absurd no
-starved_cause status (Some names) before after command nothing = inl nothing
-
-pub exact : StatusesAreExact
-exact status named before after (inl reported) = (
-  says status reported.outcome named before after reported.cause reported.report,
-  follows status reported.outcome named before after reported.cause reported.report,
+of-report : SpelledCondIsUnrefused → OneCondIsSpelled → (status : ℕ) (spelled : Option Command) (before after : Outside) (outcome : Outcome) → IsCaused spelled before after outcome
+    → Reports status (text_of outcome) (status_of outcome) before.taken after.taken before.sink_faults after.sink_faults
+    → SaysItsCause status spelled before after × FollowsItsCause status before after spelled
+of-report unrefused one status spelled before after outcome cause (inl (shown, written)) = (
+  says status spelled before after outcome (record { cause = cause; shown = shown; written = written }),
+  follows status before after unrefused one outcome shown written spelled cause,
 )
-exact status named before after (inr starved) = (
-  starved_says status named before after starved.answered (starved_cause status named before after starved.command starved.nothing),
-  starved_follows status named before after starved.answered starved.command,
+of-report unrefused one status spelled before after outcome cause (inr (five, prefix, rose)) =
+    (failed_says status spelled before after five rose, stopped status before after (inl (five, rose)) spelled)
+
+pub exact : SpelledCondIsUnrefused → OneCondIsSpelled → StatusesAreExact
+exact unrefused one status spelled before after (inl reported) = of-report unrefused one status spelled before after reported.outcome reported.cause reported.report
+exact unrefused one status spelled before after (inr starved) = (
+  starved_says status spelled before after starved.answered (starved.command, inl starved.nothing),
+  stopped status before after (inr starved.answered) spelled,
 )

@@ -9,5 +9,6 @@ mod RunsBegun
 mod RunsFit
 pub mod Served
 pub mod Reported
+mod DemoLemmas
 pub mod Fresh
 pub mod Searchless

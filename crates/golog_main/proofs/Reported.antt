@@ -1,5 +1,5 @@
 -- From a journal to its report, and to what a run of it comes to.
-use Rattle.std.proofs.Common.{◌≡◌, zero, suc, ◌≤◌, Bool, true, false, not, ◌||◌, List, [], ◌∷◌, ◌++◌, length, map, refl, sym, ap, ◌∙◌, subst, arith, inl, inr, ◌⊎◌}
+use Rattle.std.proofs.Common.{◌≡◌, zero, suc, ◌≤◌, Bool, true, false, not, ◌||◌, List, [], ◌∷◌, ◌++◌, length, map, Result, Ok, Err, IfOk, refl, sym, ap, ◌∙◌, subst, arith, inl, inr, ◌⊎◌}
 use Rattle.std.specs.Prelude.{Contains}
 use Rattle.std.specs.List.{list_any, list_all}
 use Rattle.std.proofs.lemmas.Bool.{le-leb}
@@ -11,7 +11,7 @@ use Rattle.golog_semantics.specs.declared.journal.Answer.{Answer}
 use Rattle.golog_semantics.specs.declared.journal.Report.{Report}
 use Rattle.golog_semantics.specs.Journal.{Journal, devices, has_end, is_end, is_close, is_open}
 use Rattle.golog_semantics.specs.Inline.{rounds, inline_journal, Scripted}
-use Rattle.golog_semantics.specs.InlineText.{report_of, scripted}
+use Rattle.golog_semantics.specs.InlineText.{inline_report, report_of, scripted}
 use Rattle.golog_semantics.specs.Dealt.{Script}
 use Rattle.golog_semantics.specs.Text.{Text, at_each, report_text}
 use Rattle.golog_semantics.specs.Reports.{fits_entry, IsReport}
@@ -24,7 +24,9 @@ use Rattle.golog_journal.specs.Boards.{IsBoardList, is_lawful}
 use Rattle.golog_journal.proofs.Lawful.{lawful-parts}
 use Rattle.golog_device.specs.Slots.{Standing, HaveBegun}
 use Rattle.golog_agent.specs.Rounds.{FollowsRounds}
-use Rattle.golog_main.specs.Runs.{FollowsScripts, IsCutShort, IsReportOf, IsRunOf, ReportsRun, RunsOn}
+use Rattle.golog_agent.specs.Short.{IsShort}
+use Rattle.golog_main.specs.Demos.{is_short}
+use Rattle.golog_main.specs.Runs.{AllTellLeft, AreTextsOf, FollowsScripts, IsCutShort, IsReportOf, IsRunOf, ReportsRun, RunsOn}
 use Rattle.golog_main.proofs.Begun.{as-many, dealt-with, tell-left, none-stands}
 use Rattle.golog_main.proofs.Inlined.{all-the-way, at_each-append, cut-short}
 use Rattle.golog_main.proofs.RunsFit.{runs-fit, runs-grow}
@@ -151,3 +153,30 @@ ended agent scripts inline olds news report of_journal =
     let journal = of_journal.journal in
     let whole = (whole_is_online agent (report_of agent journal)).ended of_journal.online in
     ap (λ (r : Report). has_end r.entries) of_journal.is ∙ (and_cases (has_end journal) (not (list_any (λ d. is_open d journal) (devices agent))) whole).0
+
+-- a report of a run for all scripts of these texts is one for these
+pub for-scripts : {E : Type 0} (agent : Agent) (texts : List Text) (scripts : List Script) (inline : Bool) (olds news : List Standing) (r : Result Report E)
+    → AreTextsOf texts scripts → IfOk r (ReportsRun agent texts inline olds news) → IfOk r (IsReportOf agent scripts inline olds news)
+for-scripts agent texts scripts inline olds news (Ok report) are of = of scripts are
+for-scripts agent texts scripts inline olds news (Err e) are of = of
+
+-- where neither memory nor fuel was wanted, and the devices tell what is left of their scripts, it is the report of the rounds
+pub as-rounds : (agent : Agent) (scripts : List Script) (olds news : List Standing) (report : Report) (answer : Answer) → IsReportOf agent scripts true olds news report
+    → Contains report.entries (End answer) → is_short answer ≡ false → AllTellLeft agent olds → report ≡ inline_report agent scripts
+as-rounds agent scripts olds news report answer of_journal ends long tell = of_journal.is ∙ ap (report_of agent) (whole (of_journal.scripted refl tell))
+  where
+    journal : Journal
+    journal = of_journal.journal
+
+    there : Contains journal (End answer)
+    there = subst (λ (r : Report). Contains r.entries (End answer)) of_journal.is ends
+
+    by-answer : {A : Type 0} → IsShort answer → A
+    by-answer (inl e) = let no : true ≡ false = sym (ap is_short e) ∙ long in absurd (cc)
+    by-answer (inr e) = let no : true ≡ false = sym (ap is_short e) ∙ long in absurd (cc)
+
+    whole : FollowsRounds agent scripts [] journal → journal ≡ inline_journal agent (map scripted scripts)
+    whole (inl all) = all ∙ inline-is agent (map scripted scripts)
+    whole (inr (before, later, closings, a, short, split, closes, cut)) =
+        let same : answer ≡ a = only-end agent before closings a answer (subst (IsBoardList agent) cut of_journal.lawful) closes (subst (λ j. Contains j (End answer)) cut there) in
+        by-answer (subst IsShort (sym same) short)

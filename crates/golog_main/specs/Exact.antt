@@ -1,22 +1,31 @@
 -- Each status comes exactly where its cause is.
-use Rattle.std.specs.Prelude.{◌≡◌, ◌⊎◌, ℕ, ◌≤◌, List, [], Option, None, Some, IsSomeAnd}
+use Rattle.std.specs.Prelude.{◌≡◌, ◌⊎◌, ⊤, ℕ, ◌≤◌, Bool, List, [], Option, None, Some, IsSome}
 use Rattle.golog_base.specs.Faults.{Rose}
-use Rattle.golog_base.specs.Files.{HasNone, FileHas, bytes_of}
+use Rattle.golog_base.specs.Files.{HasNone, bytes_of}
 use Rattle.golog_base.specs.Known.{and_then_bytes}
 use Rattle.golog_base.specs.declared.mem_files.HeldFile.{HeldFile}
 use Rattle.golog_tree.specs.declared.agent.Agent.{Agent}
+use Rattle.golog_tree.specs.declared.cond.Cond.{Cond}
+use Rattle.golog_tree.specs.declared.draft.DraftTheory.{DraftTheory}
+use Rattle.golog_semantics.specs.declared.journal.Answer.{Answer}
+use Rattle.golog_semantics.specs.declared.journal.Answer.TheVariants.{Memory}
 use Rattle.golog_semantics.specs.Text.{Text}
+use Rattle.golog_semantics.specs.Progress.{values_after}
+use Rattle.golog_semantics.specs.Truth.{env_of, truth_of}
 use Rattle.golog_script.specs.declared.scripts.Script.{Script}
 use Rattle.golog_file.specs.Spelled.{SpellsAgent, IsFirstRefusal}
-use Rattle.golog_main.specs.declared.outcome.Input.TheVariants.{Agent as AgentFile, Devices as DevicesFile}
-use Rattle.golog_main.specs.Words.{Names}
-use Rattle.golog_main.specs.Inputs.{SpellsScripts, RefusesScripts, ReadsAgent, Tells, IsUnread, fault_text, scripts_for}
+use Rattle.golog_file.specs.Conditions.{SpellsCond, RefusesCond}
+use Rattle.golog_file.specs.declared.reading.Understood.{Understood}
+use Rattle.golog_check_text.specs.Counts.{check_text}
+use Rattle.golog_words.specs.Commands.{Command, run, check, replay, ask, demo}
+use Rattle.golog_main.specs.declared.outcome.Input.{Input}
+use Rattle.golog_main.specs.declared.outcome.Outcome.{Outcome}
+use Rattle.golog_main.specs.declared.outcome.Outcome.TheVariants.{ReadFault, Refused, Ran, Demonstrated}
+use Rattle.golog_main.specs.declared.ready.Told.{Told}
+use Rattle.golog_main.specs.Inputs.{SpellsScripts, RefusesScripts, SpellsJournal, RefusesJournal, SpellsBoth, scripts_for}
+use Rattle.golog_main.specs.Demos.{Demonstrates}
 use Rattle.golog_main.specs.Runs.{IsRunOf}
-use Rattle.golog_main.specs.Outcome.{Outside, RunsScripts, Ends}
-
--- the words are a command, and this is so of the files that they name
-abbrev pub IsCommand : Option Names → (Names → Type 0) → Type 0
-IsCommand named P = IsSomeAnd named P
+use Rattle.golog_main.specs.Outcome.{Outside, Ends, IsCaused, status_of, text_of, truth_line}
 
 -- the text was written whole
 abbrev pub Writes : Outside → Outside → Text → Type 0
@@ -28,53 +37,41 @@ pub record Wrote (before after : Outside) (Runs : Text → Type 0) : Type 0 wher
   pub runs : Runs text
   pub written : Writes before after text
 
--- the agent file spells an agent, and the words name a devices file of which this is so
-pub record OfDevices (held : Option (List HeldFile)) (names : Names) (P : Agent → Text → Type 0) : Type 0 where
-  pub agent : Agent
-  pub reads : ReadsAgent held names.agent agent
-  pub name : Text
-  pub named : names.devices ≡ Some name
-  pub so : P agent name
-
--- the text tells the first refusal of the files: that of the agent file; or, where that spells an agent,
--- that of the devices file
-abbrev pub TellsRefusal : Option (List HeldFile) → Names → Text → Type 0
-TellsRefusal held names text =
-    FileHas held names.agent (λ bytes. Tells AgentFile (IsFirstRefusal bytes) text)
-    ⊎ OfDevices held names (λ agent name.
-    FileHas held name (λ bytes. Tells DevicesFile (RefusesScripts agent bytes) text))
-
--- the text tells which file cannot be read; where it is the devices file, the agent file spells an agent
-abbrev pub TellsFault : Option (List HeldFile) → ℕ → ℕ → Names → Text → Type 0
-TellsFault held faults_before faults_after names text =
-    ((text ≡ fault_text AgentFile) × IsUnread held names.agent faults_before faults_after)
-    ⊎ ((text ≡ fault_text DevicesFile)
-    × OfDevices held names (λ agent name. IsUnread held name faults_before faults_after))
-
--- the text is that of a run of the agent and the scripts that the files spell
-pub record TellsRun (before after : Outside) (status : ℕ) (names : Names) (text : Text) : Type 0 where
-  pub agent : Agent
-  pub reads : ReadsAgent before.held names.agent agent
-  pub runs : RunsScripts before.held before.file_faults after.file_faults before.devices after.devices
-      agent names.devices names.inline text status
-
 -- ---- a status only where its cause is
+
+-- the outcome has its cause and this status, and its text was written whole
+pub record Shows (status : ℕ) (spelled : Option Command) (before after : Outside) (outcome : Outcome) : Type 0 where
+  pub cause : IsCaused spelled before after outcome
+  pub shown : status ≡ status_of outcome
+  pub written : Writes before after (text_of outcome)
+
+-- the words are those of a run, and this is so of it
+abbrev pub IfRun : Option Command → (Text → Option Text → Bool → Type 0) → Type 0
+IfRun None P = ⊥
+IfRun (Some (run agent devices inline)) P = P agent devices inline
+IfRun (Some command) P = ⊤
+
+-- the words are no command that is served
+abbrev pub IsRefused : Option Command → Type 0
+IsRefused None = ⊤
+IsRefused (Some (replay agent journal)) = ⊤
+IsRefused (Some command) = ⊥
 
 -- the status of a run that was not stopped for want of memory
 abbrev pub IsRunStatus : ℕ → Type 0
 IsRunStatus status = (status ≡ 0) ⊎ ((10 ≤ status) × (status ≤ 16))
 
--- what each status says
-pub record SaysItsCause (status : ℕ) (named : Option Names) (before after : Outside) : Type 0 where
-  pub words_refused : status ≡ 2 → named ≡ None
-  pub refused : status ≡ 3 → IsCommand named (λ names. Wrote before after (TellsRefusal before.held names))
-  pub read_fault : status ≡ 4 → IsCommand named
-      (λ names. Wrote before after (TellsFault before.held before.file_faults after.file_faults names))
+-- what each status says: which outcome it is of, and so its cause
+pub record SaysItsCause (status : ℕ) (spelled : Option Command) (before after : Outside) : Type 0 where
+  pub words_refused : status ≡ 2 → IsRefused spelled
+  pub refused : status ≡ 3 → (input : Input) × (text : Text) × Shows status spelled before after (Refused input text)
+  pub read_fault : status ≡ 4 → (input : Input) × Shows status spelled before after (ReadFault input)
   pub write_fault : status ≡ 5 → Rose before.sink_faults after.sink_faults
-  pub starved : status ≡ 6 → IsCommand named
-      (λ names. (after.taken ≡ before.taken) ⊎ Wrote before after (TellsRun before after status names))
-  pub ran : IsRunStatus status
-      → IsCommand named (λ names. Wrote before after (TellsRun before after status names))
+  pub starved : status ≡ 6 → IsSome spelled × ((after.taken ≡ before.taken)
+      ⊎ ((text : Text) × Shows status spelled before after (Ran text Memory)))
+  pub ran : (10 ≤ status) × (status ≤ 16)
+      → (text : Text) × (answer : Answer) × Shows status spelled before after (Ran text answer)
+  pub served : status ≡ 0 → (outcome : Outcome) × Shows status spelled before after outcome
 
 -- ---- and wherever its cause is
 
@@ -86,6 +83,11 @@ IsStopped status before after = ((status ≡ 5) × Rose before.sink_faults after
 abbrev pub Answers : ℕ → ℕ → Outside → Outside → Type 0
 Answers status wanted before after = (status ≡ wanted) ⊎ IsStopped status before after
 
+-- this status with this text written whole, or one that comes in its place
+abbrev pub Says : ℕ → ℕ → Text → Outside → Outside → Type 0
+Says status wanted text before after =
+    ((status ≡ wanted) × Writes before after text) ⊎ IsStopped status before after
+
 -- what is held is told and has these bytes under the name, and no read failed
 pub record IsRead (name bytes : Text) (before after : Outside) : Type 0 where
   pub files : List HeldFile
@@ -93,40 +95,69 @@ pub record IsRead (name bytes : Text) (before after : Outside) : Type 0 where
   pub has : bytes_of files name ≡ Some bytes
   pub unfailed : ¬ Rose before.file_faults after.file_faults
 
--- the file is read and spells the agent
-pub record GivesAgent (names : Names) (before after : Outside) (agent : Agent) : Type 0 where
-  pub bytes : Text
-  pub read : IsRead names.agent bytes before after
-  pub spells : SpellsAgent bytes agent
+module _ (status : ℕ) (before after : Outside) where
+  -- What follows of a file: where there is none of the name, where its bytes are refused, and where they spell a
+  -- value.
+  pub record FileFollows {A : Type 0} (Refuses : Text → ℕ → ℕ → Type 0) (Spells : Text → A → Type 0) (name : Text)
+      (Next : A → Type 0) : Type 0 where
+    pub no_file : HasNone before.held name → Answers status 4 before after
+    pub refused : (bytes : Text) (code at : ℕ) → IsRead name bytes before after → Refuses bytes code at
+        → Answers status 3 before after
+    pub spelled : (bytes : Text) (x : A) → IsRead name bytes before after → Spells bytes x → Next x
 
--- and the devices file is read and spells these scripts, or there is none
-abbrev pub GivesScripts : Option Text → Outside → Outside → Agent → List Script → Type 0
-GivesScripts None before after agent listed = listed ≡ []
-GivesScripts (Some name) before after agent listed =
-    (bytes : Text) × IsRead name bytes before after × SpellsScripts agent bytes listed
+  -- the same of a condition, which stands among the words
+  pub record CondFollows (theory : DraftTheory) (agent : Agent) (bytes : Text) (Next : Cond → Type 0)
+      : Type 0 where
+    pub refused : (code at : ℕ) → RefusesCond theory agent bytes code at → Answers status 3 before after
+    pub spelled : (cond : Cond) → SpellsCond theory agent bytes cond → Next cond
 
--- what each cause comes to, for files of these names
-pub record FilesFollow (status : ℕ) (names : Names) (before after : Outside) : Type 0 where
-  pub no_agent_file : HasNone before.held names.agent → Answers status 4 before after
-  pub no_agent : (bytes : Text) (code at : ℕ) → IsRead names.agent bytes before after
-      → IsFirstRefusal bytes code at → Answers status 3 before after
-  pub no_devices_file : (agent : Agent) (name : Text) → GivesAgent names before after agent
-      → names.devices ≡ Some name → HasNone before.held name → Answers status 4 before after
-  pub no_scripts : (agent : Agent) (name bytes : Text) (code at : ℕ) → GivesAgent names before after agent
-      → names.devices ≡ Some name → IsRead name bytes before after → RefusesScripts agent bytes code at
-      → Answers status 3 before after
-  pub runs : (agent : Agent) (listed : List Script) → GivesAgent names before after agent
-      → GivesScripts names.devices before after agent listed
-      → Wrote before after (λ text.
-      IsRunOf agent (scripts_for agent listed) names.inline before.devices after.devices text status)
+  abbrev pub AgentFollows : Text → (Agent → Type 0) → Type 0
+  AgentFollows = FileFollows IsFirstRefusal SpellsAgent
+
+  -- the same, with its theory
+  abbrev pub BothFollow : Text → (Understood → Type 0) → Type 0
+  BothFollow = FileFollows IsFirstRefusal SpellsBoth
+
+  -- without a devices file there are no scripts
+  abbrev pub ScriptsFollow : Agent → Option Text → (List Script → Type 0) → Type 0
+  ScriptsFollow agent None Next = Next []
+  ScriptsFollow agent (Some name) Next = FileFollows (RefusesScripts agent) (SpellsScripts agent) name Next
+
+  abbrev pub JournalFollows : Agent → Text → (Told → Type 0) → Type 0
+  JournalFollows agent = FileFollows (RefusesJournal agent) (SpellsJournal agent)
+
+  -- the text is of a run of the agent and these scripts, and the status that of its end; or the call was stopped
+  abbrev pub RunFollows : Agent → List Script → Bool → Type 0
+  RunFollows agent listed inline =
+      Wrote before after
+      (λ text. IsRunOf agent (scripts_for agent listed) inline before.devices after.devices text status)
       ⊎ IsStopped status before after
 
--- what no command comes to, and what each cause comes to
-abbrev pub FollowsItsCause : ℕ → Option Names → Outside → Outside → Type 0
-FollowsItsCause status None before after = Answers status 2 before after
-FollowsItsCause status (Some names) before after = FilesFollow status names before after
+  -- the text is that of a demo of this size; or the call was stopped
+  abbrev pub DemoFollows : ℕ → Type 0
+  DemoFollows size =
+      ((status ≡ 0)
+      × Wrote before after (λ text. Demonstrates size before.devices after.devices (Demonstrated text)))
+      ⊎ IsStopped status before after
+
+  abbrev pub TruthFollows : Agent → Told → Cond → Type 0
+  TruthFollows agent told cond =
+      Says status 0 (truth_line (truth_of agent (values_after agent told.report.entries) cond (env_of [])))
+      before after
+
+  -- what words come to that are no command, and what each input of a command does
+  abbrev pub FollowsItsCause : Option Command → Type 0
+  FollowsItsCause None = Answers status 2 before after
+  FollowsItsCause (Some (run agent devices inline)) =
+      AgentFollows agent (λ a. ScriptsFollow a devices (λ listed. RunFollows a listed inline))
+  FollowsItsCause (Some (check agent)) = AgentFollows agent (λ a. Says status 0 (check_text a) before after)
+  FollowsItsCause (Some (replay agent journal)) = Answers status 2 before after
+  FollowsItsCause (Some (ask agent journal condition)) =
+      BothFollow agent (λ u. JournalFollows u.agent journal (λ told.
+      CondFollows u.theory u.agent condition (λ cond. TruthFollows u.agent told cond)))
+  FollowsItsCause (Some (demo size)) = DemoFollows size
 
 abbrev pub StatusesAreExact : Type 0
 StatusesAreExact =
-    (status : ℕ) (named : Option Names) (before after : Outside) → Ends status named before after
-    → SaysItsCause status named before after × FollowsItsCause status named before after
+    (status : ℕ) (spelled : Option Command) (before after : Outside) → Ends status spelled before after
+    → SaysItsCause status spelled before after × FollowsItsCause status before after spelled

@@ -5,22 +5,23 @@ use Rattle.golog_semantics.specs.declared.journal.Report.{Report}
 use Rattle.golog_semantics.specs.Certain.{JournalIsSo}
 use Rattle.golog_semantics.specs.Reports.{Spells}
 use Rattle.golog_semantics.specs.Text.{Text}
-use Rattle.golog_main.specs.Exact.{IsCommand, IsRunStatus, Writes}
+use Rattle.golog_words.specs.Commands.{Command}
+use Rattle.golog_main.specs.Exact.{IfRun, IsRunStatus, Writes}
 use Rattle.golog_main.specs.Inputs.{ReadsAgent}
 use Rattle.golog_main.specs.Outcome.{Outside}
-use Rattle.golog_main.specs.Words.{Names}
 
 -- the agent file spells an agent, and the journal that was written is so in each world that agrees with the
 -- entries before it
-pub record PrintsWhatIsSo (before after : Outside) (names : Names) : Type 0 where
+pub record PrintsWhatIsSo (before after : Outside) (name : Text) : Type 0 where
   pub agent : Agent
-  pub reads : ReadsAgent before.held names.agent agent
+  pub reads : ReadsAgent before.held name agent
   pub text : Text
   pub report : Report
   pub spelled : Spells agent text report
   pub written : Writes before after text
   pub so : JournalIsSo agent report.entries
 
--- where the status is that of a run, the words are a command, and the journal that was written is so
-abbrev pub RunsAreSo : ℕ → Option Names → Outside → Outside → Type 0
-RunsAreSo status named before after = IsRunStatus status → IsCommand named (PrintsWhatIsSo before after)
+-- where the status is that of a run, the words are a command, and of a run the journal that was written is so
+abbrev pub RunsAreSo : ℕ → Option Command → Outside → Outside → Type 0
+RunsAreSo status spelled before after =
+    IsRunStatus status → IfRun spelled (λ agent devices inline. PrintsWhatIsSo before after agent)

@@ -1,6 +1,6 @@
-pub mod Words
 pub mod Inputs
 pub mod Runs
+pub mod Demos
 pub mod Outcome
 pub mod Exact
 pub mod InWorlds

@@ -1,78 +1,136 @@
 -- What a call of the program comes to: each outcome with its cause, its text and its status.
-use Rattle.std.specs.Prelude.{◌≡◌, ◌⊎◌, ℕ, ◌<◌, Bool, List, All, Option, None, Some, IsSome, codes, length}
+use Rattle.std.specs.Prelude.{◌≡◌, ◌⊎◌, ℕ, ◌<◌, Bool, true, false, not, List, [], All, Option, None, Some, IsSome, codes, length}
 use Rattle.golog_base.specs.Faults.{Rose}
-use Rattle.golog_base.specs.Files.{FileHas, file_limit}
+use Rattle.golog_base.specs.Files.{FileHas}
 use Rattle.golog_base.specs.Known.{and_then_bytes, AddsPrefix}
 use Rattle.golog_base.specs.declared.mem_files.HeldFile.{HeldFile}
 use Rattle.golog_tree.specs.declared.agent.Agent.{Agent}
+use Rattle.golog_tree.specs.declared.cond.Cond.{Cond}
+use Rattle.golog_tree.specs.declared.cond.Truth.{Truth}
+use Rattle.golog_tree.specs.declared.cond.Truth.TheVariants.{Yes, No, Unknown}
+use Rattle.golog_tree.specs.declared.draft.DraftTheory.{DraftTheory}
 use Rattle.golog_semantics.specs.Text.{Text}
 use Rattle.golog_semantics.specs.Execution.{status_of as answer_status}
+use Rattle.golog_semantics.specs.Progress.{values_after}
+use Rattle.golog_semantics.specs.Truth.{env_of, truth_of}
 use Rattle.golog_semantics.specs.WellFormed.{WellFormed}
 use Rattle.golog_device.specs.Slots.{Standing}
 use Rattle.golog_script.specs.declared.scripts.Script.{Script}
 use Rattle.golog_script.specs.ScriptTexts.{HasTexts}
-use Rattle.golog_file.specs.Spelled.{IsFirstRefusal}
+use Rattle.golog_file.specs.Spelled.{SpellsAgent, IsFirstRefusal}
+use Rattle.golog_file.specs.Conditions.{SpellsCond, RefusesCond}
+use Rattle.golog_file.specs.declared.reading.Understood.{Understood}
+use Rattle.golog_check_text.specs.Counts.{check_text}
+use Rattle.golog_words.specs.Commands.{Command, run, check, replay, ask, demo}
 use Rattle.golog_main.specs.declared.outcome.Input.{Input}
-use Rattle.golog_main.specs.declared.outcome.Input.TheVariants.{Agent as AgentFile, Devices as DevicesFile}
+use Rattle.golog_main.specs.declared.outcome.Input.TheVariants.{Agent as AgentFile, Devices as DevicesFile, Journal as JournalFile, Condition}
 use Rattle.golog_main.specs.declared.outcome.Outcome.{Outcome}
-use Rattle.golog_main.specs.declared.outcome.Outcome.TheVariants.{WordsRefused, ReadFault, Refused, Ran}
+use Rattle.golog_main.specs.declared.outcome.Outcome.TheVariants.{WordsRefused, ReadFault, Refused, Ran, Checked, Asked, Demonstrated}
 use Rattle.golog_main.specs.declared.ready.Ready.{Ready}
+use Rattle.golog_main.specs.declared.ready.Told.{Told}
 use Rattle.golog_main.specs.declared.ready.Unready.{Unready}
 use Rattle.golog_main.specs.declared.ready.Unready.TheVariants.{Ended, Memory}
-use Rattle.golog_main.specs.Words.{Names}
-use Rattle.golog_main.specs.Inputs.{line, fault_text, scripts_for, RefusesScripts, ReadsAgent, ReadsScripts, Tells, IsUnread}
+use Rattle.golog_main.specs.Inputs.{line, fault_text, input_limit, scripts_for, SpellsScripts, RefusesScripts, SpellsJournal, RefusesJournal, SpellsBoth, ReadsAgent, ReadsScripts, Reads, Tells, IsUnread}
+use Rattle.golog_main.specs.Demos.{Demonstrates}
 use Rattle.golog_main.specs.Runs.{IsRunOf}
 
 -- ---- what is written, and the status
+
+-- the line that tells a truth
+abbrev pub truth_line : Truth → Text
+truth_line Yes = line (codes "true")
+truth_line No = line (codes "false")
+truth_line Unknown = line (codes "unknown")
 
 abbrev pub text_of : Outcome → Text
 text_of WordsRefused = line (codes "words refused")
 text_of (ReadFault input) = fault_text input
 text_of (Refused input text) = text
 text_of (Ran text answer) = text
+text_of (Checked text) = text
+text_of (Asked truth) = truth_line truth
+text_of (Demonstrated text) = text
 
 abbrev pub status_of : Outcome → ℕ
 status_of WordsRefused = 2
 status_of (ReadFault input) = 4
 status_of (Refused input text) = 3
 status_of (Ran text answer) = answer_status answer
+status_of (Checked text) = 0
+status_of (Asked truth) = 0
+status_of (Demonstrated text) = 0
 
 -- ---- the causes
 
--- What is held under names, how often a call of the files had failed before and after the call, and how the
--- devices stood before and after it.
+-- What comes of an input: it can't be read, it is refused, or it holds a value, and the outcome is of that.
+pub data ComesOf {A : Type 0} (input : Input) (Unread : Type 0) (Refuses : Text → Type 0) (Holds : A → Type 0)
+    (Next : A → Outcome → Type 0) (outcome : Outcome) : Type 0 where
+  unread : outcome ≡ ReadFault input → Unread → ComesOf input Unread Refuses Holds Next outcome
+  refused : (text : Text) → outcome ≡ Refused input text → Refuses text
+      → ComesOf input Unread Refuses Holds Next outcome
+  holds : (x : A) → Holds x → Next x outcome → ComesOf input Unread Refuses Holds Next outcome
+
+-- what a run of the agent with these scripts comes to: its text is that of an online execution
+abbrev pub RunOf : Agent → List Script → Bool → List Standing → List Standing → Outcome → Type 0
+RunOf agent listed inline olds news (Ran text answer) =
+    IsRunOf agent (scripts_for agent listed) inline olds news text (answer_status answer)
+RunOf agent listed inline olds news outcome = ⊥
+
+-- the truth of a condition after the entries of a journal
+abbrev pub TruthOf : Agent → Told → Cond → Outcome → Type 0
+TruthOf agent told cond outcome =
+    outcome ≡ Asked (truth_of agent (values_after agent told.report.entries) cond (env_of []))
+
+-- What is held under names, and how often a call of the files had failed before and after the call.
+module _ (held : Option (List HeldFile)) (faults_before faults_after : ℕ) where
+  -- what comes of a file: no such file is held or a call failed, its bytes are refused, or they spell a value
+  abbrev pub OfFile : {A : Type 0} → Input → Text → (Text → ℕ → ℕ → Type 0) → (Text → A → Type 0)
+      → (A → Outcome → Type 0) → Outcome → Type 0
+  OfFile input name Refuses Spells =
+      ComesOf input (IsUnread held name faults_before faults_after)
+      (λ text. FileHas held name (λ bytes. Tells input (Refuses bytes) text))
+      (λ x. Reads held name (λ bytes. Spells bytes x))
+
+  -- what comes of the agent file
+  abbrev pub OfAgent : Text → (Agent → Outcome → Type 0) → Outcome → Type 0
+  OfAgent name = OfFile AgentFile name IsFirstRefusal SpellsAgent
+
+  -- the same, with its theory, over which conditions are read
+  abbrev pub OfBoth : Text → (Understood → Outcome → Type 0) → Outcome → Type 0
+  OfBoth name = OfFile AgentFile name IsFirstRefusal SpellsBoth
+
+  -- what comes of the devices file, if there is one; without it there are no scripts
+  abbrev pub OfScripts : Agent → Option Text → (List Script → Outcome → Type 0) → Outcome → Type 0
+  OfScripts agent None Next = Next []
+  OfScripts agent (Some name) Next = OfFile DevicesFile name (RefusesScripts agent) (SpellsScripts agent) Next
+
+  -- what comes of the journal file
+  abbrev pub OfJournal : Agent → Text → (Told → Outcome → Type 0) → Outcome → Type 0
+  OfJournal agent name = OfFile JournalFile name (RefusesJournal agent) (SpellsJournal agent)
+
+-- what comes of the condition, whose bytes stand among the words
+abbrev pub OfCondition : DraftTheory → Agent → Text → (Cond → Outcome → Type 0) → Outcome → Type 0
+OfCondition theory agent bytes =
+    ComesOf Condition ⊥ (Tells Condition (RefusesCond theory agent bytes)) (SpellsCond theory agent bytes)
+
+-- The cause of each outcome of a command, its inputs in the order in which they are read. The standings are those of
+-- the devices before and after the call.
 module _ (held : Option (List HeldFile)) (faults_before faults_after : ℕ) (olds news : List Standing) where
-  -- the scripts of the devices are read, and the program comes to this with them
-  pub record RunsScripts (agent : Agent) (named : Option Text) (inline : Bool) (text : Text) (status : ℕ)
-      : Type 0 where
-    pub listed : List Script
-    pub reads : ReadsScripts held agent named listed
-    pub run : IsRunOf agent (scripts_for agent listed) inline olds news text status
-
-  -- the cause of an outcome of an agent, for the devices file that the words name, if they name one
-  abbrev pub ComesOfAgent : Agent → Option Text → Bool → Outcome → Type 0
-  ComesOfAgent agent (Some name) inline (ReadFault DevicesFile) =
-      IsUnread held name faults_before faults_after × (news ≡ olds)
-  ComesOfAgent agent (Some name) inline (Refused DevicesFile text) =
-      FileHas held name (λ bytes. Tells DevicesFile (RefusesScripts agent bytes) text) × (news ≡ olds)
-  ComesOfAgent agent named inline (Ran text answer) = RunsScripts agent named inline text (answer_status answer)
-  ComesOfAgent agent named inline outcome = ⊥
-
-  -- the agent file spells an agent, and this is an outcome of it
-  pub record ComesBehind (names : Names) (outcome : Outcome) : Type 0 where
-    pub agent : Agent
-    pub reads : ReadsAgent held names.agent agent
-    pub comes : ComesOfAgent agent names.devices names.inline outcome
-
-  -- the cause of each outcome, for the files that the words name
-  abbrev pub Comes : Option Names → Outcome → Type 0
-  Comes None WordsRefused = news ≡ olds
-  Comes None outcome = ⊥
-  Comes (Some names) (ReadFault AgentFile) =
-      IsUnread held names.agent faults_before faults_after × (news ≡ olds)
-  Comes (Some names) (Refused AgentFile text) =
-      FileHas held names.agent (λ bytes. Tells AgentFile (IsFirstRefusal bytes) text) × (news ≡ olds)
-  Comes (Some names) outcome = ComesBehind names outcome
+  abbrev pub Comes : Option Command → Outcome → Type 0
+  Comes None = λ outcome. outcome ≡ WordsRefused
+  Comes (Some (run agent devices inline)) =
+      OfAgent held faults_before faults_after agent (λ a.
+      OfScripts held faults_before faults_after a devices (λ listed.
+      RunOf a listed inline olds news))
+  Comes (Some (check agent)) =
+      OfAgent held faults_before faults_after agent (λ a outcome. outcome ≡ Checked (check_text a))
+  Comes (Some (replay agent journal)) = λ outcome. outcome ≡ WordsRefused
+  Comes (Some (ask agent journal condition)) =
+      OfBoth held faults_before faults_after agent (λ u.
+      OfJournal held faults_before faults_after u.agent journal (λ told.
+      OfCondition u.theory u.agent condition (λ cond.
+      TruthOf u.agent told cond)))
+  Comes (Some (demo size)) = Demonstrates size olds news
 
 -- ---- the call
 
@@ -94,9 +152,19 @@ outside held file_faults taken sink_faults devices = record {
 }
 
 -- the outcome has its cause
-abbrev pub IsCaused : Option Names → Outside → Outside → Outcome → Type 0
-IsCaused named before after outcome =
-    Comes before.held before.file_faults after.file_faults before.devices after.devices named outcome
+abbrev pub IsCaused : Option Command → Outside → Outside → Outcome → Type 0
+IsCaused spelled before after =
+    Comes before.held before.file_faults after.file_faults before.devices after.devices spelled
+
+-- whether the devices had a part in an outcome
+abbrev pub uses_devices : Outcome → Bool
+uses_devices (Ran text answer) = true
+uses_devices (Demonstrated text) = true
+uses_devices outcome = false
+
+-- the devices are as they were, unless they had a part
+abbrev pub IsUntouched : List Standing → List Standing → Outcome → Type 0
+IsUntouched olds news outcome = uses_devices outcome ≡ false → news ≡ olds
 
 -- the text was written whole and the status answered, or a write failed and a prefix of the text was written
 abbrev pub Reports : ℕ → Text → ℕ → Option Text → Option Text → ℕ → ℕ → Type 0
@@ -105,39 +173,42 @@ Reports answered text status old new faults_before faults_after =
     ⊎ ((answered ≡ 5) × AddsPrefix old new text × Rose faults_before faults_after)
 
 -- the outcome has its cause, and was reported
-pub record Reported (status : ℕ) (named : Option Names) (before after : Outside) : Type 0 where
+pub record Reported (status : ℕ) (spelled : Option Command) (before after : Outside) : Type 0 where
   pub outcome : Outcome
-  pub cause : IsCaused named before after outcome
+  pub cause : IsCaused spelled before after outcome
+  pub untouched : IsUntouched before.devices after.devices outcome
   pub report : Reports status (text_of outcome) (status_of outcome)
       before.taken after.taken before.sink_faults after.sink_faults
 
 -- memory ran out while a command was done, and nothing was written
-pub record Starved (status : ℕ) (named : Option Names) (before after : Outside) : Type 0 where
+pub record Starved (status : ℕ) (spelled : Option Command) (before after : Outside) : Type 0 where
   pub answered : status ≡ 6
-  pub command : IsSome named
+  pub command : IsSome spelled
   pub nothing : after.taken ≡ before.taken
 
--- how a call ends whose words name these files, or are no command: with an outcome that has its cause, or for
--- want of memory
-abbrev pub Ends : ℕ → Option Names → Outside → Outside → Type 0
-Ends status named before after = Reported status named before after ⊎ Starved status named before after
+-- how a call ends whose words spell this command, or none: with an outcome that has its cause, or for want of memory
+abbrev pub Ends : ℕ → Option Command → Outside → Outside → Type 0
+Ends status spelled before after = Reported status spelled before after ⊎ Starved status spelled before after
 
 -- ---- what the parts of a call come to
 
--- what a run of the agent with these scripts comes to
-abbrev pub RunOf : Agent → List Script → Bool → List Standing → List Standing → Outcome → Type 0
-RunOf agent listed inline olds news (Ran text answer) =
-    IsRunOf agent (scripts_for agent listed) inline olds news text (answer_status answer)
-RunOf agent listed inline olds news outcome = ⊥
+-- whether the command is a run over threads
+abbrev pub is_threaded : Command → Bool
+is_threaded (run agent devices inline) = not inline
+is_threaded command = false
 
 -- where a file is refused or can't be read, and memory didn't run out, this is so of what is said
 abbrev pub IfEnded : Unready → (Outcome → Type 0) → Type 0
 IfEnded (Ended outcome) P = P outcome
 IfEnded Memory P = Unit {0}
 
--- a file with more bytes than the limit, its code, and the limit
-abbrev pub IsTooLong : Text → ℕ → ℕ → Type 0
-IsTooLong bytes code at = (file_limit < length bytes) × (code ≡ 5) × (at ≡ file_limit)
+-- nothing comes of a value
+abbrev pub Never : {A : Type 0} → A → Outcome → Type 0
+Never x outcome = ⊥
+
+-- bytes above the limit of an input, its code, and the limit
+abbrev pub IsTooLong : Input → Text → ℕ → ℕ → Type 0
+IsTooLong input bytes code at = (input_limit input < length bytes) × (code ≡ 5) × (at ≡ input_limit input)
 
 -- what is said of a file that cannot be read, or whose bytes are refused so
 abbrev pub FileFails : Input → (Text → ℕ → ℕ → Type 0) → Option (List HeldFile) → Text → ℕ → ℕ → Outcome → Type 0
@@ -145,9 +216,15 @@ FileFails input Refuses held name faults_before faults_after outcome =
     ((outcome ≡ ReadFault input) × IsUnread held name faults_before faults_after)
     ⊎ ((text : Text) × (outcome ≡ Refused input text) × FileHas held name (λ bytes. Tells input (Refuses bytes) text))
 
+-- what is said of a condition whose bytes are refused
+abbrev pub CondFails : DraftTheory → Agent → Text → Outcome → Type 0
+CondFails theory agent bytes outcome =
+    (text : Text) × (outcome ≡ Refused Condition text) × Tells Condition (RefusesCond theory agent bytes) text
+
 -- the files spell this agent and these scripts of its devices
-pub record HoldsRun (held : Option (List HeldFile)) (names : Names) (ready : Ready) : Type 0 where
+pub record HoldsRun (held : Option (List HeldFile)) (agent : Text) (devices : Option Text) (ready : Ready)
+    : Type 0 where
   pub formed : WellFormed ready.agent
   pub texts : All HasTexts ready.scripts
-  pub agent_so : ReadsAgent held names.agent ready.agent
-  pub scripts_so : ReadsScripts held ready.agent names.devices ready.scripts
+  pub agent_so : ReadsAgent held agent ready.agent
+  pub scripts_so : ReadsScripts held ready.agent devices ready.scripts

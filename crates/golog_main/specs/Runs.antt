@@ -13,7 +13,7 @@ use Rattle.golog_semantics.specs.Online.{IsOnline}
 use Rattle.golog_semantics.specs.Certain.{JournalIsSo}
 use Rattle.golog_semantics.specs.Execution.{IsOnlineRun, Ends, status_of}
 use Rattle.golog_semantics.specs.InlineText.{inline_report, inline_text, report_of}
-use Rattle.golog_semantics.specs.Dealt.{Meaning, Script, Dealt}
+use Rattle.golog_semantics.specs.Dealt.{Meaning, Script, WasDealtWith}
 use Rattle.golog_journal.specs.Boards.{AgentJournal, IsBoardList}
 use Rattle.golog_journal.specs.Leading.{IsBehind}
 use Rattle.golog_device.specs.Scripts.{script_spelled}
@@ -28,7 +28,7 @@ use Rattle.golog_threads.specs.Driving.{has_refused, RunsOverThreads}
 -- was
 pub record IsDealt (agent : Agent) (scripts : List Script) (journal : Journal) (device : ℕ) (was is : Standing)
     : Type 0 where
-  pub dealt : IfSome (slice_get scripts device) (λ script. Dealt agent device journal script is.meaning)
+  pub dealt : IfSome (slice_get scripts device) (λ script. WasDealtWith agent device journal script is.meaning)
   pub refused : Contains journal (Close device Refused 0) → is ≡ was
 
 -- each device of the agent was dealt with, and the box that no device needs is as it was

@@ -2,11 +2,15 @@ ghost use Rattle.golog_main.specs.Exact.{StatusesAreExact};
 ghost use Rattle.golog_main.specs.CutShort.{CutShortBeginsOnline};
 ghost use Rattle.golog_main.specs.Searchless.{FuelIsHeavy, SearchlessEnds};
 
-/// A refusal comes exactly where it has its cause, and so does a run, unless the outside fails or memory
-/// runs out.
+use golog_file::{one_cond_is_spelled, spelled_cond_is_unrefused};
+
+/// Each status comes exactly where it has its cause, for each command, unless the outside fails or memory runs out.
 pub fn each_status_where_its_cause_is()
     ensures { StatusesAreExact }
-{}
+{
+    spelled_cond_is_unrefused();
+    one_cond_is_spelled();
+}
 
 /// Where a write fails, what a run has written is the beginning of the text of an online execution.
 pub fn cut_short_begins_online()

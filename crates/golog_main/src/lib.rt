@@ -1,14 +1,16 @@
 //! The top call: does what the words of a command say, and answers the exit status.
 #![tactic(auto)]
 
+mod commands;
+mod demos;
 mod devices;
 mod laws;
 mod outcome;
 mod ready;
 mod run;
 mod top;
-mod words;
 
+pub use commands::is_threaded;
 pub use devices::script_devices;
 pub use laws::{
     cut_short_begins_online, each_status_where_its_cause_is, fuel_is_heavy,

@@ -1,39 +1,58 @@
 // What a call of the program comes to.
 ghost use Rattle.std.specs.Prelude.{◌≡◌};
 ghost use Rattle.golog_semantics.specs.Execution.{status_of as answer_status};
-ghost use Rattle.golog_main.specs.Inputs.{input_name, fault_text};
-ghost use Rattle.golog_main.specs.Outcome.{status_of, text_of};
+ghost use Rattle.golog_main.specs.Inputs.{input_name, input_limit, fault_text};
+ghost use Rattle.golog_main.specs.Outcome.{status_of, text_of, truth_line};
 
 use golog_base::Bytes;
 use golog_semantics::Answer;
+use golog_tree::Truth;
 
-/// A file of a run.
+/// What a command reads.
 #[derive(Clone, Copy, Debug, PartialEq, Eq)]
 pub enum Input {
     /// The agent file.
     Agent,
     /// The file with the scripts of its devices.
     Devices,
+    /// The journal file.
+    Journal,
+    /// The condition among the words.
+    Condition,
 }
 
 impl Input {
-    /// What the file is called in a refusal.
+    /// What it is called in a refusal.
     pub fn name(self) -> &'static str
         ensures { result.now ≡ input_name self }
     {
         match self {
             Input::Agent => "agent",
             Input::Devices => "devices",
+            Input::Journal => "journal",
+            Input::Condition => "condition",
         }
     }
 
-    // What is written where the file cannot be read.
+    /// How many bytes it may have.
+    pub fn limit(self) -> u32
+        ensures { result ≡ input_limit self }
+    {
+        match self {
+            Input::Agent | Input::Devices | Input::Condition => 1_048_576,
+            Input::Journal => 67_108_864,
+        }
+    }
+
+    // What is written where it cannot be read.
     fn fault_text(self) -> &'static [u8]
         ensures { result.now ≡ fault_text self }
     {
         match self {
             Input::Agent => b"read fault agent\n",
             Input::Devices => b"read fault devices\n",
+            Input::Journal => b"read fault journal\n",
+            Input::Condition => b"read fault condition\n",
         }
     }
 }
@@ -45,10 +64,16 @@ pub enum Outcome {
     WordsRefused,
     /// The file cannot be read.
     ReadFault(Input),
-    /// The file is refused: what is said of it.
+    /// The input is refused: what is said of it.
     Refused { input: Input, text: Bytes },
     /// The program ran: the text of its journal, and its answer.
     Ran { text: Bytes, answer: Answer },
+    /// The agent file was checked: how much it has.
+    Checked { text: Bytes },
+    /// The truth of the condition was asked for.
+    Asked(Truth),
+    /// The demo ran: what its journal has.
+    Demonstrated { text: Bytes },
 }
 
 impl Outcome {
@@ -60,10 +85,12 @@ impl Outcome {
             Outcome::WordsRefused => b"words refused\n",
             Outcome::ReadFault(input) => input.fault_text(),
             Outcome::Refused { text, .. } | Outcome::Ran { text, .. } => text.as_slice(),
+            Outcome::Checked { text } | Outcome::Demonstrated { text } => text.as_slice(),
+            Outcome::Asked(truth) => truth_line(*truth),
         }
     }
 
-    /// The exit status: 2, 3 or 4 for a refusal, and that of the answer for a run.
+    /// The exit status: 2, 3 or 4 for a refusal, that of the answer for a run, and else 0.
     pub fn status(&self) -> u8
         ensures { result ≡ status_of self.now }
     {
@@ -72,7 +99,19 @@ impl Outcome {
             Outcome::ReadFault(_) => 4,
             Outcome::Refused { .. } => 3,
             Outcome::Ran { answer, .. } => exit_status(*answer),
+            Outcome::Checked { .. } | Outcome::Asked(_) | Outcome::Demonstrated { .. } => 0,
         }
+    }
+}
+
+// The line that tells a truth.
+fn truth_line(truth: Truth) -> &'static [u8]
+    ensures { result.now ≡ truth_line truth }
+{
+    match truth {
+        Truth::Yes => b"true\n",
+        Truth::No => b"false\n",
+        Truth::Unknown => b"unknown\n",
     }
 }
 

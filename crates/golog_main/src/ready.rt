@@ -1,27 +1,27 @@
-// What the files of a run hold.
-ghost use Rattle.std.specs.Prelude.{◌≡◌, ◌≤◌, All, IfOk, IfErr, IsSomeAnd, List, Some, length, option_map};
+// What the inputs of a command hold.
+ghost use Rattle.std.specs.Prelude.{◌≡◌, ◌≤◌, All, IfOk, IfErr, IsTrue, IsSomeAnd, length, option_map};
+ghost use Rattle.golog_semantics.specs.Fits.{cond_fits, nothing_bound};
+ghost use Rattle.golog_semantics.specs.Reports.{IsReport};
 ghost use Rattle.golog_semantics.specs.WellFormed.{WellFormed};
-ghost use Rattle.golog_device.specs.Slots.{Standing};
 ghost use Rattle.golog_script.specs.ScriptTexts.{HasTexts};
+ghost use Rattle.golog_file.specs.Conditions.{CondsStayKept, SpellsCond};
 ghost use Rattle.golog_file.specs.Spelled.{IsFirstRefusal};
-ghost use Rattle.golog_main.specs.Inputs.{Reads, ReadsAgent, ReadsScripts, RefusesScripts, SpellsScripts, refusal_text};
-ghost use Rattle.golog_main.specs.Outcome.{Comes, FileFails, HoldsRun, IfEnded, IsTooLong};
+ghost use Rattle.golog_main.specs.Inputs.{Reads, ReadsAgent, ReadsScripts, RefusesJournal, RefusesScripts, SpellsBoth, SpellsJournal, SpellsScripts, input_limit, refusal_text};
+ghost use Rattle.golog_main.specs.Outcome.{CondFails, FileFails, HoldsRun, IfEnded, IsTooLong, Never, OfAgent, OfScripts};
 ghost use Rattle.golog_base.specs.Files.{FileHas};
-ghost use Rattle.golog_main.specs.declared.outcome.Input.TheVariants.{Agent as AgentFile, Devices as DevicesFile};
+ghost use Rattle.golog_main.specs.declared.outcome.Input.TheVariants.{Agent as AgentFile, Devices as DevicesFile, Journal as JournalFile};
 ghost use Rattle.golog_main.specs.declared.outcome.Outcome.TheVariants.{Refused};
 
 use crate::outcome::{Input, Outcome};
-use crate::words::Names;
 use golog_base::{Bytes, Files, List, NoMemory, ReadFault, read_all};
-use golog_file::{AgentFault, read_agent};
+use golog_file::{AgentFault, CondFault, Understood, read_condition, read_theory_and_agent};
 use golog_script::{Script, ScriptFault, scripts_of};
-use golog_tree::Agent;
+use golog_semantics::Report;
+use golog_text::{TextFault, read_journal};
+use golog_tree::{Agent, Cond};
 use std::alloc::Global;
 
-/// How many bytes a file may have.
-const LONGEST_FILE: u32 = 1_048_576;
-
-/// The code of a file with more bytes.
+/// The code of an input with more bytes than it may have.
 const TOO_LONG: u8 = 5;
 
 /// What the files of a run hold.
@@ -33,33 +33,39 @@ pub struct Ready {
     pub scripts: List<Script>,
 }
 
-/// Why there is no run.
+/// What a journal file tells.
+#[derive(Drop)]
+pub struct Told {
+    /// Its bytes.
+    pub bytes: Bytes,
+    /// The report that they say.
+    pub report: Report,
+}
+
+/// Why an input holds nothing.
 #[derive(Drop)]
 pub enum Unready {
-    /// The files don't hold what a run needs: what the call comes to.
+    /// It can't be read, or is refused: what the call comes to.
     Ended(Outcome),
     /// Memory ran out.
     Memory,
 }
 
 /// What the files of these names hold: an agent, and scripts of its devices.
-pub fn ready_in<F: Files>(alloc: Global, files: &mut F, names: Names<'_>) -> Result<Ready, Unready>
-    ensures ready { IfOk result (HoldsRun (F.held files.old)
-        (record {
-          agent = names.entry.agent.now;
-          devices = option_map (λ file. file.now) names.entry.devices;
-          inline = names.entry.inline;
-        })) }
-    ensures unready { IfErr result (λ fault. IfEnded fault (λ outcome. (devices : List Standing) →
-        Comes (F.held files.old) (F.faults files.old) (F.faults files.new) devices devices
-        (Some (record {
-          agent = names.entry.agent.now;
-          devices = option_map (λ file. file.now) names.entry.devices;
-          inline = names.entry.inline;
-        })) outcome)) }
+pub fn ready_in<F: Files>(
+    alloc: Global,
+    files: &mut F,
+    agent: &str,
+    devices: Option<&str>,
+) -> Result<Ready, Unready>
+    ensures ready { IfOk result (HoldsRun (F.held files.old) agent.now (option_map (λ file. file.now) devices.entry)) }
+    ensures unready { IfErr result (λ fault. IfEnded fault
+        (OfAgent (F.held files.old) (F.faults files.old) (F.faults files.new) agent.now
+        (λ a. OfScripts (F.held files.old) (F.faults files.old) (F.faults files.new) a
+        (option_map (λ file. file.now) devices.entry) Never))) }
 {
-    match agent_in(alloc, files, names.agent) {
-        Ok(agent) => match scripts_in(alloc, files, names.devices, &agent) {
+    match agent_in(alloc, files, agent) {
+        Ok(agent) => match scripts_in(alloc, files, devices, &agent) {
             Ok(scripts) => Ok(Ready { agent, scripts }),
             Err(unready) => Err(unready),
         },
@@ -67,8 +73,8 @@ pub fn ready_in<F: Files>(alloc: Global, files: &mut F, names: Names<'_>) -> Res
     }
 }
 
-// The agent that the file of this name spells.
-fn agent_in<F: Files>(alloc: Global, files: &mut F, name: &str) -> Result<Agent, Unready>
+/// The agent that the file of this name spells.
+pub fn agent_in<F: Files>(alloc: Global, files: &mut F, name: &str) -> Result<Agent, Unready>
     ensures formed { IfOk result WellFormed }
     ensures reads { IfOk result (ReadsAgent (F.held files.old) name.now) }
     ensures unready { IfErr result (λ fault. IfEnded fault
@@ -76,10 +82,34 @@ fn agent_in<F: Files>(alloc: Global, files: &mut F, name: &str) -> Result<Agent,
     ensures held { F.held files.new ≡ F.held files.old }
     ensures faults { F.faults files.old ≤ F.faults files.new }
 {
+    match understood_in(alloc, files, name) {
+        Ok(Understood { theory, agent }) => {
+            drop(theory);
+            Ok(agent)
+        }
+        Err(unready) => Err(unready),
+    }
+}
+
+/// The agent that the file of this name spells, with its theory.
+pub fn understood_in<F: Files>(
+    alloc: Global,
+    files: &mut F,
+    name: &str,
+) -> Result<Understood, Unready>
+    ensures formed { IfOk result (λ understood. WellFormed understood.agent) }
+    ensures kept { IfOk result (λ understood. CondsStayKept understood.theory understood.agent) }
+    ensures reads { IfOk result (λ understood. Reads (F.held files.old) name.now
+        (λ bytes. SpellsBoth bytes understood)) }
+    ensures unready { IfErr result (λ fault. IfEnded fault
+        (FileFails AgentFile IsFirstRefusal (F.held files.old) name.now (F.faults files.old) (F.faults files.new))) }
+    ensures held { F.held files.new ≡ F.held files.old }
+    ensures faults { F.faults files.old ≤ F.faults files.new }
+{
     match bytes_in(alloc, files, Input::Agent, name) {
-        Ok(bytes) => match read_agent(alloc, bytes.as_slice()) {
-            Ok(agent) => Ok(agent),
-            Err(AgentFault::Refused { code, at }) => { Err(refused(alloc, Input::Agent, code, at)) }
+        Ok(bytes) => match read_theory_and_agent(alloc, bytes.as_slice()) {
+            Ok(understood) => Ok(understood),
+            Err(AgentFault::Refused { code, at }) => Err(refused(alloc, Input::Agent, code, at)),
             Err(AgentFault::Memory) => Err(Unready::Memory),
         },
         Err(unready) => Err(unready),
@@ -131,6 +161,53 @@ fn scripts_under<F: Files>(
     }
 }
 
+/// What the journal file of this name tells of the agent.
+pub fn told_in<F: Files>(
+    alloc: Global,
+    files: &mut F,
+    name: &str,
+    agent: &Agent,
+) -> Result<Told, Unready>
+    requires { WellFormed agent.now }
+    ensures fits { IfOk result (λ told. IsReport agent.now told.report) }
+    ensures reads { IfOk result (λ told. Reads (F.held files.old) name.now
+        (λ bytes. SpellsJournal agent.now bytes told)) }
+    ensures unready { IfErr result (λ fault. IfEnded fault (FileFails JournalFile (RefusesJournal agent.now)
+        (F.held files.old) name.now (F.faults files.old) (F.faults files.new))) }
+{
+    match bytes_in(alloc, files, Input::Journal, name) {
+        Ok(bytes) => match read_journal(alloc, agent, bytes.as_slice()) {
+            Ok(report) => Ok(Told { bytes, report }),
+            Err(TextFault::Refused { line, why }) => {
+                Err(refused(alloc, Input::Journal, why, line))
+            }
+            Err(TextFault::Memory) => Err(Unready::Memory),
+        },
+        Err(unready) => Err(unready),
+    }
+}
+
+/// The condition that a word spells over an agent and its theory.
+pub fn condition_in(alloc: Global, understood: &Understood, word: &str) -> Result<Cond, Unready>
+    requires formed { WellFormed understood.now.agent }
+    requires kept { CondsStayKept understood.now.theory understood.now.agent }
+    ensures fits { IfOk result (λ cond. IsTrue (cond_fits understood.now.agent cond nothing_bound)) }
+    ensures spells { IfOk result (SpellsCond understood.now.theory understood.now.agent word.now) }
+    ensures unready { IfErr result (λ fault. IfEnded fault
+        (CondFails understood.now.theory understood.now.agent word.now)) }
+{
+    match read_condition(
+        alloc,
+        &understood.theory,
+        &understood.agent,
+        word.as_bytes(),
+    ) {
+        Ok(cond) => Ok(cond),
+        Err(CondFault::Refused { code, at }) => Err(refused(alloc, Input::Condition, code, at)),
+        Err(CondFault::Memory) => Err(Unready::Memory),
+    }
+}
+
 // The bytes of the file of this name.
 fn bytes_in<F: Files>(
     alloc: Global,
@@ -139,21 +216,22 @@ fn bytes_in<F: Files>(
     name: &str,
 ) -> Result<Bytes, Unready>
     ensures read { IfOk result (λ bytes. FileHas (F.held files.old) name.now (λ held. held ≡ bytes)) }
-    ensures small { IfOk result (λ bytes. length bytes ≤ LONGEST_FILE) }
+    ensures small { IfOk result (λ bytes. length bytes ≤ input_limit input) }
     ensures unready { IfErr result (λ fault. IfEnded fault
-        (FileFails input IsTooLong (F.held files.old) name.now (F.faults files.old) (F.faults files.new))) }
+        (FileFails input (IsTooLong input) (F.held files.old) name.now (F.faults files.old) (F.faults files.new))) }
     ensures held { F.held files.new ≡ F.held files.old }
     ensures faults { F.faults files.old ≤ F.faults files.new }
 {
-    match read_all(alloc, files, name, LONGEST_FILE) {
+    let limit = input.limit();
+    match read_all(alloc, files, name, limit) {
         Ok(bytes) => Ok(bytes),
         Err(ReadFault::Failed) => Err(Unready::Ended(Outcome::ReadFault(input))),
-        Err(ReadFault::TooLong) => Err(refused(alloc, input, TOO_LONG, LONGEST_FILE)),
+        Err(ReadFault::TooLong) => Err(refused(alloc, input, TOO_LONG, limit)),
         Err(ReadFault::Memory) => Err(Unready::Memory),
     }
 }
 
-// What is said of a file that is refused with this code at this place.
+// What is said of an input that is refused with this code at this place.
 fn refusal_text(alloc: Global, input: Input, code: u8, at: u32) -> Result<Bytes, NoMemory>
     ensures { IfOk result (λ text. text ≡ refusal_text input code at) }
 {
@@ -168,7 +246,7 @@ fn refusal_text(alloc: Global, input: Input, code: u8, at: u32) -> Result<Bytes,
     Ok(text)
 }
 
-// The refusal of a file.
+// The refusal of an input.
 fn refused(alloc: Global, input: Input, code: u8, at: u32) -> Unready
     ensures { IfEnded result (λ outcome. outcome ≡ Refused input (refusal_text input code at)) }
 {

@@ -14,7 +14,7 @@ ghost use Rattle.golog_script.specs.declared.scripts.Script.{Script};
 ghost use Rattle.golog_script.specs.ScriptTexts.{HasTexts};
 ghost use Rattle.golog_main.specs.Inputs.{empty_script, script_under, scripts_for};
 ghost use Rattle.golog_main.specs.Outcome.{RunOf};
-ghost use Rattle.golog_main.specs.Runs.{AreTextsOf, HasBegun, ReportsRun, RunsOn, ServedOn};
+ghost use Rattle.golog_main.specs.Runs.{AreTextsOf, HasBegun, IsReportOf, ReportsRun, RunsOn, ServedOn};
 
 use crate::outcome::Outcome;
 use golog_agent::{Runner, run_inline};
@@ -45,11 +45,28 @@ pub fn run_in_rounds<D: Device>(
     ensures { IfOk result (RunOf agent.now listed.now true
         (standings D.fresh D.meaning devices.old) (standings D.fresh D.meaning devices.new)) }
 {
-    let texts = texts_for(alloc, agent, listed)?;
-    let report = report_in_rounds(alloc, agent, &texts, devices)?;
+    let report = reported_in_rounds(alloc, agent, listed, devices)?;
     let text = write_journal(alloc, agent, &report)?;
     let answer = answer_in(&report);
     Ok(Outcome::Ran { text, answer })
+}
+
+/// The report of a run of the agent's program without threads, with these scripts for its devices.
+pub fn reported_in_rounds<D: Device>(
+    alloc: Global,
+    agent: &Agent,
+    listed: &[Script],
+    devices: &mut [D],
+) -> Result<Report, NoMemory>
+    requires formed { WellFormed agent.now }
+    requires texts { All HasTexts listed.now }
+    requires boxes { 16 ≤ length devices.old }
+    requires fresh { FreshBelow 16 (standings D.fresh D.meaning devices.old) }
+    ensures { IfOk result (IsReportOf agent.now (scripts_for agent.now listed.now) true
+        (standings D.fresh D.meaning devices.old) (standings D.fresh D.meaning devices.new)) }
+{
+    let texts = texts_for(alloc, agent, listed)?;
+    report_in_rounds(alloc, agent, &texts, devices)
 }
 
 /// The same with each device on a thread of its own, and the program on this one.
@@ -257,8 +274,8 @@ fn served_on_threads<R: Threads + Wait + Sync, D: Device + Send>(
     }
 }
 
-// The answer in a report of a program that has ended.
-fn answer_in(report: &Report) -> Answer
+/// The answer in a report of a program that has ended.
+pub fn answer_in(report: &Report) -> Answer
     requires { has_end report.now.entries ≡ true }
     ensures { Contains report.now.entries (End result) }
 {

@@ -1,16 +1,16 @@
 // The top call.
-ghost use Rattle.std.specs.Prelude.{◌≡◌, ◌≤◌, map, string_bytes, option_map, true, false, Some, IsSome, IfOk, OnErr, length};
+ghost use Rattle.std.specs.Prelude.{◌≡◌, ◌≤◌, map, string_bytes, false, Some, IsSome, IfOk, OnErr, length};
 ghost use Rattle.golog_device.specs.Slots.{standings, FreshBelow};
+ghost use Rattle.golog_words.specs.Answers.{command_of};
+ghost use Rattle.golog_words.specs.Commands.{command_in};
 ghost use Rattle.golog_main.specs.InWorlds.{RunsAreSo};
-ghost use Rattle.golog_main.specs.Outcome.{Comes, Ends, Reports, outside, text_of, status_of};
-ghost use Rattle.golog_main.specs.Words.{files_named, inline_named};
+ghost use Rattle.golog_main.specs.Outcome.{Comes, Ends, IsUntouched, Reports, is_threaded, outside, text_of, status_of};
 
+use crate::commands::{over_threads, served};
 use crate::outcome::Outcome;
-use crate::ready::{Unready, ready_in};
-use crate::run::{run_in_rounds, run_on_threads};
-use crate::words::{Names, names_in};
 use golog_base::{Files, NoMemory, Sink, write_all};
 use golog_device::Device;
+use golog_words::{Order, WordsFault, order_of};
 use std::alloc::Global;
 use std::sync::Wait;
 use std::thread::Threads;
@@ -30,18 +30,24 @@ pub const NO_MEMORY: u8 = 6;
 /// search block steps along a printed run to Final; each device's items stand once, in order, with values; and done,
 /// stuck, unknown and depth stand exactly where Final and Trans put them.
 ///
-/// The words are `run`, a file word (not empty, and not beginning with `-`), perhaps a second one, and perhaps
-/// `--inline`. The first of these that fits is the answer:
+/// The words are one of these, where a file word is not empty and does not begin with `-`:
+///
+/// - `run AGENT [DEVICES] [--inline]` runs the program, with `--inline` anywhere among the files: the journal.
+/// - `check AGENT`: how many ground fluents, ground actions, procedures and devices the agent has.
+/// - `ask AGENT JOURNAL CONDITION`: the condition's truth by what is known after the journal's entries.
+/// - `demo N` runs the lift of N levels, 1 to 200: how many entries, actions and posts its journal has, and its
+///   answer.
+///
+/// What a command needs is read in this order: the agent file, then the devices file, or the journal and behind it
+/// the condition. The first of these that fits is the answer:
 ///
 /// - 2, `words refused`: the words are anything else.
-/// - 4, `read fault agent`: the agent file is not there, or a call of `files` failed.
-/// - 3, `refused agent CODE at PLACE`: the file spells no agent; the code and the place are those of its
-///   first refusal, in the order of the stages of `golog_file::read_agent`.
-/// - 4, `read fault devices`: the devices file, where one is named, is not there, or a call of `files`
-///   failed.
-/// - 3, `refused devices CODE at POSITION`: it spells no scripts for the agent's devices; the code and the
-///   position are those of its first refusal, as of `golog_script::scripts_of`, or 5 at 1048576 where it
-///   has more bytes.
+/// - 4, `read fault INPUT`: the file is not there, or a call of `files` failed. INPUT is `agent`, `devices` or
+///   `journal`.
+/// - 3, `refused INPUT CODE at PLACE`: the input spells nothing of its kind; the code and the place are those of
+///   its first refusal, as of `golog_file::read_agent`, `golog_script::scripts_of`, `golog_text::read_journal` and
+///   `golog_file::read_condition`, or 5 at its limit where it has more bytes. INPUT may be `condition` too.
+/// - 0, the text of `check`, `ask` or `demo`.
 /// - 0, or 10 to 16, the journal of an online execution of the agent's program, which ends `done`, `stuck`,
 ///   `unknown`, `depth`, `fuel`, `unanswered`, `full` or `deep`. Each device that tells it was dealt with
 ///   as the journal says, with its script, the empty one where the devices file has none. With
@@ -67,12 +73,12 @@ pub fn golog<R: Threads + Wait + Sync, F: Files, K: Sink, D: Device + Send>(
 ) -> u8
     requires boxes { 16 ≤ length devices.old }
     requires fresh { FreshBelow 16 (standings D.fresh D.meaning devices.old) }
-    ensures ends { Ends result (files_named (map string_bytes words.now))
+    ensures ends { Ends result (command_in (map string_bytes words.now))
         (outside (F.held files.old) (F.faults files.old) (K.taken out.old) (K.faults out.old)
         (standings D.fresh D.meaning devices.old))
         (outside (F.held files.new) (F.faults files.new) (K.taken out.new) (K.faults out.new)
         (standings D.fresh D.meaning devices.new)) }
-    ensures so { RunsAreSo result (files_named (map string_bytes words.now))
+    ensures so { RunsAreSo result (command_in (map string_bytes words.now))
         (outside (F.held files.old) (F.faults files.old) (K.taken out.old) (K.faults out.old)
         (standings D.fresh D.meaning devices.old))
         (outside (F.held files.new) (F.faults files.new) (K.taken out.new) (K.faults out.new)
@@ -84,28 +90,29 @@ pub fn golog<R: Threads + Wait + Sync, F: Files, K: Sink, D: Device + Send>(
     }
 }
 
-/// The same without a runtime, for words whose last is `--inline`: all others are refused.
+/// The same without a runtime, for an order that is no run over threads.
 pub fn serve_inline<F: Files, K: Sink, D: Device>(
     alloc: Global,
-    words: &[String],
+    order: Order<'_>,
     files: &mut F,
     out: &mut K,
     devices: &mut [D],
 ) -> u8
+    requires way { is_threaded (command_of order) ≡ false }
     requires boxes { 16 ≤ length devices.old }
     requires fresh { FreshBelow 16 (standings D.fresh D.meaning devices.old) }
-    ensures ends { Ends result (inline_named (map string_bytes words.now))
+    ensures ends { Ends result (Some (command_of order.entry))
         (outside (F.held files.old) (F.faults files.old) (K.taken out.old) (K.faults out.old)
         (standings D.fresh D.meaning devices.old))
         (outside (F.held files.new) (F.faults files.new) (K.taken out.new) (K.faults out.new)
         (standings D.fresh D.meaning devices.new)) }
-    ensures so { RunsAreSo result (inline_named (map string_bytes words.now))
+    ensures so { RunsAreSo result (Some (command_of order.entry))
         (outside (F.held files.old) (F.faults files.old) (K.taken out.old) (K.faults out.old)
         (standings D.fresh D.meaning devices.old))
         (outside (F.held files.new) (F.faults files.new) (K.taken out.new) (K.faults out.new)
         (standings D.fresh D.meaning devices.new)) }
 {
-    match inline_outcome_of(alloc, words, files, devices) {
+    match served(alloc, order, files, devices) {
         Ok(outcome) => report(out, outcome),
         Err(NoMemory) => NO_MEMORY,
     }
@@ -123,20 +130,23 @@ fn outcome_of<R: Threads + Wait + Sync, F: Files, D: Device + Send>(
     requires fresh { FreshBelow 16 (standings D.fresh D.meaning devices.old) }
     ensures cause { IfOk result (Comes (F.held files.old) (F.faults files.old) (F.faults files.new)
         (standings D.fresh D.meaning devices.old) (standings D.fresh D.meaning devices.new)
-        (files_named (map string_bytes words.now))) }
-    ensures command { OnErr result (IsSome (files_named (map string_bytes words.now))) }
+        (command_in (map string_bytes words.now))) }
+    ensures untouched { IfOk result (IsUntouched
+        (standings D.fresh D.meaning devices.old) (standings D.fresh D.meaning devices.new)) }
+    ensures command { OnErr result (IsSome (command_in (map string_bytes words.now))) }
 {
-    match names_in(words) {
-        Some(names) if names.inline => over_rounds(alloc, names, files, devices),
-        Some(names) => over_threads(rt, alloc, names, files, devices),
-        None => Ok(Outcome::WordsRefused),
+    match order_of(alloc, words) {
+        Ok(order) => done(rt, alloc, order, files, devices),
+        Err(WordsFault::Refused) => Ok(Outcome::WordsRefused),
+        Err(WordsFault::Memory) => Err(NoMemory),
     }
 }
 
-// The same of words whose last is `--inline`.
-fn inline_outcome_of<F: Files, D: Device>(
+// What an order, the files and the devices come to.
+fn done<R: Threads + Wait + Sync, F: Files, D: Device + Send>(
+    rt: &R,
     alloc: Global,
-    words: &[String],
+    order: Order<'_>,
     files: &mut F,
     devices: &mut [D],
 ) -> Result<Outcome, NoMemory>
@@ -144,77 +154,23 @@ fn inline_outcome_of<F: Files, D: Device>(
     requires fresh { FreshBelow 16 (standings D.fresh D.meaning devices.old) }
     ensures cause { IfOk result (Comes (F.held files.old) (F.faults files.old) (F.faults files.new)
         (standings D.fresh D.meaning devices.old) (standings D.fresh D.meaning devices.new)
-        (inline_named (map string_bytes words.now))) }
-    ensures command { OnErr result (IsSome (inline_named (map string_bytes words.now))) }
+        (Some (command_of order.entry))) }
+    ensures untouched { IfOk result (IsUntouched
+        (standings D.fresh D.meaning devices.old) (standings D.fresh D.meaning devices.new)) }
 {
-    match names_in(words) {
-        Some(names) if names.inline => over_rounds(alloc, names, files, devices),
-        _ => Ok(Outcome::WordsRefused),
-    }
-}
-
-// What files of these names come to with a run in rounds.
-fn over_rounds<F: Files, D: Device>(
-    alloc: Global,
-    names: Names<'_>,
-    files: &mut F,
-    devices: &mut [D],
-) -> Result<Outcome, NoMemory>
-    requires way { names.inline ≡ true }
-    requires boxes { 16 ≤ length devices.old }
-    requires fresh { FreshBelow 16 (standings D.fresh D.meaning devices.old) }
-    ensures { IfOk result (Comes (F.held files.old) (F.faults files.old) (F.faults files.new)
-        (standings D.fresh D.meaning devices.old) (standings D.fresh D.meaning devices.new)
-        (Some (record {
-          agent = names.entry.agent.now;
-          devices = option_map (λ file. file.now) names.entry.devices;
-          inline = names.entry.inline;
-        }))) }
-{
-    match ready_in(alloc, files, names) {
-        Ok(ready) => {
-            let outcome = run_in_rounds(alloc, &ready.agent, ready.scripts.as_slice(), devices);
-            drop(ready);
-            outcome
+    match order {
+        Order::Run {
+            agent,
+            devices: named,
+            inline,
+        } => {
+            if inline {
+                served(alloc, order, files, devices)
+            } else {
+                over_threads(rt, alloc, files, agent, named, devices)
+            }
         }
-        Err(Unready::Ended(outcome)) => Ok(outcome),
-        Err(Unready::Memory) => Err(NoMemory),
-    }
-}
-
-// The same with a run over threads.
-fn over_threads<R: Threads + Wait + Sync, F: Files, D: Device + Send>(
-    rt: &R,
-    alloc: Global,
-    names: Names<'_>,
-    files: &mut F,
-    devices: &mut [D],
-) -> Result<Outcome, NoMemory>
-    requires way { names.inline ≡ false }
-    requires boxes { 16 ≤ length devices.old }
-    requires fresh { FreshBelow 16 (standings D.fresh D.meaning devices.old) }
-    ensures { IfOk result (Comes (F.held files.old) (F.faults files.old) (F.faults files.new)
-        (standings D.fresh D.meaning devices.old) (standings D.fresh D.meaning devices.new)
-        (Some (record {
-          agent = names.entry.agent.now;
-          devices = option_map (λ file. file.now) names.entry.devices;
-          inline = names.entry.inline;
-        }))) }
-{
-    match ready_in(alloc, files, names) {
-        Ok(ready) => {
-            let outcome = run_on_threads(
-                rt,
-                alloc,
-                &ready.agent,
-                ready.scripts.as_slice(),
-                devices,
-            );
-            drop(ready);
-            outcome
-        }
-        Err(Unready::Ended(outcome)) => Ok(outcome),
-        Err(Unready::Memory) => Err(NoMemory),
+        _ => served(alloc, order, files, devices),
     }
 }
 

@@ -1,5 +1,10 @@
+ghost use Rattle.std.specs.Prelude.{◌≤◌, length};
+ghost use Rattle.golog_device.specs.Slots.{standings, FreshBelow};
+
 use golog_base::{Bytes, HeldFile, List, MemFiles, MemSink, NoMemory, Text};
-use golog_main::{script_devices, serve_inline};
+use golog_device::Device;
+use golog_main::{NO_MEMORY, is_threaded, script_devices, serve_inline};
+use golog_words::order_of;
 use std::alloc::Global;
 
 /// The words of a run of `x.agent`.
@@ -57,7 +62,7 @@ pub fn called_over(
 ) -> Result<Call, NoMemory> {
     let words = words_of(alloc, words)?;
     let mut devices = script_devices(alloc)?;
-    let status = serve_inline(
+    let status = served(
         alloc,
         words.as_slice(),
         &mut files,
@@ -65,6 +70,23 @@ pub fn called_over(
         devices.as_mut_slice(),
     );
     Ok(Call { status, out })
+}
+
+/// Does what these words say, which need no threads, and answers the exit status.
+pub fn served<D: Device>(
+    alloc: Global,
+    words: &[String],
+    files: &mut MemFiles,
+    out: &mut MemSink,
+    devices: &mut [D],
+) -> u8
+    requires boxes { 16 ≤ length devices.old }
+    requires fresh { FreshBelow 16 (standings D.fresh D.meaning devices.old) }
+{
+    match order_of(alloc, words) {
+        Ok(order) if !is_threaded(order) => serve_inline(alloc, order, files, out, devices),
+        _ => NO_MEMORY,
+    }
 }
 
 /// The same over a sink with ample room.

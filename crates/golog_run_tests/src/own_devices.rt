@@ -1,11 +1,10 @@
 ghost use Rattle.std.specs.Prelude.{◌≡◌, ◌≤◌, IfOk, length};
 ghost use Rattle.golog_device.specs.Slots.{standings, FreshBelow};
 
-use crate::calls::{Call, RUN_BOTH, file_of, files_of, words_of};
+use crate::calls::{Call, RUN_BOTH, file_of, files_of, served, words_of};
 use crate::devices::{DOOR, LOOK};
 use golog_base::{Bytes, List, MemSink, NoMemory, Word};
 use golog_device::{Begun, Device, Idle, Served};
-use golog_main::serve_inline;
 use std::alloc::Global;
 use std::test::Fail;
 
@@ -19,7 +18,7 @@ fn called_over<D: Device>(alloc: Global, program: &str, devices: &mut [D]) -> Re
     let mut files = files_of(alloc, &both, &[])?;
     let words = words_of(alloc, &RUN_BOTH)?;
     let mut out = MemSink::new(alloc, 1000, List::new(alloc))?;
-    let status = serve_inline(alloc, words.as_slice(), &mut files, &mut out, devices);
+    let status = served(alloc, words.as_slice(), &mut files, &mut out, devices);
     Ok(Call { status, out })
 }
 

@@ -24,8 +24,22 @@ fn called_over<R: Threads + Wait + Sync, D: Device + Send>(
     requires boxes { 16 ≤ length devices.old }
     requires fresh { FreshBelow 16 (standings D.fresh D.meaning devices.old) }
 {
+    called_with(rt, alloc, &["run", "x.agent"], agent, devices)
+}
+
+/// Calls the program with these words over an agent file of these bytes and these devices.
+pub fn called_with<R: Threads + Wait + Sync, D: Device + Send>(
+    rt: &R,
+    alloc: Global,
+    words: &[&str],
+    agent: &[u8],
+    devices: &mut [D],
+) -> Result<Call, NoMemory>
+    requires boxes { 16 ≤ length devices.old }
+    requires fresh { FreshBelow 16 (standings D.fresh D.meaning devices.old) }
+{
     let mut files = files_of(alloc, &[("x.agent", agent)], &[])?;
-    let words = words_of(alloc, &["run", "x.agent"])?;
+    let words = words_of(alloc, words)?;
     let mut out = MemSink::new(alloc, ROOM, List::new(alloc))?;
     let status = golog(rt, alloc, words.as_slice(), &mut files, &mut out, devices);
     Ok(Call { status, out })

@@ -8,4 +8,4 @@ returns-in-Err-Failed-clause-unready g c = inl (refl, c.in-Err-Failed.ensures.fa
 pub returns-in-Err-TooLong-clause-unready : goal.returns-in-Err-TooLong-clause-unready
 returns-in-Err-TooLong-clause-unready g c =
     too-long c.args.input (g.F.Files.held c.args.files.now) c.args.name.now (g.F.Files.faults c.args.files.now) (g.F.Files.faults c.read_all.new.files)
-    c.refused.result (c.in-Err-TooLong.ensures.too_long (cc)) c.refused.ensures
+    c.limit-limit.result c.refused.result c.limit-limit.ensures (c.in-Err-TooLong.ensures.too_long (cc)) c.refused.ensures

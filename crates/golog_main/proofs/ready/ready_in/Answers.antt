@@ -1,12 +1,9 @@
-use Rattle.std.proofs.Common.{List, Some, refl}
 use Rattle.std.specs.Prelude.{IsSomeAnd, option_map}
-use Rattle.golog_device.specs.Slots.{Standing}
-use Rattle.golog_file.specs.Spelled.{IsFirstRefusal}
+use Rattle.golog_file.specs.Spelled.{IsFirstRefusal, SpellsAgent}
 use Rattle.golog_main.specs.declared.outcome.Input.TheVariants.{Agent as AgentFile, Devices as DevicesFile}
 use Rattle.golog_main.specs.Inputs.{RefusesScripts}
-use Rattle.golog_main.specs.Outcome.{Comes, FileFails}
-use Rattle.golog_main.specs.Words.{Names}
-use Rattle.golog_main.proofs.OutcomeLemmas.{ended-so, agent-fails, scripts-fail}
+use Rattle.golog_main.specs.Outcome.{FileFails, Never, OfAgent, OfScripts}
+use Rattle.golog_main.proofs.OutcomeLemmas.{ended-so, file-comes, scripts-fail}
 use Rattle.golog_main.proofs.ready.ready_in.Goals as goal
 
 pub returns-in-Ok-scripts_in-clause-ready : goal.returns-in-Ok-scripts_in-clause-ready
@@ -23,15 +20,12 @@ returns-in-Err-scripts_in-clause-unready g c =
     let first = g.F.Files.faults c.args.files.now in
     let later = g.F.Files.faults c.agent_in.new.files in
     let now = g.F.Files.faults c.scripts_in.new.files in
-    let names : Names = record {
-      agent = c.args.names.agent.now;
-      devices = option_map (λ file. file.now) c.args.names.devices;
-      inline = c.args.names.inline;
-    } in
+    let name = c.args.agent.now in
+    let named = option_map (λ file. file.now) c.args.devices in
     ended-so c.in-Err-scripts_in.unready
-    (λ o. IsSomeAnd names.devices (λ file. FileFails DevicesFile (RefusesScripts c.in-Ok.agent) held file later now o))
-    (λ o. (devices : List Standing) → Comes held first now devices devices (Some names) o)
-    (scripts-fail held first later now names c.in-Ok.ensures.faults c.in-Ok.agent c.in-Ok.ensures.reads names.devices refl)
+    (λ o. IsSomeAnd named (λ file. FileFails DevicesFile (RefusesScripts c.in-Ok.agent) held file later now o))
+    (OfAgent held first now name (λ a. OfScripts held first now a named Never))
+    (scripts-fail held first now later c.in-Ok.ensures.faults name c.in-Ok.agent c.in-Ok.ensures.reads named)
     (rw c.in-Ok.ensures.held at c.in-Err-scripts_in.ensures.unready)
 
 pub returns-in-Err-clause-unready : goal.returns-in-Err-clause-unready
@@ -39,11 +33,9 @@ returns-in-Err-clause-unready g c =
     let held = g.F.Files.held c.args.files.now in
     let first = g.F.Files.faults c.args.files.now in
     let now = g.F.Files.faults c.agent_in.new.files in
-    let names : Names = record {
-      agent = c.args.names.agent.now;
-      devices = option_map (λ file. file.now) c.args.names.devices;
-      inline = c.args.names.inline;
-    } in
-    ended-so c.in-Err.unready (FileFails AgentFile IsFirstRefusal held names.agent first now)
-    (λ o. (devices : List Standing) → Comes held first now devices devices (Some names) o) (agent-fails held first first now names)
+    let name = c.args.agent.now in
+    let named = option_map (λ file. file.now) c.args.devices in
+    ended-so c.in-Err.unready (FileFails AgentFile IsFirstRefusal held name first now)
+    (OfAgent held first now name (λ a. OfScripts held first now a named Never))
+    (file-comes AgentFile held name first now IsFirstRefusal SpellsAgent (λ a. OfScripts held first now a named Never))
     c.in-Err.ensures.unready

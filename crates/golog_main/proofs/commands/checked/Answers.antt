@@ -1,0 +1,21 @@
+use Rattle.golog_file.specs.Spelled.{SpellsAgent, IsFirstRefusal}
+use Rattle.golog_check_text.specs.Counts.{check_text}
+use Rattle.golog_tree.specs.declared.agent.Agent.{Agent}
+use Rattle.std.specs.Prelude.{◌≡◌}
+use Rattle.golog_main.specs.declared.outcome.Input.TheVariants.{Agent as AgentFile}
+use Rattle.golog_main.specs.declared.outcome.Outcome.{Outcome}
+use Rattle.golog_main.specs.declared.outcome.Outcome.TheVariants.{Checked}
+use Rattle.golog_main.proofs.OutcomeLemmas.{agent-comes, file-comes}
+use Rattle.golog_main.proofs.commands.checked.Goals as goal
+
+pub returns-in-Ok : goal.returns-in-Ok
+returns-in-Ok g c =
+    agent-comes (g.F.Files.held c.args.files.now) c.args.name.now (g.F.Files.faults c.args.files.now) (g.F.Files.faults c.agent_in.new.files)
+    (λ (agent : Agent) (outcome : Outcome). outcome ≡ Checked (check_text agent)) c.in-Ok.agent c.checked_of-outcome.result c.in-Ok.ensures.reads c.checked_of-outcome.ensures
+
+pub returns-in-Err-Ended : goal.returns-in-Err-Ended
+returns-in-Err-Ended g c =
+    rw c.in-Err-Ended.field-0-is
+    (file-comes AgentFile (g.F.Files.held c.args.files.now) c.args.name.now (g.F.Files.faults c.args.files.now) (g.F.Files.faults c.agent_in.new.files)
+    IsFirstRefusal SpellsAgent (λ (agent : Agent) (outcome : Outcome). outcome ≡ Checked (check_text agent)) c.in-Err-Ended.outcome
+    (rw c.in-Err-Ended.field-0-is at c.in-Err-Ended.ensures.unready))
