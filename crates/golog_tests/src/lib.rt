@@ -16,6 +16,8 @@ mod ends;
 #[cfg(test)]
 mod fronts;
 #[cfg(test)]
+mod journals;
+#[cfg(test)]
 mod limits;
 #[cfg(test)]
 mod modes;
