@@ -5,3 +5,5 @@
 mod asks;
 #[cfg(test)]
 mod demos;
+#[cfg(test)]
+mod replays;

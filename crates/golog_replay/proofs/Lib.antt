@@ -1,0 +1,12 @@
+mod Faults
+mod Steps
+mod Awaiting
+mod Tracking
+mod Along
+mod Noting
+mod Judging
+mod Ends
+mod Labels
+mod Texts
+mod Answered
+mod Runs

@@ -1,0 +1,145 @@
+-- What stands with one more entry.
+use Rattle.std.proofs.Common.{◌≡◌, ℕ, ◌+◌, ◌≤◌, ◌<◌, Bool, true, false, not, ◌||◌, ◌==◌, List, [], ◌∷◌, ◌++◌, length, length-append, take, Option, Some, None, refl, sym, ap, ◌∙◌, subst, arith}
+use Rattle.std.specs.Prelude.{Contains, is_some, nat_lt, if◌then◌else◌}
+use mir.Val.{bool_byte}
+use Rattle.std.proofs.lemmas.Bool.{and_parts, ltb-true, ne_eqb}
+use Rattle.std.proofs.lemmas.List.{take-append-le, take_all}
+use Rattle.std.proofs.lemmas.List.Elements.{Contains-append_left, Contains-push}
+use Rattle.golog_tree.specs.declared.agent.Agent.{Agent}
+use Rattle.golog_semantics.specs.declared.journal.Answer.{Answer}
+use Rattle.golog_semantics.specs.declared.journal.Entry.{Entry}
+use Rattle.golog_semantics.specs.declared.journal.Entry.TheVariants.{Do, Test, Exo, Sense, Rest, Close, End}
+use Rattle.golog_tree.specs.Ground.{sort_size}
+use Rattle.golog_semantics.specs.Values.{fluent_sort}
+use Rattle.golog_semantics.specs.Ways.{is_empty}
+use Rattle.golog_semantics.specs.Journal.{Journal, count, has_end, is_counted, is_end, is_result_of, is_settled, poster_of}
+use Rattle.golog_semantics.specs.Online.{keeps_place}
+use Rattle.golog_semantics.specs.OneMore.{and_then}
+use Rattle.golog_semantics.specs.Reports.{fits_entry}
+use Rattle.golog_semantics.proofs.Grown.{entries_grow}
+use Rattle.golog_journal.specs.Agents.{ServesDevices}
+use Rattle.golog_replay.specs.declared.standing.Awaited.{Awaited}
+use Rattle.golog_replay.specs.Standings.{AreEarlier, AwaitsFrom, EndsBy, TellsOf}
+use Rattle.golog_replay.proofs.Awaiting.{awaits-still, earlier-place, earlier-still, its-result, result-comes, tells-all}
+
+or-true : (b : Bool) → (b || true) ≡ true
+or-true true = refl
+or-true false = refl
+
+or-false : (b : Bool) → (b || false) ≡ b
+or-false true = refl
+or-false false = refl
+
+-- the end
+pub ends-now : (journal : Journal) (answer : Answer) → EndsBy (journal ++ End answer ∷ []) (Some answer)
+ends-now journal answer = ((entries_grow journal (End answer)).end ∙ or-true (has_end journal), Contains-push journal (End answer))
+
+pub ends-still : (journal : Journal) (e : Entry) (ended : Option Answer) → is_end e ≡ false → EndsBy journal ended → EndsBy (journal ++ e ∷ []) ended
+ends-still journal e None other h = (entries_grow journal e).end ∙ ap (λ b. has_end journal || b) other ∙ or-false (has_end journal) ∙ h
+ends-still journal e (Some answer) other h = (
+  (entries_grow journal e).end ∙ ap (λ b. b || is_end e) h.0,
+  Contains-append_left journal (e ∷ []) (End answer) h.1,
+)
+
+pub not-end : (e : Entry) → ((answer : Answer) → e ≡ End answer → ⊥) → is_end e ≡ false
+not-end (End answer) other = absurd (other answer refl)
+not-end (Do action) other = refl
+not-end Test other = refl
+not-end (Exo p a) other = refl
+not-end (Sense p at f v) other = refl
+not-end (Rest p t) other = refl
+not-end (Close p r t) other = refl
+
+pub not-some : {A : Type 0} (o : Option A) → ((x : A) → o ≡ Some x → ⊥) → o ≡ None
+not-some None other = refl
+not-some (Some x) other = absurd (other x refl)
+
+pub flipped : (a b : Bool) → a ≡ not b → b ≡ not a
+flipped a true h = sym (ap not h)
+flipped a false h = sym (ap not h)
+
+pub as-number : (b : Bool) → bool_byte b ≡ (if b then 1 else 0)
+as-number true = refl
+as-number false = refl
+
+pub empty-by : {A : Type 0} (n : ℕ) (xs : List A) → n ≡ length xs → (n == 0) ≡ is_empty xs
+empty-by n [] h = ap (λ k. k == 0) h
+empty-by n (x ∷ xs) h = ne_eqb n 0 (λ e. omega (arith, e, h))
+
+-- a result carries a value of its fluent's sort
+pub value-within : (agent : Agent) (journal : Journal) (p at f v : ℕ) → fits_entry agent journal (Sense p at f v) ≡ true
+    → nat_lt v (sort_size agent (fluent_sort agent f)) ≡ true
+value-within agent journal p at f v fits = (and_parts _ _ (and_parts _ _ (and_parts _ _ fits).0).1).1
+
+-- the device that posts an entry is the agent's
+pub poster-within : (agent : Agent) (journal : Journal) (e : Entry) (p : ℕ) → poster_of e ≡ Some p → fits_entry agent journal e ≡ true → p < length agent.devices
+poster-within agent journal (Do action) p h fits = absurd (cc)
+poster-within agent journal Test p h fits = absurd (cc)
+poster-within agent journal (End a) p h fits = absurd (cc)
+poster-within agent journal (Exo q a) p h fits =
+    let same : q ≡ p = cc in subst (λ k. k < length agent.devices) same (ltb-true q (length agent.devices) (and_parts _ _ fits).0)
+poster-within agent journal (Sense q at f v) p h fits =
+    let same : q ≡ p = cc in
+    subst (λ k. k < length agent.devices) same (ltb-true q (length agent.devices) (and_parts _ _ (and_parts _ _ fits).0).0)
+poster-within agent journal (Rest q t) p h fits =
+    let same : q ≡ p = cc in subst (λ k. k < length agent.devices) same (ltb-true q (length agent.devices) (and_parts _ _ fits).0)
+poster-within agent journal (Close q r t) p h fits =
+    let same : q ≡ p = cc in subst (λ k. k < length agent.devices) same (ltb-true q (length agent.devices) (and_parts _ _ fits).0)
+
+module _ (agent : Agent) (journal : Journal) (o : Option Awaited) (awaits : AwaitsFrom agent journal o) where
+  -- a result tells of all commands of its device, and is of an earlier entry
+  pub tells-of : (e : Entry) → keeps_place agent journal e ≡ true → TellsOf agent journal e
+  tells-of (Sense p at f v) h =
+      let r = its-result agent journal o awaits p at f v h in (tells-all agent journal p at f v r, earlier-place agent journal p at r)
+  tells-of (Do action) h = tt
+  tells-of Test h = tt
+  tells-of (Exo p a) h = tt
+  tells-of (Rest p t) h = tt
+  tells-of (Close p r t) h = tt
+  tells-of (End a) h = tt
+
+  not-later : (e : Entry) → keeps_place agent journal e ≡ true → (place : ℕ) → length journal + 1 ≤ place → is_result_of place e ≡ false
+  not-later (Sense p at f v) h place high =
+      let low = earlier-place agent journal p at (its-result agent journal o awaits p at f v h) in
+      ne_eqb at place (λ e. omega (arith, low, e, high))
+  not-later (Do action) h place high = refl
+  not-later Test h place high = refl
+  not-later (Exo p a) h place high = refl
+  not-later (Rest p t) h place high = refl
+  not-later (Close p r t) h place high = refl
+  not-later (End a) h place high = refl
+
+  pub results-still : (e : Entry) → keeps_place agent journal e ≡ true → AreEarlier journal → AreEarlier (journal ++ e ∷ [])
+  results-still e h results = earlier-still journal e results (not-later e h)
+
+  -- a result that comes is the one that is to come
+  pub comes : (p at f v : ℕ) → keeps_place agent journal (Sense p at f v) ≡ true → AwaitsFrom agent (journal ++ Sense p at f v ∷ []) None
+  comes p at f v h = result-comes agent journal p at f v (its-result agent journal o awaits p at f v h)
+
+  pub waits-on : (e : Entry) → ((action : ℕ) → e ≡ Do action → ⊥) → ((p at f v : ℕ) → e ≡ Sense p at f v → ⊥) → AwaitsFrom agent (journal ++ e ∷ []) o
+  waits-on (Do action) other none = absurd (other action refl)
+  waits-on (Sense p at f v) other none = absurd (none p at f v refl)
+  waits-on Test other none = awaits-still agent journal Test (λ c. refl) (λ d. refl) o awaits
+  waits-on (Exo p a) other none = awaits-still agent journal (Exo p a) (λ c. refl) (λ d. refl) o awaits
+  waits-on (Rest p t) other none = awaits-still agent journal (Rest p t) (λ c. refl) (λ d. refl) o awaits
+  waits-on (Close p r t) other none = awaits-still agent journal (Close p r t) (λ c. refl) (λ d. refl) o awaits
+  waits-on (End a) other none = awaits-still agent journal (End a) (λ c. refl) (λ d. refl) o awaits
+
+pub count-more : (journal : Journal) (e : Entry) → count (journal ++ e ∷ []) ≡ count journal + (if is_counted e then 1 else 0)
+count-more journal e = (entries_grow journal e).counted
+
+pub counted-most : (n : ℕ) (journal : Journal) (e : Entry) (one : ℕ) → n ≤ length journal → one ≡ (if is_counted e then 1 else 0)
+    → n + one ≤ length (journal ++ e ∷ [])
+counted-most n journal e one few is = go (is_counted e) is
+  where
+    go : (b : Bool) → one ≡ (if b then 1 else 0) → n + one ≤ length (journal ++ e ∷ [])
+    go true h = let l = length-append journal (e ∷ []) in omega (arith, few, h, l)
+    go false h = let l = length-append journal (e ∷ []) in omega (arith, few, h, l)
+
+-- what is written in front of a list, and what is taken of both
+pub written : {A : Type 0} (n : ℕ) (new rest : List A) → length new ≡ n → take n (new ++ rest) ≡ new
+written n new rest h = take-append-le n new rest (omega (arith, h)) ∙ take_all n new (omega (arith, h))
+
+pub has-end-by : (journal : Journal) (ended : Option Answer) → EndsBy journal ended → has_end journal ≡ is_some ended
+has-end-by journal None h = h
+has-end-by journal (Some answer) h = h.0

@@ -1,0 +1,16 @@
+use Rattle.std.proofs.Common.{Some, sym, ap, ◌∙◌}
+use Rattle.golog_text.proofs.RunsBehind.{none_here}
+use Rattle.golog_replay.proofs.Runs.{first-here, none-first}
+use Rattle.golog_replay.proofs.course.run_here.Goals as goal
+
+pub returns-then-run-place : goal.returns-then-run-place
+returns-then-run-place c =
+    ap Some c.as_slice.ensures
+    ∙ sym (first-here c.args.place c.in-Some.run'.now c.args.runs.now c.in-Some.ensures.value c.if-run-place.true)
+
+pub returns-else-run-place : goal.returns-else-run-place
+returns-else-run-place c =
+    sym (none_here c.args.place c.in-Some.run'.now c.args.runs.now c.in-Some.ensures.value c.requires c.if-run-place.false)
+
+pub returns-in-None : goal.returns-in-None
+returns-in-None c = sym (none-first c.args.place c.args.runs.now c.in-None.ensures.value)

@@ -1,0 +1,4 @@
+pub mod Verdicts
+pub mod Standings
+pub mod Courses
+pub mod Laws

@@ -1,0 +1,469 @@
+//! The course of a journal: one entry after another is judged and taken, and nothing is gone through again.
+
+ghost use Rattle.std.specs.Prelude.{◌≡◌, ◌<◌, [], ◌∷◌, ◌++◌, length, IfOk, IsTrue, MatchOption, None, Some, unwrap_or};
+ghost use Rattle.std.specs.Option.{option_copied};
+ghost use Rattle.std.specs.Cmp.Lexicographic.{pointwise};
+ghost use Rattle.golog_search.specs.Decided.{decision};
+ghost use Rattle.golog_search.specs.Laws.{answer_of as answer_by, blocked_answer};
+ghost use Rattle.golog_semantics.specs.Answer.{answer_at};
+ghost use Rattle.golog_semantics.specs.Online.{keeps_answer as keeps_answer_in, keeps_place, keeps_step, label_of as label_in, may_end as may_end_in, same_answer};
+ghost use Rattle.golog_semantics.specs.Progress.{left_after, values_after};
+ghost use Rattle.golog_semantics.specs.Reports.{fits_entry};
+ghost use Rattle.golog_semantics.specs.Same.{same_label, same_run};
+ghost use Rattle.golog_semantics.specs.Text.{run_at};
+ghost use Rattle.golog_semantics.specs.WellFormed.{WellFormed};
+ghost use Rattle.golog_text.specs.Named.{AreFrom, IsNamed};
+ghost use Rattle.golog_replay.specs.Courses.{BreaksFirst, Follows, IsStep, JudgedIs, KeepsEarly, SteppingIs};
+
+use crate::judged::{Judged, Stepping};
+use crate::standing::Standing;
+use golog_base::{List, NoMemory};
+use golog_progress::{State, start};
+use golog_search::{Blocked, Decision, decide_unbounded, heavy};
+use golog_semantics::{Answer, Entry, Move, PlacedRun, Why};
+use golog_tree::{Agent, Label, Prog, copy_prog};
+use std::alloc::Global;
+
+/// What is kept of the entries so far, the values after them and the program left.
+#[derive(Drop)]
+pub(crate) struct Course {
+    pub(crate) standing: Standing,
+    pub(crate) state: State,
+    pub(crate) left: Prog,
+}
+
+/// The label of a step.
+fn label_of(entry: Entry) -> Option<Label>
+    ensures { result ≡ label_in entry }
+{
+    match entry {
+        Entry::Do { action } => Some(Label::Do(action)),
+        Entry::Test => Some(Label::Quiet),
+        Entry::Exo { .. }
+        | Entry::Sense { .. }
+        | Entry::Rest { .. }
+        | Entry::Close { .. }
+        | Entry::End { .. } => None,
+    }
+}
+
+/// Whether two labels are the same.
+fn is_same_label(one: Label, other: Label) -> bool
+    ensures { result ≡ same_label one other }
+{
+    match one {
+        Label::Quiet => match other {
+            Label::Quiet => true,
+            Label::Do(_) => false,
+        },
+        Label::Do(action) => match other {
+            Label::Quiet => false,
+            Label::Do(other) => action == other,
+        },
+    }
+}
+
+/// Whether these are the same labels.
+fn are_same_labels(one: &[Label], other: &[Label]) -> bool
+    ensures { result ≡ pointwise same_label one.now other.now }
+{
+    let mut rest = other;
+    for label in one {
+        let Some((first, later)) = rest.split_first() else {
+            return false;
+        };
+        if !is_same_label(*label, *first) {
+            return false;
+        }
+        rest = later;
+    }
+    rest.is_empty()
+}
+
+/// The run that is printed at a place, of those from the place on.
+fn run_here(runs: &[PlacedRun], place: usize) -> Option<&[Label]>
+    requires { AreFrom place runs.now }
+    ensures { option_copied result ≡ run_at runs.now place }
+{
+    match runs.first() {
+        Some(run) => {
+            if run.place as usize == place {
+                Some(run.labels.as_slice())
+            } else {
+                None
+            }
+        }
+        None => None,
+    }
+}
+
+/// Whether the run that is printed is the one that is begun, or there is neither.
+fn is_same_run(printed: Option<&[Label]>, begun: &Option<List<Label>>) -> bool
+    ensures { result ≡ same_run (option_copied printed.entry) begun.now }
+{
+    match printed {
+        Some(printed) => match begun {
+            Some(begun) => are_same_labels(printed, begun.as_slice()),
+            None => false,
+        },
+        None => match begun {
+            Some(_) => false,
+            None => true,
+        },
+    }
+}
+
+/// Whether the run that is printed at a place, of those from the place on, is the one that begins there.
+fn keeps_run(runs: &[PlacedRun], place: usize, begun: &Option<List<Label>>) -> bool
+    requires { AreFrom place runs.now }
+    ensures { result ≡ same_run (run_at runs.now place) begun.now }
+{
+    is_same_run(run_here(runs, place), begun)
+}
+
+/// The answer of a program that is blocked.
+fn blocked_answer(blocked: Blocked) -> Answer
+    ensures { result ≡ blocked_answer blocked }
+{
+    match blocked {
+        Blocked::Unknown => Answer::Unknown,
+        Blocked::Depth => Answer::Depth,
+        Blocked::Stuck => Answer::Stuck,
+    }
+}
+
+/// The answer of a program that does this next, where no result is to come.
+fn answer_of(quiet: bool, decision: &Decision) -> Option<Answer>
+    ensures { result ≡ answer_by quiet decision.now }
+{
+    match decision {
+        Decision::Final => Some(Answer::Done),
+        Decision::Step(_) => None,
+        Decision::Blocked(blocked) => {
+            if quiet {
+                Some(blocked_answer(*blocked))
+            } else {
+                None
+            }
+        }
+        Decision::Fuel => Some(Answer::Fuel),
+        Decision::Deep => Some(Answer::Deep),
+    }
+}
+
+/// Whether this is the answer.
+fn is_answer(found: Option<Answer>, answer: Answer) -> bool
+    ensures { result ≡ same_answer found answer }
+{
+    match found {
+        Some(found) => found == answer,
+        None => false,
+    }
+}
+
+/// A step that the program may take keeps the rules where its run is printed.
+fn judge_run(
+    agent: &Agent,
+    before: &[Entry],
+    runs: &[PlacedRun],
+    entry: Entry,
+    step: Move,
+) -> Judged
+    requires early { KeepsEarly agent.now before.now entry }
+    requires step { IsStep agent.now before.now (values_after agent.now before.now) (left_after agent.now before.now) entry step }
+    requires in_order { AreFrom (length before.now) runs.now }
+    ensures { JudgedIs agent.now before.now runs.now entry result }
+{
+    if keeps_run(runs, before.len(), &step.run) {
+        Judged::Kept(Some(step.left))
+    } else {
+        Judged::Broken(Why::Run)
+    }
+}
+
+/// Puts the new program in the place of the old, if there is one.
+fn replace(left: &mut Prog, new: Option<Prog>)
+    ensures { left.new ≡ unwrap_or new left.old }
+{
+    if let Some(new) = new {
+        *left = new;
+    }
+}
+
+impl Course {
+    /// The course before any entry.
+    pub(crate) fn new(alloc: Global, agent: &Agent) -> Result<Course, NoMemory>
+        requires { WellFormed agent.now }
+        ensures { IfOk result (Follows agent.now []) }
+    {
+        let standing = Standing::new(alloc, agent)?;
+        let state = start(alloc, agent)?;
+        let left = copy_prog(alloc, &agent.main)?;
+        Ok(Course {
+            standing,
+            state,
+            left,
+        })
+    }
+
+    /// What the program does next.
+    fn decide(&self, alloc: Global, agent: &Agent, before: &[Entry]) -> Result<Decision, NoMemory>
+        requires { Follows agent.now before.now self.now }
+        ensures { IfOk result (λ d. d ≡ decision agent.now (values_after agent.now before.now) (left_after agent.now before.now)) }
+    {
+        decide_unbounded(alloc, agent, &self.left, &self.state)
+    }
+
+    /// The step of this label that the program may take here, if it is that of an entry.
+    fn step_of(
+        &self,
+        alloc: Global,
+        agent: &Agent,
+        before: &[Entry],
+        entry: Entry,
+        label: Label,
+    ) -> Result<Stepping, NoMemory>
+        requires follows { Follows agent.now before.now self.now }
+        requires label { label_in entry ≡ Some label }
+        ensures { IfOk result (SteppingIs agent.now before.now (values_after agent.now before.now) (left_after agent.now before.now) entry) }
+    {
+        if self.standing.is_full(agent, before) {
+            return Ok(Stepping::Breaks);
+        }
+        if !self.standing.is_settled(agent, before) {
+            return Ok(Stepping::Breaks);
+        }
+        let decision = self.decide(alloc, agent, before)?;
+        match decision {
+            Decision::Step(step) => {
+                if is_same_label(label, step.label) {
+                    Ok(Stepping::Steps(step))
+                } else {
+                    Ok(Stepping::Breaks)
+                }
+            }
+            _ => Ok(Stepping::Breaks),
+        }
+    }
+
+    /// Whether the entry is a step, and which.
+    fn stepping(
+        &self,
+        alloc: Global,
+        agent: &Agent,
+        before: &[Entry],
+        entry: Entry,
+    ) -> Result<Stepping, NoMemory>
+        requires { Follows agent.now before.now self.now }
+        ensures { IfOk result (SteppingIs agent.now before.now (values_after agent.now before.now) (left_after agent.now before.now) entry) }
+    {
+        match label_of(entry) {
+            Some(label) => self.step_of(alloc, agent, before, entry, label),
+            None => Ok(Stepping::NoStep),
+        }
+    }
+
+    /// The answer of the program, if it may end.
+    fn answer(
+        &self,
+        alloc: Global,
+        agent: &Agent,
+        before: &[Entry],
+    ) -> Result<Option<Answer>, NoMemory>
+        requires { Follows agent.now before.now self.now }
+        ensures { IfOk result (λ a. a ≡ answer_at agent.now before.now (values_after agent.now before.now) (left_after agent.now before.now)) }
+    {
+        if self.standing.is_full(agent, before) {
+            return Ok(Some(Answer::Full));
+        }
+        if self.standing.is_unanswered(agent, before) {
+            return Ok(Some(Answer::Unanswered));
+        }
+        if !self.standing.is_settled(agent, before) {
+            return Ok(None);
+        }
+        let decision = self.decide(alloc, agent, before)?;
+        Ok(answer_of(self.standing.is_quiet(agent, before), &decision))
+    }
+
+    /// Whether the program may end for want of fuel.
+    fn may_lack_fuel(
+        &self,
+        alloc: Global,
+        agent: &Agent,
+        before: &[Entry],
+    ) -> Result<bool, NoMemory>
+        requires { Follows agent.now before.now self.now }
+        ensures { IfOk result (λ b. b ≡ may_end_in agent.now before.now (values_after agent.now before.now) (left_after agent.now before.now) Answer.Fuel) }
+    {
+        if self.standing.is_full(agent, before) {
+            return Ok(false);
+        }
+        if self.standing.is_unanswered(agent, before) {
+            return Ok(false);
+        }
+        if !self.standing.is_settled(agent, before) {
+            return Ok(false);
+        }
+        heavy(alloc, agent, &self.left, &self.state)
+    }
+
+    /// Whether the program may end with the answer.
+    fn may_end(
+        &self,
+        alloc: Global,
+        agent: &Agent,
+        before: &[Entry],
+        answer: Answer,
+    ) -> Result<bool, NoMemory>
+        requires { Follows agent.now before.now self.now }
+        ensures { IfOk result (λ b. b ≡ may_end_in agent.now before.now (values_after agent.now before.now) (left_after agent.now before.now) answer) }
+    {
+        match answer {
+            Answer::Memory => Ok(true),
+            Answer::Fuel => self.may_lack_fuel(alloc, agent, before),
+            _ => {
+                let found = self.answer(alloc, agent, before)?;
+                Ok(is_answer(found, answer))
+            }
+        }
+    }
+
+    /// The end carries an answer that the program may end with.
+    fn keeps_answer(
+        &self,
+        alloc: Global,
+        agent: &Agent,
+        before: &[Entry],
+        entry: Entry,
+    ) -> Result<bool, NoMemory>
+        requires { Follows agent.now before.now self.now }
+        ensures { IfOk result (λ b. b ≡ keeps_answer_in agent.now before.now (values_after agent.now before.now) (left_after agent.now before.now) entry) }
+    {
+        match entry {
+            Entry::End { answer } => self.may_end(alloc, agent, before, answer),
+            Entry::Do { .. }
+            | Entry::Test
+            | Entry::Exo { .. }
+            | Entry::Sense { .. }
+            | Entry::Rest { .. }
+            | Entry::Close { .. } => Ok(true),
+        }
+    }
+
+    /// The first of the rules of posts that the entry breaks.
+    fn breaks_early(&self, agent: &Agent, before: &[Entry], entry: Entry) -> Option<Why>
+        requires follows { Follows agent.now before.now self.now }
+        requires fits { IsTrue (fits_entry agent.now before.now entry) }
+        ensures { MatchOption result (KeepsEarly agent.now before.now entry) (BreaksFirst agent.now before.now entry) }
+    {
+        if !self.standing.keeps_after(agent, before, entry) {
+            return Some(Why::After);
+        }
+        if !self.standing.keeps_poster(agent, before, entry) {
+            return Some(Why::Poster);
+        }
+        if !self.standing.keeps_place(agent, before, entry) {
+            return Some(Why::Place);
+        }
+        if !self.standing.keeps_taken(agent, before, entry) {
+            return Some(Why::Taken);
+        }
+        None
+    }
+
+    /// What is found of an entry that is no step.
+    fn judge_other(
+        &self,
+        alloc: Global,
+        agent: &Agent,
+        before: &[Entry],
+        runs: &[PlacedRun],
+        entry: Entry,
+    ) -> Result<Judged, NoMemory>
+        requires follows { Follows agent.now before.now self.now }
+        requires fits { IsTrue (fits_entry agent.now before.now entry) }
+        requires early { KeepsEarly agent.now before.now entry }
+        requires no_step { label_in entry ≡ None }
+        requires in_order { AreFrom (length before.now) runs.now }
+        ensures { IfOk result (JudgedIs agent.now before.now runs.now entry) }
+    {
+        if !keeps_run(runs, before.len(), &None) {
+            return Ok(Judged::Broken(Why::Run));
+        }
+        let answers = self.keeps_answer(alloc, agent, before, entry)?;
+        if !answers {
+            return Ok(Judged::Broken(Why::Answer));
+        }
+        if !self.standing.keeps_close(agent, before, entry) {
+            return Ok(Judged::Broken(Why::Close));
+        }
+        Ok(Judged::Kept(None))
+    }
+
+    /// What is found of an entry that keeps the rules of posts.
+    fn judge_late(
+        &self,
+        alloc: Global,
+        agent: &Agent,
+        before: &[Entry],
+        runs: &[PlacedRun],
+        entry: Entry,
+    ) -> Result<Judged, NoMemory>
+        requires follows { Follows agent.now before.now self.now }
+        requires fits { IsTrue (fits_entry agent.now before.now entry) }
+        requires early { KeepsEarly agent.now before.now entry }
+        requires in_order { AreFrom (length before.now) runs.now }
+        ensures { IfOk result (JudgedIs agent.now before.now runs.now entry) }
+    {
+        let stepping = self.stepping(alloc, agent, before, entry)?;
+        match stepping {
+            Stepping::Breaks => Ok(Judged::Broken(Why::Step)),
+            Stepping::NoStep => self.judge_other(alloc, agent, before, runs, entry),
+            Stepping::Steps(step) => Ok(judge_run(agent, before, runs, entry, step)),
+        }
+    }
+
+    /// What is found of the next entry, by all rules but that of its text. The runs are those from its place
+    /// on.
+    pub(crate) fn judge(
+        &self,
+        alloc: Global,
+        agent: &Agent,
+        before: &[Entry],
+        runs: &[PlacedRun],
+        entry: Entry,
+    ) -> Result<Judged, NoMemory>
+        requires follows { Follows agent.now before.now self.now }
+        requires fits { IsTrue (fits_entry agent.now before.now entry) }
+        requires in_order { AreFrom (length before.now) runs.now }
+        ensures { IfOk result (JudgedIs agent.now before.now runs.now entry) }
+    {
+        match self.breaks_early(agent, before, entry) {
+            Some(why) => Ok(Judged::Broken(why)),
+            None => self.judge_late(alloc, agent, before, runs, entry),
+        }
+    }
+
+    /// One more entry, which keeps the rules and leaves this program, if another than before.
+    pub(crate) fn advance(
+        &mut self,
+        agent: &Agent,
+        before: &[Entry],
+        entry: Entry,
+        left: Option<Prog>,
+    )
+        requires follows { Follows agent.now before.now self.old }
+        requires fits { IsTrue (fits_entry agent.now before.now entry) }
+        requires place { IsTrue (keeps_place agent.now before.now entry) }
+        requires step { IsTrue (keeps_step agent.now before.now (values_after agent.now before.now) (left_after agent.now before.now) entry) }
+        requires named { IsNamed agent.now entry }
+        requires short { length before.now < 1048576 }
+        requires left { left_after agent.now (before.now ++ entry ∷ []) ≡ unwrap_or left (left_after agent.now before.now) }
+        ensures { Follows agent.now (before.now ++ entry ∷ []) self.new }
+    {
+        self.standing.note(agent, before, entry);
+        self.state.roll(agent, &[entry]);
+        replace(&mut self.left, left);
+    }
+}

@@ -1,0 +1,8 @@
+//! Laws of what is replayed.
+ghost use Rattle.golog_replay.specs.Laws.{OnlineIsAnOnlineRun};
+
+/// A report that was read from bytes is online exactly where it is an online execution and the bytes are its
+/// text: the bytes are then those of a run that ends with this answer.
+pub fn online_is_an_online_run()
+    ensures { OnlineIsAnOnlineRun }
+{}

@@ -1,0 +1,16 @@
+//! Whether a journal is an online execution of its program.
+#![tactic(auto)]
+
+mod course;
+mod judged;
+mod laws;
+mod lines;
+mod replaying;
+mod standing;
+mod tracked;
+mod verdict;
+
+pub use golog_semantics::{Answer, Report, Why};
+pub use laws::online_is_an_online_run;
+pub use replaying::replay;
+pub use verdict::Verdict;
