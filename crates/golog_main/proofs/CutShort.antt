@@ -12,7 +12,7 @@ use Rattle.golog_file.specs.Spelled.{SpellsAgent, IsFirstRefusal}
 use Rattle.golog_words.specs.Commands.{run}
 use Rattle.golog_main.specs.declared.outcome.Input.TheVariants.{Agent as AgentFile, Devices as DevicesFile}
 use Rattle.golog_main.specs.declared.outcome.Outcome.{Outcome}
-use Rattle.golog_main.specs.declared.outcome.Outcome.TheVariants.{WordsRefused, ReadFault, Refused, Ran, Checked, Asked, Demonstrated}
+use Rattle.golog_main.specs.declared.outcome.Outcome.TheVariants.{WordsRefused, ReadFault, Refused, Ran, Checked, Judged, Asked, Demonstrated}
 use Rattle.golog_main.specs.Inputs.{scripts_for, SpellsScripts, RefusesScripts}
 use Rattle.golog_main.specs.Runs.{IsRunOf}
 use Rattle.golog_main.specs.Outcome.{Outside, OfScripts, RunOf, IsCaused, Reports, text_of, status_of}
@@ -60,6 +60,7 @@ module _ (inline : Bool) (before after : Outside) (agent : Agent) (listed : List
   adds (ReadFault input) of prefix = absurd of
   adds (Refused input text) of prefix = absurd of
   adds (Checked text) of prefix = absurd of
+  adds (Judged verdict text) of prefix = absurd of
   adds (Asked truth) of prefix = absurd of
   adds (Demonstrated text) of prefix = absurd of
 

@@ -1,5 +1,5 @@
 -- The causes exclude one another, and each outcome has one status.
-use Rattle.std.proofs.Common.{◌≡◌, Bool, ℕ, ◌<◌, ◌≤◌, List, [], Option, Some, None, Ok, Err, ◌⊎◌, inl, inr, arith, sym, ap, ◌∙◌, refl, subst, IsSome}
+use Rattle.std.proofs.Common.{◌≡◌, Bool, ℕ, ◌≤◌, List, [], Option, Some, None, Ok, Err, ◌⊎◌, inl, inr, arith, sym, ap, ◌∙◌, refl, subst, IsSome}
 use Rattle.golog_base.specs.Faults.{Rose}
 use Rattle.golog_base.specs.Files.{HasNone, FileHas, bytes_of}
 use Rattle.golog_base.specs.Known.{and_then_bytes}
@@ -11,6 +11,7 @@ use Rattle.golog_semantics.specs.Text.{Text}
 use Rattle.golog_semantics.specs.Progress.{values_after}
 use Rattle.golog_semantics.specs.Truth.{env_of, truth_of}
 use Rattle.golog_semantics.specs.declared.journal.Answer.{Answer}
+use Rattle.golog_semantics.specs.declared.journal.Why.{Why}
 use Rattle.golog_semantics.specs.declared.journal.Answer.TheVariants.{Done, Stuck, Unknown, Depth, Fuel, Unanswered, Full, Deep, Memory}
 use Rattle.golog_semantics.specs.Execution.{status_of as answer_status}
 use Rattle.golog_script.specs.declared.scripts.Script.{Script}
@@ -21,17 +22,19 @@ use Rattle.golog_file.specs.declared.reading.Understood.{Understood}
 use Rattle.golog_file.proofs.Answers.{without-theory}
 use Rattle.golog_file.proofs.Excluded.{excluded, one-agent, one-form, theory-same}
 use Rattle.golog_check_text.specs.Counts.{check_text}
+use Rattle.golog_replay.specs.declared.verdict.Verdict.TheVariants.{Online, Not}
 use Rattle.golog_words.specs.Commands.{Command, run, check, replay, ask, demo}
 use Rattle.golog_main.specs.declared.outcome.Input.{Input}
 use Rattle.golog_main.specs.declared.outcome.Input.TheVariants.{Agent as AgentFile, Devices as DevicesFile, Journal as JournalFile}
 use Rattle.golog_main.specs.declared.outcome.Outcome.{Outcome}
-use Rattle.golog_main.specs.declared.outcome.Outcome.TheVariants.{WordsRefused, ReadFault, Refused, Ran, Checked, Asked, Demonstrated}
+use Rattle.golog_main.specs.declared.outcome.Outcome.TheVariants.{WordsRefused, ReadFault, Refused, Ran, Checked, Judged, Asked, Demonstrated}
 use Rattle.golog_main.specs.declared.ready.Told.{Told}
 use Rattle.golog_main.specs.Inputs.{SpellsScripts, RefusesScripts, too_long, of_row, SpellsJournal, RefusesJournal, journal_too_long, of_line, SpellsBoth, Reads, Tells, IsUnread, scripts_for}
 use Rattle.golog_main.specs.Demos.{Demonstrates, demo_text}
 use Rattle.golog_main.specs.Runs.{IsRunOf}
-use Rattle.golog_main.specs.Outcome.{ComesOf, unread, refused, holds, OfFile, OfScripts, OfJournal, OfCondition, RunOf, TruthOf, Outside, IsCaused, Reports, text_of, status_of}
-use Rattle.golog_main.specs.Exact.{Writes, Shows, IsRefused, SaysItsCause, IsStopped, Answers, Says, IsRead, FileFollows, CondFollows, ScriptsFollow, JournalFollows, RunFollows, DemoFollows, TruthFollows, FollowsItsCause, StatusesAreExact}
+use Rattle.golog_main.specs.Outcome.{ComesOf, unread, refused, holds, OfFile, OfScripts, OfJournal, OfCondition, RunOf, Judges, TruthOf, Outside, IsCaused, Reports, text_of, status_of, verdict_line, verdict_status}
+use Rattle.golog_main.proofs.OneVerdict.{one-verdict}
+use Rattle.golog_main.specs.Exact.{Writes, Shows, SaysItsCause, IsStopped, Answers, Says, IsRead, FileFollows, CondFollows, ScriptsFollow, JournalFollows, RunFollows, DemoFollows, JudgedFollows, TruthFollows, FollowsItsCause, StatusesAreExact}
 
 -- ---- what is read
 
@@ -187,6 +190,7 @@ module _ (status : ℕ) (before after : Outside) where
   ran-follows agent listed inline (ReadFault input) is written ran = absurd ran
   ran-follows agent listed inline (Refused input text) is written ran = absurd ran
   ran-follows agent listed inline (Checked text) is written ran = absurd ran
+  ran-follows agent listed inline (Judged verdict text) is written ran = absurd ran
   ran-follows agent listed inline (Asked truth) is written ran = absurd ran
   ran-follows agent listed inline (Demonstrated text) is written ran = absurd ran
 
@@ -220,6 +224,18 @@ module _ (status : ℕ) (before after : Outside) where
         (λ told. cond-follows unrefused one status before after outcome shown u.theory u.agent condition (TruthOf u.agent told) (Asks u.agent told)
         (λ cond is. said (Asked (truth_of u.agent (values_after u.agent told.report.entries) cond (env_of []))) is)) comes
 
+    -- the verdict is the one that is told
+    judge-follows : (agent : Agent) (told : Told) → Judges agent told outcome → JudgedFollows status before after agent told
+    judge-follows agent told judges verdict so =
+        let same : judges.verdict ≡ verdict = one-verdict agent told.bytes told.report judges.verdict verdict judges.so so in
+        subst (λ v. Says status (verdict_status v) (verdict_line v) before after) same (said (Judged judges.verdict (verdict_line judges.verdict)) judges.is)
+
+    replay-follows : (agent : Agent) (journal : Text) → OfJournal before.held before.file_faults after.file_faults agent journal (Judges agent) outcome
+        → JournalFollows status before after agent journal (λ told. JudgedFollows status before after agent told)
+    replay-follows agent journal comes =
+        file-follows before after JournalFile journal (RefusesJournal agent) (SpellsJournal agent) (journals-exclude agent) (journals-one agent) outcome status shown
+        (Judges agent) (λ told. JudgedFollows status before after agent told) (judge-follows agent) comes
+
     demo-follows : (size : ℕ) → Demonstrates size before.devices after.devices outcome → DemoFollows status before after size
     demo-follows size shows =
         let text = demo_text size shows.report.entries shows.answer in
@@ -242,7 +258,11 @@ module _ (status : ℕ) (before after : Outside) where
     follows (Some (check name)) comes =
         file-follows before after AgentFile name IsFirstRefusal SpellsAgent agents-exclude agents-one outcome status shown
         (λ a o. o ≡ Checked (check_text a)) (λ a. Says status 0 (check_text a) before after) (λ a is. said (Checked (check_text a)) is) comes
-    follows (Some (replay name journal)) is = inl (shown ∙ ap status_of is)
+    follows (Some (replay name journal)) comes =
+        file-follows before after AgentFile name IsFirstRefusal SpellsAgent agents-exclude agents-one outcome status shown
+        (λ a. OfJournal before.held before.file_faults after.file_faults a journal (Judges a))
+        (λ a. JournalFollows status before after a journal (λ told. JudgedFollows status before after a told))
+        (λ a. replay-follows a journal) comes
     follows (Some (ask name journal condition)) comes =
         file-follows before after AgentFile name IsFirstRefusal SpellsBoth both-exclude both-one outcome status shown
         (λ u. OfJournal before.held before.file_faults after.file_faults u.agent journal (λ told. OfCondition u.theory u.agent condition (λ cond. TruthOf u.agent told cond)))
@@ -256,6 +276,11 @@ module _ (status : ℕ) (before after : Outside) where
     scripts-stopped agent None inline = inr stop
     scripts-stopped agent (Some name) inline =
         file-stopped status before after name (RefusesScripts agent) (SpellsScripts agent) (λ listed. RunFollows status before after agent listed inline) stop (λ listed. inr stop)
+
+    replay-stopped : (agent : Agent) (journal : Text) → JournalFollows status before after agent journal (λ told. JudgedFollows status before after agent told)
+    replay-stopped agent journal =
+        file-stopped status before after journal (RefusesJournal agent) (SpellsJournal agent) (λ told. JudgedFollows status before after agent told) stop
+        (λ told verdict so. inr stop)
 
     ask-stopped : (u : Understood) (journal condition : Text)
         → JournalFollows status before after u.agent journal
@@ -272,7 +297,9 @@ module _ (status : ℕ) (before after : Outside) where
         (λ a. ScriptsFollow status before after a named (λ listed. RunFollows status before after a listed inline)) stop (λ a. scripts-stopped a named inline)
     stopped (Some (check name)) =
         file-stopped status before after name IsFirstRefusal SpellsAgent (λ a. Says status 0 (check_text a) before after) stop (λ a. inr stop)
-    stopped (Some (replay name journal)) = inr stop
+    stopped (Some (replay name journal)) =
+        file-stopped status before after name IsFirstRefusal SpellsAgent
+        (λ a. JournalFollows status before after a journal (λ told. JudgedFollows status before after a told)) stop (λ a. replay-stopped a journal)
     stopped (Some (ask name journal condition)) =
         file-stopped status before after name IsFirstRefusal SpellsBoth
         (λ u. JournalFollows status before after u.agent journal
@@ -308,6 +335,7 @@ module _ (status : ℕ) (spelled : Option Command) (before after : Outside) wher
     write_fault = λ five. rose;
     starved = λ six. absurd (omega (arith, is, six));
     ran = λ more. let low = more.0 in absurd (omega (arith, is, low));
+    not_online = λ seventeen. absurd (omega (arith, is, seventeen));
     served = λ none. absurd (omega (arith, is, none));
   }
 
@@ -321,6 +349,7 @@ module _ (status : ℕ) (spelled : Option Command) (before after : Outside) wher
     write_fault = λ five. absurd (omega (arith, is, five));
     starved = λ six. cause;
     ran = λ more. let low = more.0 in absurd (omega (arith, is, low));
+    not_online = λ seventeen. absurd (omega (arith, is, seventeen));
     served = λ none. absurd (omega (arith, is, none));
   }
 
@@ -332,6 +361,7 @@ module _ (status : ℕ) (spelled : Option Command) (before after : Outside) wher
     write_fault = λ five. absurd (omega (arith, is, five));
     starved = λ six. absurd (omega (arith, is, six));
     ran = λ more. let low = more.0 in absurd (omega (arith, is, low));
+    not_online = λ seventeen. absurd (omega (arith, is, seventeen));
     served = λ none. absurd (omega (arith, is, none));
   }
 
@@ -343,10 +373,11 @@ module _ (status : ℕ) (spelled : Option Command) (before after : Outside) wher
     write_fault = λ five. absurd (omega (arith, is, five));
     starved = λ six. absurd (omega (arith, is, six));
     ran = λ more. let low = more.0 in absurd (omega (arith, is, low));
+    not_online = λ seventeen. absurd (omega (arith, is, seventeen));
     served = λ none. absurd (omega (arith, is, none));
   }
 
-  words_say : status ≡ 2 → IsRefused spelled → SaysItsCause status spelled before after
+  words_say : status ≡ 2 → spelled ≡ None → SaysItsCause status spelled before after
   words_say is cause = record {
     words_refused = λ two. cause;
     refused = λ three. absurd (omega (arith, is, three));
@@ -354,18 +385,32 @@ module _ (status : ℕ) (spelled : Option Command) (before after : Outside) wher
     write_fault = λ five. absurd (omega (arith, is, five));
     starved = λ six. absurd (omega (arith, is, six));
     ran = λ more. let low = more.0 in absurd (omega (arith, is, low));
+    not_online = λ seventeen. absurd (omega (arith, is, seventeen));
     served = λ none. absurd (omega (arith, is, none));
   }
 
-  ran_says : (text : Text) (answer : Answer) → Shows status spelled before after (Ran text answer) → 10 ≤ status → SaysItsCause status spelled before after
-  ran_says text answer shows more = record {
+  ran_says : (text : Text) (answer : Answer) → Shows status spelled before after (Ran text answer) → 10 ≤ status → status ≤ 16 → SaysItsCause status spelled before after
+  ran_says text answer shows more less = record {
     words_refused = λ two. absurd (omega (arith, more, two));
     refused = λ three. absurd (omega (arith, more, three));
     read_fault = λ four. absurd (omega (arith, more, four));
     write_fault = λ five. absurd (omega (arith, more, five));
     starved = λ six. absurd (omega (arith, more, six));
     ran = λ within. (text, answer, shows);
+    not_online = λ seventeen. absurd (omega (arith, less, seventeen));
     served = λ none. absurd (omega (arith, more, none));
+  }
+
+  not_online_says : (place : ℕ) (why : Why) (text : Text) → Shows status spelled before after (Judged (Not place why) text) → SaysItsCause status spelled before after
+  not_online_says place why text shows = let is : status ≡ 17 = shows.shown in record {
+    words_refused = λ two. absurd (omega (arith, is, two));
+    refused = λ three. absurd (omega (arith, is, three));
+    read_fault = λ four. absurd (omega (arith, is, four));
+    write_fault = λ five. absurd (omega (arith, is, five));
+    starved = λ six. absurd (omega (arith, is, six));
+    ran = λ more. let high = more.1 in absurd (omega (arith, is, high));
+    not_online = λ seventeen. (place, why, text, shows);
+    served = λ none. absurd (omega (arith, is, none));
   }
 
   served_says : (outcome : Outcome) → status ≡ 0 → Shows status spelled before after outcome → SaysItsCause status spelled before after
@@ -376,6 +421,7 @@ module _ (status : ℕ) (spelled : Option Command) (before after : Outside) wher
     write_fault = λ five. absurd (omega (arith, is, five));
     starved = λ six. absurd (omega (arith, is, six));
     ran = λ more. let low = more.0 in absurd (omega (arith, is, low));
+    not_online = λ seventeen. absurd (omega (arith, is, seventeen));
     served = λ none. (outcome, shows);
   }
 
@@ -392,14 +438,15 @@ module _ (before after : Outside) where
   not-scripts agent None inline comes = comes
   not-scripts agent (Some file) inline comes = not-words comes (λ listed none. none)
 
-  refused-words : (spelled : Option Command) → IsCaused spelled before after WordsRefused → IsRefused spelled
-  refused-words None cause = tt
-  refused-words (Some (run name named inline)) cause = not-words cause (λ agent comes. not-scripts agent named inline comes)
-  refused-words (Some (check name)) cause = not-words cause (λ agent is. cc)
-  refused-words (Some (replay name journal)) cause = tt
+  refused-words : (spelled : Option Command) → IsCaused spelled before after WordsRefused → spelled ≡ None
+  refused-words None cause = refl
+  refused-words (Some (run name named inline)) cause = absurd (not-words cause (λ agent comes. not-scripts agent named inline comes))
+  refused-words (Some (check name)) cause = absurd (not-words cause (λ agent is. cc))
+  refused-words (Some (replay name journal)) cause =
+      absurd (not-words cause (λ agent comes. not-words comes (λ told judges. let is = judges.is in cc)))
   refused-words (Some (ask name journal condition)) cause =
-      not-words cause (λ u comes. not-words comes (λ told also. not-words also (λ cond is. cc)))
-  refused-words (Some (demo size)) cause = let is = cause.is in cc
+      absurd (not-words cause (λ u comes. not-words comes (λ told also. not-words also (λ cond is. cc))))
+  refused-words (Some (demo size)) cause = let is = cause.is in absurd (cc)
 
   some-command : (spelled : Option Command) (outcome : Outcome) → (outcome ≡ WordsRefused → ⊥) → IsCaused spelled before after outcome → IsSome spelled
   some-command None outcome never cause = absurd (never cause)
@@ -412,7 +459,7 @@ module _ (status : ℕ) (spelled : Option Command) (before after : Outside) wher
       starved_says status spelled before after (shows.shown ∙ ap answer_status is)
       (some-command before after spelled (Ran text answer) (λ e. absurd (cc)) shows.cause, inr (text, subst (λ a. Shows status spelled before after (Ran text a)) is shows))
   run-says text answer shows (is_other more less) =
-      ran_says status spelled before after text answer shows (let is = shows.shown in omega (arith, is, more))
+      ran_says status spelled before after text answer shows (let is = shows.shown in omega (arith, is, more)) (let is = shows.shown in omega (arith, is, less))
 
   says : (outcome : Outcome) → Shows status spelled before after outcome → SaysItsCause status spelled before after
   says WordsRefused shows = words_say status spelled before after shows.shown (refused-words before after spelled shows.cause)
@@ -420,6 +467,8 @@ module _ (status : ℕ) (spelled : Option Command) (before after : Outside) wher
   says (Refused input text) shows = refused_says status spelled before after input text shows
   says (Ran text answer) shows = run-says text answer shows (run_status answer)
   says (Checked text) shows = served_says status spelled before after (Checked text) shows.shown shows
+  says (Judged (Online answer) text) shows = served_says status spelled before after (Judged (Online answer) text) shows.shown shows
+  says (Judged (Not place why) text) shows = not_online_says status spelled before after place why text shows
   says (Asked truth) shows = served_says status spelled before after (Asked truth) shows.shown shows
   says (Demonstrated text) shows = served_says status spelled before after (Demonstrated text) shows.shown shows
 

@@ -5,7 +5,7 @@ use Rattle.golog_semantics.specs.Text.{Text}
 use Rattle.golog_script.specs.declared.scripts.Script.{Script}
 use Rattle.golog_words.specs.Commands.{Command, run, check, replay, ask, demo}
 use Rattle.golog_main.specs.declared.outcome.Outcome.{Outcome}
-use Rattle.golog_main.specs.declared.outcome.Outcome.TheVariants.{WordsRefused, ReadFault, Refused, Ran, Checked, Asked, Demonstrated}
+use Rattle.golog_main.specs.declared.outcome.Outcome.TheVariants.{WordsRefused, ReadFault, Refused, Ran, Checked, Judged, Asked, Demonstrated}
 use Rattle.golog_main.specs.Exact.{IfRun, IsRunStatus, Writes}
 use Rattle.golog_main.specs.InWorlds.{PrintsWhatIsSo, RunsAreSo}
 use Rattle.golog_main.specs.Inputs.{ReadsAgent}
@@ -35,6 +35,7 @@ module _ (status : ℕ) (before after : Outside) (ran : IsRunStatus status) wher
   printed name agent inline listed (ReadFault input) reads written of = absurd of
   printed name agent inline listed (Refused input text) reads written of = absurd of
   printed name agent inline listed (Checked text) reads written of = absurd of
+  printed name agent inline listed (Judged verdict text) reads written of = absurd of
   printed name agent inline listed (Asked truth) reads written of = absurd of
   printed name agent inline listed (Demonstrated text) reads written of = absurd of
 

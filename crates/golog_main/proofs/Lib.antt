@@ -1,6 +1,8 @@
 pub mod InputLemmas
 pub mod OutcomeLemmas
+mod OneVerdict
 pub mod ExactLemmas
+pub mod Replayed
 pub mod InWorlds
 pub mod CutShort
 pub mod Begun

@@ -11,12 +11,12 @@ use Rattle.golog_device.specs.Slots.{Standing}
 use Rattle.golog_script.specs.declared.scripts.Script.{Script}
 use Rattle.golog_file.specs.Conditions.{RefusesCond, SpellsCond}
 use Rattle.golog_file.specs.declared.reading.Understood.{Understood}
-use Rattle.golog_file.specs.Spelled.{IsFirstRefusal, SpellsAgent, of_bytes}
+use Rattle.golog_file.specs.Spelled.{IsFirstRefusal, of_bytes}
 use Rattle.golog_words.specs.Commands.{run}
 use Rattle.golog_main.specs.declared.outcome.Input.{Input}
 use Rattle.golog_main.specs.declared.outcome.Input.TheVariants.{Agent as AgentFile, Devices as DevicesFile, Journal as JournalFile, Condition}
 use Rattle.golog_main.specs.declared.outcome.Outcome.{Outcome}
-use Rattle.golog_main.specs.declared.outcome.Outcome.TheVariants.{WordsRefused, ReadFault, Refused, Ran, Checked, Asked, Demonstrated}
+use Rattle.golog_main.specs.declared.outcome.Outcome.TheVariants.{WordsRefused, ReadFault, Refused, Ran, Checked, Judged, Asked, Demonstrated}
 use Rattle.golog_main.specs.declared.ready.Ready.{Ready}
 use Rattle.golog_main.specs.declared.ready.Told.{Told}
 use Rattle.golog_main.specs.declared.ready.Unready.{Unready}
@@ -126,6 +126,13 @@ pub told-comes : {E : Type 0} (held : Option (List HeldFile)) (name : Text) (fir
 told-comes held name first after agent Next told (Ok outcome) reads next = holds told reads next
 told-comes held name first after agent Next told (Err e) reads next = next
 
+-- what comes of a journal file since later comes of it since earlier
+pub journal-since : {E : Type 0} (held : Option (List HeldFile)) (name : Text) (first later after : ℕ) (agent : Agent) (Next : Told → Outcome → Type 0) (r : Result Outcome E) → first ≤ later
+    → IfOk r (OfJournal held later after agent name Next) → IfOk r (OfJournal held first after agent name Next)
+journal-since held name first later after agent Next (Ok outcome) grows comes =
+    file-since JournalFile held name first later after (RefusesJournal agent) (SpellsJournal agent) Next outcome grows comes
+journal-since held name first later after agent Next (Err e) grows comes = comes
+
 -- what comes of an agent file that spells this, and of a journal file that is read later
 pub both-come : {E : Type 0} (held : Option (List HeldFile)) (name : Text) (first later after : ℕ) (journal : Text) (Next : Understood → Told → Outcome → Type 0)
     (u : Understood) (r : Result Outcome E) → first ≤ later → Reads held name (λ bytes. SpellsBoth bytes u)
@@ -209,6 +216,7 @@ ran-untouched agent listed inline olds news WordsRefused ran none = absurd ran
 ran-untouched agent listed inline olds news (ReadFault input) ran none = absurd ran
 ran-untouched agent listed inline olds news (Refused input text) ran none = absurd ran
 ran-untouched agent listed inline olds news (Checked text) ran none = absurd ran
+ran-untouched agent listed inline olds news (Judged verdict text) ran none = absurd ran
 ran-untouched agent listed inline olds news (Asked truth) ran none = absurd ran
 ran-untouched agent listed inline olds news (Demonstrated text) ran none = absurd ran
 

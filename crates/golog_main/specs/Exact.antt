@@ -9,6 +9,7 @@ use Rattle.golog_tree.specs.declared.cond.Cond.{Cond}
 use Rattle.golog_tree.specs.declared.draft.DraftTheory.{DraftTheory}
 use Rattle.golog_semantics.specs.declared.journal.Answer.{Answer}
 use Rattle.golog_semantics.specs.declared.journal.Answer.TheVariants.{Memory}
+use Rattle.golog_semantics.specs.declared.journal.Why.{Why}
 use Rattle.golog_semantics.specs.Text.{Text}
 use Rattle.golog_semantics.specs.Progress.{values_after}
 use Rattle.golog_semantics.specs.Truth.{env_of, truth_of}
@@ -17,15 +18,18 @@ use Rattle.golog_file.specs.Spelled.{SpellsAgent, IsFirstRefusal}
 use Rattle.golog_file.specs.Conditions.{SpellsCond, RefusesCond}
 use Rattle.golog_file.specs.declared.reading.Understood.{Understood}
 use Rattle.golog_check_text.specs.Counts.{check_text}
+use Rattle.golog_replay.specs.Verdicts.{VerdictIs}
+use Rattle.golog_replay.specs.declared.verdict.Verdict.{Verdict}
+use Rattle.golog_replay.specs.declared.verdict.Verdict.TheVariants.{Not}
 use Rattle.golog_words.specs.Commands.{Command, run, check, replay, ask, demo}
 use Rattle.golog_main.specs.declared.outcome.Input.{Input}
 use Rattle.golog_main.specs.declared.outcome.Outcome.{Outcome}
-use Rattle.golog_main.specs.declared.outcome.Outcome.TheVariants.{ReadFault, Refused, Ran, Demonstrated}
+use Rattle.golog_main.specs.declared.outcome.Outcome.TheVariants.{ReadFault, Refused, Ran, Judged, Demonstrated}
 use Rattle.golog_main.specs.declared.ready.Told.{Told}
 use Rattle.golog_main.specs.Inputs.{SpellsScripts, RefusesScripts, SpellsJournal, RefusesJournal, SpellsBoth, scripts_for}
 use Rattle.golog_main.specs.Demos.{Demonstrates}
 use Rattle.golog_main.specs.Runs.{IsRunOf}
-use Rattle.golog_main.specs.Outcome.{Outside, Ends, IsCaused, status_of, text_of, truth_line}
+use Rattle.golog_main.specs.Outcome.{Outside, Ends, IsCaused, status_of, text_of, truth_line, verdict_line, verdict_status}
 
 -- the text was written whole
 abbrev pub Writes : Outside → Outside → Text → Type 0
@@ -51,19 +55,13 @@ IfRun None P = ⊥
 IfRun (Some (run agent devices inline)) P = P agent devices inline
 IfRun (Some command) P = ⊤
 
--- the words are no command that is served
-abbrev pub IsRefused : Option Command → Type 0
-IsRefused None = ⊤
-IsRefused (Some (replay agent journal)) = ⊤
-IsRefused (Some command) = ⊥
-
 -- the status of a run that was not stopped for want of memory
 abbrev pub IsRunStatus : ℕ → Type 0
 IsRunStatus status = (status ≡ 0) ⊎ ((10 ≤ status) × (status ≤ 16))
 
 -- what each status says: which outcome it is of, and so its cause
 pub record SaysItsCause (status : ℕ) (spelled : Option Command) (before after : Outside) : Type 0 where
-  pub words_refused : status ≡ 2 → IsRefused spelled
+  pub words_refused : status ≡ 2 → spelled ≡ None
   pub refused : status ≡ 3 → (input : Input) × (text : Text) × Shows status spelled before after (Refused input text)
   pub read_fault : status ≡ 4 → (input : Input) × Shows status spelled before after (ReadFault input)
   pub write_fault : status ≡ 5 → Rose before.sink_faults after.sink_faults
@@ -71,6 +69,8 @@ pub record SaysItsCause (status : ℕ) (spelled : Option Command) (before after 
       ⊎ ((text : Text) × Shows status spelled before after (Ran text Memory)))
   pub ran : (10 ≤ status) × (status ≤ 16)
       → (text : Text) × (answer : Answer) × Shows status spelled before after (Ran text answer)
+  pub not_online : status ≡ 17
+      → (place : ℕ) × (why : Why) × (text : Text) × Shows status spelled before after (Judged (Not place why) text)
   pub served : status ≡ 0 → (outcome : Outcome) × Shows status spelled before after outcome
 
 -- ---- and wherever its cause is
@@ -140,6 +140,12 @@ module _ (status : ℕ) (before after : Outside) where
       × Wrote before after (λ text. Demonstrates size before.devices after.devices (Demonstrated text)))
       ⊎ IsStopped status before after
 
+  -- what a replay of the journal finds is told, by its status and its line; or the call was stopped
+  abbrev pub JudgedFollows : Agent → Told → Type 0
+  JudgedFollows agent told =
+      (verdict : Verdict) → VerdictIs agent told.bytes told.report verdict
+      → Says status (verdict_status verdict) (verdict_line verdict) before after
+
   abbrev pub TruthFollows : Agent → Told → Cond → Type 0
   TruthFollows agent told cond =
       Says status 0 (truth_line (truth_of agent (values_after agent told.report.entries) cond (env_of [])))
@@ -151,7 +157,8 @@ module _ (status : ℕ) (before after : Outside) where
   FollowsItsCause (Some (run agent devices inline)) =
       AgentFollows agent (λ a. ScriptsFollow a devices (λ listed. RunFollows a listed inline))
   FollowsItsCause (Some (check agent)) = AgentFollows agent (λ a. Says status 0 (check_text a) before after)
-  FollowsItsCause (Some (replay agent journal)) = Answers status 2 before after
+  FollowsItsCause (Some (replay agent journal)) =
+      AgentFollows agent (λ a. JournalFollows a journal (λ told. JudgedFollows a told))
   FollowsItsCause (Some (ask agent journal condition)) =
       BothFollow agent (λ u. JournalFollows u.agent journal (λ told.
       CondFollows u.theory u.agent condition (λ cond. TruthFollows u.agent told cond)))

@@ -1,5 +1,5 @@
 -- What a call of the program comes to: each outcome with its cause, its text and its status.
-use Rattle.std.specs.Prelude.{◌≡◌, ◌⊎◌, ℕ, ◌<◌, Bool, true, false, not, List, [], All, Option, None, Some, IsSome, codes, length}
+use Rattle.std.specs.Prelude.{◌≡◌, ◌⊎◌, ℕ, ◌<◌, Bool, true, false, not, List, [], ◌++◌, All, Option, None, Some, IsSome, codes, decimal, length}
 use Rattle.golog_base.specs.Faults.{Rose}
 use Rattle.golog_base.specs.Files.{FileHas}
 use Rattle.golog_base.specs.Known.{and_then_bytes, AddsPrefix}
@@ -9,7 +9,8 @@ use Rattle.golog_tree.specs.declared.cond.Cond.{Cond}
 use Rattle.golog_tree.specs.declared.cond.Truth.{Truth}
 use Rattle.golog_tree.specs.declared.cond.Truth.TheVariants.{Yes, No, Unknown}
 use Rattle.golog_tree.specs.declared.draft.DraftTheory.{DraftTheory}
-use Rattle.golog_semantics.specs.Text.{Text}
+use Rattle.golog_semantics.specs.Text.{Text, answer_text}
+use Rattle.golog_semantics.specs.Verdicts.{why_text}
 use Rattle.golog_semantics.specs.Execution.{status_of as answer_status}
 use Rattle.golog_semantics.specs.Progress.{values_after}
 use Rattle.golog_semantics.specs.Truth.{env_of, truth_of}
@@ -21,11 +22,14 @@ use Rattle.golog_file.specs.Spelled.{SpellsAgent, IsFirstRefusal}
 use Rattle.golog_file.specs.Conditions.{SpellsCond, RefusesCond}
 use Rattle.golog_file.specs.declared.reading.Understood.{Understood}
 use Rattle.golog_check_text.specs.Counts.{check_text}
+use Rattle.golog_replay.specs.Verdicts.{VerdictIs}
+use Rattle.golog_replay.specs.declared.verdict.Verdict.{Verdict}
+use Rattle.golog_replay.specs.declared.verdict.Verdict.TheVariants.{Online, Not}
 use Rattle.golog_words.specs.Commands.{Command, run, check, replay, ask, demo}
 use Rattle.golog_main.specs.declared.outcome.Input.{Input}
 use Rattle.golog_main.specs.declared.outcome.Input.TheVariants.{Agent as AgentFile, Devices as DevicesFile, Journal as JournalFile, Condition}
 use Rattle.golog_main.specs.declared.outcome.Outcome.{Outcome}
-use Rattle.golog_main.specs.declared.outcome.Outcome.TheVariants.{WordsRefused, ReadFault, Refused, Ran, Checked, Asked, Demonstrated}
+use Rattle.golog_main.specs.declared.outcome.Outcome.TheVariants.{WordsRefused, ReadFault, Refused, Ran, Checked, Judged, Asked, Demonstrated}
 use Rattle.golog_main.specs.declared.ready.Ready.{Ready}
 use Rattle.golog_main.specs.declared.ready.Told.{Told}
 use Rattle.golog_main.specs.declared.ready.Unready.{Unready}
@@ -42,12 +46,23 @@ truth_line Yes = line (codes "true")
 truth_line No = line (codes "false")
 truth_line Unknown = line (codes "unknown")
 
+-- the line that tells what a replay finds
+abbrev pub verdict_line : Verdict → Text
+verdict_line (Online answer) = line (codes "online " ++ answer_text answer)
+verdict_line (Not place why) = line (codes "not online " ++ decimal place ++ codes " " ++ why_text why)
+
+-- the status that tells it
+abbrev pub verdict_status : Verdict → ℕ
+verdict_status (Online answer) = 0
+verdict_status (Not place why) = 17
+
 abbrev pub text_of : Outcome → Text
 text_of WordsRefused = line (codes "words refused")
 text_of (ReadFault input) = fault_text input
 text_of (Refused input text) = text
 text_of (Ran text answer) = text
 text_of (Checked text) = text
+text_of (Judged verdict text) = text
 text_of (Asked truth) = truth_line truth
 text_of (Demonstrated text) = text
 
@@ -57,6 +72,7 @@ status_of (ReadFault input) = 4
 status_of (Refused input text) = 3
 status_of (Ran text answer) = answer_status answer
 status_of (Checked text) = 0
+status_of (Judged verdict text) = verdict_status verdict
 status_of (Asked truth) = 0
 status_of (Demonstrated text) = 0
 
@@ -75,6 +91,13 @@ abbrev pub RunOf : Agent → List Script → Bool → List Standing → List Sta
 RunOf agent listed inline olds news (Ran text answer) =
     IsRunOf agent (scripts_for agent listed) inline olds news text (answer_status answer)
 RunOf agent listed inline olds news outcome = ⊥
+
+-- what a replay of a journal that was read finds, and its line
+pub record Judges (agent : Agent) (told : Told) (outcome : Outcome) : Type 0 where
+  pub formed : WellFormed agent
+  pub verdict : Verdict
+  pub so : VerdictIs agent told.bytes told.report verdict
+  pub is : outcome ≡ Judged verdict (verdict_line verdict)
 
 -- the truth of a condition after the entries of a journal
 abbrev pub TruthOf : Agent → Told → Cond → Outcome → Type 0
@@ -124,7 +147,9 @@ module _ (held : Option (List HeldFile)) (faults_before faults_after : ℕ) (old
       RunOf a listed inline olds news))
   Comes (Some (check agent)) =
       OfAgent held faults_before faults_after agent (λ a outcome. outcome ≡ Checked (check_text a))
-  Comes (Some (replay agent journal)) = λ outcome. outcome ≡ WordsRefused
+  Comes (Some (replay agent journal)) =
+      OfAgent held faults_before faults_after agent (λ a.
+      OfJournal held faults_before faults_after a journal (Judges a))
   Comes (Some (ask agent journal condition)) =
       OfBoth held faults_before faults_after agent (λ u.
       OfJournal held faults_before faults_after u.agent journal (λ told.

@@ -12,6 +12,7 @@ ghost use Rattle.golog_main.specs.Outcome.{Comes, IsUntouched, OfAgent, OfBoth, 
 ghost use Rattle.golog_main.specs.declared.outcome.Outcome.TheVariants.{Checked};
 
 use crate::demos::demonstrated;
+use crate::judged::replayed;
 use crate::outcome::Outcome;
 use crate::ready::{Told, Unready, agent_in, condition_in, ready_in, told_in, understood_in};
 use crate::run::{run_in_rounds, run_on_threads};
@@ -56,7 +57,7 @@ pub fn served<F: Files, D: Device>(
             ..
         } => over_rounds(alloc, files, agent, named, devices),
         Order::Check { agent } => checked(alloc, files, agent),
-        Order::Replay { .. } => Ok(Outcome::WordsRefused),
+        Order::Replay { agent, journal } => replayed(alloc, files, agent, journal),
         Order::Ask {
             agent,
             journal,

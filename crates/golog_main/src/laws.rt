@@ -1,8 +1,10 @@
 ghost use Rattle.golog_main.specs.Exact.{StatusesAreExact};
 ghost use Rattle.golog_main.specs.CutShort.{CutShortBeginsOnline};
+ghost use Rattle.golog_main.specs.Replayed.{OnlineReplaysRun};
 ghost use Rattle.golog_main.specs.Searchless.{FuelIsHeavy, SearchlessEnds};
 
 use golog_file::{one_cond_is_spelled, spelled_cond_is_unrefused};
+use golog_replay::online_is_an_online_run;
 
 /// Each status comes exactly where it has its cause, for each command, unless the outside fails or memory runs out.
 pub fn each_status_where_its_cause_is()
@@ -10,6 +12,13 @@ pub fn each_status_where_its_cause_is()
 {
     spelled_cond_is_unrefused();
     one_cond_is_spelled();
+}
+
+/// Where a replay ends with 0, its journal is the text of an online execution of the agent's program.
+pub fn online_replays_run()
+    ensures { OnlineReplaysRun }
+{
+    online_is_an_online_run();
 }
 
 /// Where a write fails, what a run has written is the beginning of the text of an online execution.

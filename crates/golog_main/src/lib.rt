@@ -4,6 +4,7 @@
 mod commands;
 mod demos;
 mod devices;
+mod judged;
 mod laws;
 mod outcome;
 mod ready;
@@ -13,7 +14,7 @@ mod top;
 pub use commands::is_threaded;
 pub use devices::script_devices;
 pub use laws::{
-    cut_short_begins_online, each_status_where_its_cause_is, fuel_is_heavy,
+    cut_short_begins_online, each_status_where_its_cause_is, fuel_is_heavy, online_replays_run,
     searchless_runs_end_plainly,
 };
 pub use outcome::{Input, Outcome};

@@ -2,9 +2,10 @@
 ghost use Rattle.std.specs.Prelude.{◌≡◌};
 ghost use Rattle.golog_semantics.specs.Execution.{status_of as answer_status};
 ghost use Rattle.golog_main.specs.Inputs.{input_name, input_limit, fault_text};
-ghost use Rattle.golog_main.specs.Outcome.{status_of, text_of, truth_line};
+ghost use Rattle.golog_main.specs.Outcome.{status_of, text_of, truth_line, verdict_status};
 
 use golog_base::Bytes;
+use golog_replay::Verdict;
 use golog_semantics::Answer;
 use golog_tree::Truth;
 
@@ -70,6 +71,8 @@ pub enum Outcome {
     Ran { text: Bytes, answer: Answer },
     /// The agent file was checked: how much it has.
     Checked { text: Bytes },
+    /// The journal was replayed: what was found of it, and the line that tells it.
+    Judged { verdict: Verdict, text: Bytes },
     /// The truth of the condition was asked for.
     Asked(Truth),
     /// The demo ran: what its journal has.
@@ -86,11 +89,13 @@ impl Outcome {
             Outcome::ReadFault(input) => input.fault_text(),
             Outcome::Refused { text, .. } | Outcome::Ran { text, .. } => text.as_slice(),
             Outcome::Checked { text } | Outcome::Demonstrated { text } => text.as_slice(),
+            Outcome::Judged { text, .. } => text.as_slice(),
             Outcome::Asked(truth) => truth_line(*truth),
         }
     }
 
-    /// The exit status: 2, 3 or 4 for a refusal, that of the answer for a run, and else 0.
+    /// The exit status: 2, 3 or 4 for a refusal, that of the answer for a run, 17 for a journal that is not online,
+    /// and else 0.
     pub fn status(&self) -> u8
         ensures { result ≡ status_of self.now }
     {
@@ -99,6 +104,7 @@ impl Outcome {
             Outcome::ReadFault(_) => 4,
             Outcome::Refused { .. } => 3,
             Outcome::Ran { answer, .. } => exit_status(*answer),
+            Outcome::Judged { verdict, .. } => verdict_status(*verdict),
             Outcome::Checked { .. } | Outcome::Asked(_) | Outcome::Demonstrated { .. } => 0,
         }
     }
@@ -112,6 +118,16 @@ fn truth_line(truth: Truth) -> &'static [u8]
         Truth::Yes => b"true\n",
         Truth::No => b"false\n",
         Truth::Unknown => b"unknown\n",
+    }
+}
+
+// The exit status of a replay that finds this.
+fn verdict_status(verdict: Verdict) -> u8
+    ensures { result ≡ verdict_status verdict }
+{
+    match verdict {
+        Verdict::Online(_) => 0,
+        Verdict::Not { .. } => 17,
     }
 }
 

@@ -34,6 +34,8 @@ pub const NO_MEMORY: u8 = 6;
 ///
 /// - `run AGENT [DEVICES] [--inline]` runs the program, with `--inline` anywhere among the files: the journal.
 /// - `check AGENT`: how many ground fluents, ground actions, procedures and devices the agent has.
+/// - `replay AGENT JOURNAL`: whether the journal is the text of an online execution of the agent's program, and
+///   else the first place where a rule is broken and the first that is broken there.
 /// - `ask AGENT JOURNAL CONDITION`: the condition's truth by what is known after the journal's entries.
 /// - `demo N` runs the lift of N levels, 1 to 200: how many entries, actions and posts its journal has, and its
 ///   answer.
@@ -47,7 +49,8 @@ pub const NO_MEMORY: u8 = 6;
 /// - 3, `refused INPUT CODE at PLACE`: the input spells nothing of its kind; the code and the place are those of
 ///   its first refusal, as of `golog_file::read_agent`, `golog_script::scripts_of`, `golog_text::read_journal` and
 ///   `golog_file::read_condition`, or 5 at its limit where it has more bytes. INPUT may be `condition` too.
-/// - 0, the text of `check`, `ask` or `demo`.
+/// - 0, the text of `check`, `ask` or `demo`; or of `replay`, `online ANSWER`, where the journal is online.
+/// - 17, the text of `replay`, `not online PLACE RULE`, where it is not.
 /// - 0, or 10 to 16, the journal of an online execution of the agent's program, which ends `done`, `stuck`,
 ///   `unknown`, `depth`, `fuel`, `unanswered`, `full` or `deep`. Each device that tells it was dealt with
 ///   as the journal says, with its script, the empty one where the devices file has none. With
