@@ -15,6 +15,8 @@ const LAMP: &[u8] =
 
 const ASK: [&str; 4] = ["ask", "x.agent", "x.journal", "(p)"];
 
+const REPLAY: [&str; 3] = ["replay", "x.agent", "x.journal"];
+
 /// Calls the program with these words over an agent file and a journal file.
 fn called_on(
     alloc: Global,
@@ -62,6 +64,70 @@ fn conditions_are_asked_for(rt: HostRuntime) -> Result<(), Fail> {
         let call = asked(rt.alloc(), journal, condition)?;
         assert_eq!(rt; call.said(), (0, said), "{journal} {condition}");
     }
+    Ok(())
+}
+
+// A run's journal is online, and with a line changed it isn't; one that can't be read is refused.
+#[test]
+fn journals_are_replayed(rt: HostRuntime) -> Result<(), Fail> {
+    let journals: [(&[u8], &str, u8, &str); 11] = [
+        (ONE, "0 do a\n1 test\n2 end done\n", 0, "online done\n"),
+        (ONE, "0 end memory\n", 0, "online memory\n"),
+        (
+            LAMP,
+            "0 exo wall press\n1 rest wall 0\n2 end done\n3 close wall stopped 0\n",
+            0,
+            "online done\n",
+        ),
+        (
+            ONE,
+            "0 do a\n1 test\n2 end stuck\n",
+            17,
+            "not online 2 answer\n",
+        ),
+        (
+            ONE,
+            "0 test\n1 test\n2 end done\n",
+            17,
+            "not online 0 step\n",
+        ),
+        (
+            LAMP,
+            "0 exo wall press\n1 rest wall 1\n2 end done\n3 close wall stopped 0\n",
+            17,
+            "not online 1 taken\n",
+        ),
+        (ONE, "0 do a\n1 test\n", 17, "not online 2 short\n"),
+        (ONE, "", 17, "not online 0 short\n"),
+        (
+            ONE,
+            "0 do a\n1 test\n2 end done",
+            3,
+            "refused journal 50 at 2\n",
+        ),
+        (ONE, "0 do a\n2 test\n", 3, "refused journal 51 at 1\n"),
+        (b"(agent)", "x", 3, "refused agent 27 at 0\n"),
+    ];
+    for (agent, journal, status, said) in journals {
+        let call = called_on(rt.alloc(), &REPLAY, agent, journal.as_bytes())?;
+        assert_eq!(rt; call.said(), (status, said), "{journal}");
+    }
+    Ok(())
+}
+
+// The agent file is selected, read and found to end; then the journal file is.
+#[test]
+fn a_replay_reads_the_agent_first(rt: HostRuntime) -> Result<(), Fail> {
+    let reads = [(2, "read fault agent\n"), (3, "read fault journal\n")];
+    for (number, said) in reads {
+        let both: [(&str, &[u8]); 2] = [("x.agent", ONE), ("x.journal", b"0 do a\n")];
+        let files = files_of(rt.alloc(), &both, &[number])?;
+        let call = called(rt.alloc(), &REPLAY, files)?;
+        assert_eq!(rt; call.said(), (4, said));
+    }
+    let files = files_of(rt.alloc(), &[("x.agent", ONE)], &[])?;
+    let call = called(rt.alloc(), &REPLAY, files)?;
+    assert_eq!(rt; call.said(), (4, "read fault journal\n"));
     Ok(())
 }
 
@@ -134,8 +200,9 @@ fn a_read_that_fails_is_a_read_fault(rt: HostRuntime) -> Result<(), Fail> {
 #[test]
 fn a_write_that_fails_is_told(rt: HostRuntime) -> Result<(), Fail> {
     let alloc = rt.alloc();
-    let lines: [(&[&str], &str); 4] = [
+    let lines: [(&[&str], &str); 5] = [
         (&["check", "x.agent"], "ok"),
+        (&REPLAY, "no"),
         (&ASK, "tr"),
         (&["demo", "1"], "de"),
         (&["check", "y.agent"], "re"),

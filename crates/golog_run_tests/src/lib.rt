@@ -16,9 +16,13 @@ mod own_devices;
 #[cfg(test)]
 mod refusals;
 #[cfg(test)]
+mod replays;
+#[cfg(test)]
 mod runs;
 #[cfg(test)]
 mod searches;
+#[cfg(test)]
+mod sleepers;
 #[cfg(test)]
 mod threads;
 #[cfg(test)]
