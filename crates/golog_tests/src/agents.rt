@@ -42,6 +42,15 @@ pub const ROADS: &[u8] = b"(agent
     (action go (place)) (poss (go x) (not (blocked x)))
     (main (seq (act go a) (choice (act go b) (act go c)))))";
 
+/// Roads that the world may block.
+pub const WORLD: &[u8] = b"(agent
+    (device world)
+    (sort place a b c)
+    (fluent blocked (place) bool false)
+    (action go (place)) (poss (go x) (not (blocked x)))
+    (exo block (place) world) (causes (block x) (blocked x) true)
+    (main nil))";
+
 /// Two actions, each of which may be followed by a third, and leaves other values than the other.
 pub const BRANCHES: &[u8] = b"(agent
     (fluent p () bool false) (fluent q () bool false)

@@ -22,11 +22,15 @@ mod limits;
 #[cfg(test)]
 mod modes;
 #[cfg(test)]
+mod numbered;
+#[cfg(test)]
 mod numbers;
 #[cfg(test)]
 mod prints;
 #[cfg(test)]
 mod puts;
+#[cfg(test)]
+mod regressions;
 #[cfg(test)]
 mod searches;
 #[cfg(test)]

@@ -1,0 +1,4 @@
+mod Numbers
+mod Pairs
+mod SameArguments
+pub mod SamePrograms

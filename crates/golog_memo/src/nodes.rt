@@ -1,0 +1,78 @@
+ghost use Rattle.std.specs.Prelude.{◌≡◌, ◌<◌, [], IfOk, OnOk, OnErr, Some, length, slice_get};
+ghost use Rattle.golog_memo.specs.Numbered.{AreOnce, IsAddedTo};
+
+use crate::key::Key;
+use golog_base::NoMemory;
+use golog_tree::{Prog, copy_prog};
+use std::alloc::Global;
+use std::collections::HashMap;
+use std::marker::Model;
+
+/// Programs by numbers, each program once. Contracts see them as the list of the programs; the number of each is
+/// its place in it.
+#[derive(Drop)]
+pub struct Nodes {
+    alloc: Global,
+    progs: Vec<Prog>,
+    numbers: HashMap<Key, u64>,
+}
+
+impl Model for Nodes {
+    ghost use Rattle.std.specs.Prelude.{List};
+    ghost use Rattle.std.specs.Coded.{codes};
+    ghost use Rattle.golog_tree.specs.contracts.prog.Prog as prog;
+    ghost use Rattle.golog_tree.specs.declared.prog.Prog.{Prog as AnyProg};
+    ghost use Rattle.golog_memo.specs.Numbered.{AreNumbered};
+
+    ghost Value = { List AnyProg };
+
+    ghost coded = { Prim.hlevel (codes, prog.the_row.coded) };
+
+    ghost view = { λ nodes. nodes.progs.items };
+
+    ghost invariant = { λ nodes. AreNumbered nodes.progs.items nodes.numbers };
+}
+
+impl Nodes {
+    /// No program is numbered. Takes no memory.
+    pub fn new(alloc: Global) -> Result<Nodes, NoMemory>
+        ensures { IfOk result (λ nodes. nodes ≡ []) }
+    {
+        Ok(Nodes {
+            alloc,
+            progs: Vec::new(alloc),
+            numbers: HashMap::new(alloc),
+        })
+    }
+
+    /// The number of a program: equal programs have one number, others another. After `NoMemory` no
+    /// number is new.
+    pub fn number(&mut self, prog: &Prog) -> Result<u64, NoMemory>
+        ensures number { IfOk result (λ number. slice_get self.new number ≡ Some prog.now) }
+        ensures once { AreOnce self.new }
+        ensures ok { OnOk result (IsAddedTo self.old prog.now self.new) }
+        ensures err { OnErr result (self.new ≡ self.old) }
+    {
+        let number = self.progs.len() as u64;
+        let key = Key {
+            prog: copy_prog(self.alloc, prog)?,
+        };
+        if let Some(number) = self.numbers.get(&key) {
+            return Ok(*number);
+        }
+        self.progs.push(copy_prog(self.alloc, prog)?)?;
+        if self.numbers.insert(key, number).is_err() {
+            self.progs.pop();
+            return Err(NoMemory);
+        }
+        Ok(number)
+    }
+
+    /// The program of a number. Takes no memory.
+    pub fn prog(&self, number: u64) -> &Prog
+        requires { number < length self.now }
+        ensures { slice_get self.now number ≡ Some result.now }
+    {
+        &self.progs[number as usize]
+    }
+}
