@@ -1,5 +1,5 @@
 -- Bytes that an object may tell or leave untold.
-use Rattle.std.specs.Prelude.{◌≡◌, ℕ, List, ◌++◌, Option, None, Some, ⊤, ◌≤◌, length, take}
+use Rattle.std.specs.Prelude.{◌≡◌, ℕ, List, ◌++◌, Option, None, Some, ◌≤◌, length, take}
 
 -- the told bytes, and then these; untold where they are untold
 abbrev pub and_then_bytes : Option (List ℕ) → List ℕ → Option (List ℕ)
@@ -14,11 +14,6 @@ bytes_and_then bytes (Some told) = Some (bytes ++ told)
 -- at most so many bytes were taken from the front of those that were left, where they are told
 abbrev pub TakesAtMost : ℕ → Option (List ℕ) → Option (List ℕ) → Type 0
 TakesAtMost most old new = (taken : List ℕ) × (length taken ≤ most) × (old ≡ bytes_and_then taken new)
-
--- where bytes are told, they are these
-abbrev pub AreIfTold : Option (List ℕ) → List ℕ → Type 0
-AreIfTold None bytes = ⊤
-AreIfTold (Some told) bytes = told ≡ bytes
 
 -- a prefix of these bytes was added
 abbrev pub AddsPrefix : Option (List ℕ) → Option (List ℕ) → List ℕ → Type 0

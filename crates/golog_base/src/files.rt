@@ -56,7 +56,7 @@ pub enum ReadFault {
     #[error("the file is too long")]
     TooLong,
     /// Memory ran out.
-    #[error("out of memory")]
+    #[error("memory ran out")]
     Memory,
 }
 

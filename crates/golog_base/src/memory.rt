@@ -3,7 +3,7 @@ use thiserror::Error;
 
 /// Memory ran out.
 #[derive(Debug, Drop, Error)]
-#[error("out of memory")]
+#[error("memory ran out")]
 pub struct NoMemory;
 
 impl From<AllocError> for NoMemory {

@@ -39,7 +39,7 @@ pub enum CheckFault {
     #[error("refused {code} at {at}")]
     Refused { code: u8, at: Place },
     /// Memory ran out.
-    #[error("out of memory")]
+    #[error("memory ran out")]
     Memory,
 }
 

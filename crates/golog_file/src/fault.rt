@@ -15,7 +15,7 @@ pub enum AgentFault {
     #[error("refused agent {code} at {at}")]
     Refused { code: u8, at: u32 },
     /// Memory ran out.
-    #[error("out of memory")]
+    #[error("memory ran out")]
     Memory,
 }
 
@@ -67,7 +67,7 @@ pub enum CondFault {
     #[error("refused condition {code} at {at}")]
     Refused { code: u8, at: u32 },
     /// Memory ran out.
-    #[error("out of memory")]
+    #[error("memory ran out")]
     Memory,
 }
 

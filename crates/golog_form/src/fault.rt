@@ -18,7 +18,7 @@ pub enum FormFault {
     #[error("refused {why} at {at}")]
     Refused { why: u8, at: u32 },
     /// Memory ran out.
-    #[error("out of memory")]
+    #[error("memory ran out")]
     Memory,
 }
 

@@ -12,7 +12,7 @@ const ONE: &[u8] = b"(agent (fluent p () bool false) (action a ()) (causes (a) (
 fn refusal(alloc: Global, bytes: &[u8]) -> Result<(u8, u32)> {
     match read_form(alloc, bytes) {
         Err(FormFault::Refused { why, at }) => Ok((why, at)),
-        Err(FormFault::Memory) => bail!("out of memory"),
+        Err(FormFault::Memory) => bail!("memory ran out"),
         Ok(_form) => Ok((0, 0)),
     }
 }

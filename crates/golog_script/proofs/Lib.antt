@@ -2,4 +2,3 @@ pub mod Gathered
 pub mod Elements
 pub mod Values
 pub mod ScriptObjects
-pub mod Kept

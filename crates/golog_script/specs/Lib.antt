@@ -3,5 +3,4 @@ pub mod Limits
 pub mod Reading
 pub mod DevicesFile
 pub mod ScriptTexts
-pub mod Following
 pub mod Meanings

@@ -1,16 +1,10 @@
 -- What a device means that follows a script.
-use Rattle.std.specs.Prelude.{◌≡◌, ◌||◌, nat_lt, Bool, false, Option, Some, None, IsSome, IfSome, List, [], ◌∷◌, ◌++◌, reverse}
-use Rattle.golog_semantics.specs.Dealt.{Service, Script, Meaning}
+use Rattle.std.specs.Prelude.{◌≡◌, Bool, false, Option, Some, None, IsSome, [], reverse}
+use Rattle.golog_semantics.specs.Dealt.{Script, Meaning}
 use Rattle.golog_device.specs.declared.device.Begun.{Begun}
 use Rattle.golog_device.specs.declared.device.Begun.TheVariants.{Ready, Refused, Memory}
-use Rattle.golog_script.specs.Limits.{ROOM}
-use Rattle.golog_script.specs.declared.served.ServedTexts.{ServedTexts}
+use Rattle.golog_device.specs.Logs.{told_by, given_by, is_cut}
 use Rattle.golog_script.specs.declared.device.ScriptDevice.{ScriptDevice}
-use Rattle.golog_script.specs.Following.{items_of, bytes_of, services_of}
-
--- what was served
-abbrev pub given_of : ServedTexts → List Service
-given_of served = services_of served.marks.items served.bytes.items
 
 -- it has not begun
 abbrev pub is_fresh : ScriptDevice → Bool
@@ -22,9 +16,9 @@ left_of device = record { answers = reverse device.answers.items; idle = reverse
 
 abbrev pub meaning_of : ScriptDevice → Meaning
 meaning_of device = record {
-  cut = device.served.cut;
-  given = Some (given_of device.served);
-  told = Some (items_of device.told.told.items);
+  cut = is_cut device.served;
+  given = Some (given_by device.served);
+  told = Some (told_by device.told);
   left = Some (left_of device);
 }
 
@@ -37,8 +31,3 @@ abbrev pub TakesScript : Begun → Option Script → Type 0
 TakesScript Ready script = IsSome script
 TakesScript Refused script = script ≡ None
 TakesScript Memory script = Unit {0}
-
--- It is cut from where the texts served since it began, with one byte more for each, have no room together.
-abbrev pub IsCutAtRoom : Meaning → Meaning → Service → Type 0
-IsCutAtRoom old new service =
-    IfSome old.given (λ given. new.cut ≡ (old.cut || nat_lt ROOM (bytes_of (given ++ service ∷ []))))

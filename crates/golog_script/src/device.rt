@@ -1,15 +1,14 @@
 // A device that follows its script.
-ghost use Rattle.std.specs.Prelude.{◌≡◌, ◌<◌, ◌+◌, false, vec_len, vec_capacity};
+ghost use Rattle.std.specs.Prelude.{◌≡◌, ◌<◌, ◌+◌, false, vec_len};
 ghost use Rattle.golog_device.specs.Devices.{idle_of, tells};
-ghost use Rattle.golog_script.specs.Following.{item_of};
-ghost use Rattle.golog_script.specs.Limits.{ROOM};
+ghost use Rattle.golog_device.specs.Kept.{item_of};
+ghost use Rattle.golog_device.specs.Logs.{SERVED_ROOM, is_over, kept_by, room_of, bytes_room};
 
 use crate::lines::{Lines, lines_of};
-use crate::served::{ROOM, ServedTexts};
-use crate::told::{Told, ToldItems};
-use crate::twin::{Twin, reversed};
-use golog_base::NoMemory;
-use golog_device::{Begun, Device, Idle, Served};
+use golog_base::{Bytes, NoMemory};
+use golog_device::{
+    Begun, Device, Idle, SERVED_ROOM, Served, ServedTexts, Told, ToldItems, Twin, reversed_twins,
+};
 use std::alloc::Global;
 
 /// A device that follows its script: it answers sensing commands by the script's answers, and idle it does
@@ -19,20 +18,20 @@ use std::alloc::Global;
 pub struct ScriptDevice {
     fresh: bool,
     // What is left of the script, the last in front.
-    answers: Vec<Twin>,
-    idle: Vec<Twin>,
+    answers: Vec<Twin<Bytes>>,
+    idle: Vec<Twin<Bytes>>,
     told: ToldItems,
     served: ServedTexts,
-    ghost begun: { fresh ≡ false → served.room ≡ ROOM },
-    ghost room: { told.closed ≡ false
-        → vec_len answers + vec_len idle + vec_len told.told < vec_capacity told.told },
+    ghost begun: { fresh ≡ false → bytes_room served ≡ SERVED_ROOM },
+    ghost room: { is_over told ≡ false
+        → vec_len answers + vec_len idle + kept_by told < room_of told },
 }
 
 impl ScriptDevice {
     ghost use Rattle.std.specs.Prelude.{◌≡◌, true, false, [], Some, IfOk, IfSome, option_map};
     ghost use Rattle.golog_device.specs.Devices.{next_answer, rest_of, told_after};
+    ghost use Rattle.golog_device.specs.Logs.{told_by};
     ghost use Rattle.golog_device.specs.Scripts.{script_spelled};
-    ghost use Rattle.golog_script.specs.Following.{items_of};
     ghost use Rattle.golog_script.specs.Meanings.{left_of, meaning_of, following};
 
     /// A fresh device. It was given and told nothing, and has no script.
@@ -71,10 +70,10 @@ impl ScriptDevice {
         ensures begun { IfOk result (λ device. device.fresh ≡ false) }
     {
         let Lines { answers, idle } = script;
-        let answers = reversed(alloc, answers)?;
-        let idle = reversed(alloc, idle)?;
+        let answers = reversed_twins(alloc, answers)?;
+        let idle = reversed_twins(alloc, idle)?;
         let told = ToldItems::with_room(alloc, answers.len() + idle.len() + 1)?;
-        let served = ServedTexts::with_room(alloc, ROOM)?;
+        let served = ServedTexts::with_room(alloc, SERVED_ROOM)?;
         Ok(ScriptDevice {
             fresh: false,
             answers,
@@ -89,8 +88,8 @@ impl ScriptDevice {
         ensures answer { result ≡ next_answer (left_of self.old).answers }
         ensures left { left_of self.new
             ≡ record { answers = rest_of (left_of self.old).answers; idle = (left_of self.old).idle } }
-        ensures told { Some (items_of self.new.told.told.items)
-            ≡ told_after (Some (items_of self.old.told.told.items)) result }
+        ensures told { Some (told_by self.new.told)
+            ≡ told_after (Some (told_by self.old.told)) result }
         ensures served { self.new.served ≡ self.old.served }
         ensures fresh { self.new.fresh ≡ self.old.fresh }
     {
@@ -109,8 +108,9 @@ impl Device for ScriptDevice {
     ghost use Rattle.std.specs.Prelude.{◌≡◌, ◌≤◌, Bool, true, false, length};
     ghost use Rattle.golog_semantics.specs.Dealt.{Service};
     ghost use Rattle.golog_device.specs.Devices.{Begins, still_fresh, Serves, Idles};
+    ghost use Rattle.golog_device.specs.Logs.{IsCutAtRoom};
     ghost use Rattle.golog_device.specs.Scripts.{script_spelled};
-    ghost use Rattle.golog_script.specs.Meanings.{is_fresh, meaning_of, TakesScript, IsCutAtRoom};
+    ghost use Rattle.golog_script.specs.Meanings.{is_fresh, meaning_of, TakesScript};
 
     ghost fresh = { is_fresh };
 
@@ -169,7 +169,7 @@ impl Device for ScriptDevice {
 }
 
 // What an idle item says, and the same to keep.
-fn idle_of(text: Twin) -> (Idle, Told)
+fn idle_of(text: Twin<Bytes>) -> (Idle, Told)
     ensures idle { result.0 ≡ idle_of text }
     ensures told { item_of result.1 ≡ tells (idle_of text) }
 {

@@ -28,7 +28,7 @@ pub enum ScriptFault {
     #[error("refused {code} at {at}")]
     Refused { code: u8, at: u32 },
     /// Memory ran out.
-    #[error("out of memory")]
+    #[error("memory ran out")]
     Memory,
 }
 

@@ -5,11 +5,8 @@ mod device;
 mod fault;
 mod lines;
 mod scripts;
-mod served;
 mod strings;
 mod text;
-mod told;
-mod twin;
 
 pub use device::ScriptDevice;
 pub use fault::{NO_DEVICE, NOT_JSON, SAME_NAME, SHAPE, ScriptFault, TOO_MANY};

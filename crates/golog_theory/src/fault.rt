@@ -33,7 +33,7 @@ pub enum TheoryFault {
     #[error("refused {code} at {at}")]
     Refused { code: u8, at: Place },
     /// Memory ran out.
-    #[error("out of memory")]
+    #[error("memory ran out")]
     Memory,
 }
 
