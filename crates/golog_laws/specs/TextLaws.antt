@@ -3,7 +3,7 @@ use Rattle.std.specs.Prelude.{◌≡◌}
 use Rattle.golog_tree.specs.declared.agent.Agent.{Agent}
 use Rattle.golog_semantics.specs.declared.journal.Report.{Report}
 use Rattle.golog_semantics.specs.Text.{Text, report_text}
-use Rattle.golog_semantics.specs.Reports.{IsReport, Spells}
+use Rattle.golog_semantics.specs.Reports.{IsReport, SpellsReport}
 use Rattle.golog_semantics.specs.ReportLaws.{TellsApart}
 use Rattle.golog_semantics.specs.SortLaws.{ResultsFit}
 
@@ -17,7 +17,7 @@ TextTellsReports =
 abbrev pub OneReportIsSpelled : Type 0
 OneReportIsSpelled =
     (agent : Agent) → TellsApart agent → (bytes : Text) (one other : Report)
-    → Spells agent bytes one → Spells agent bytes other → one ≡ other
+    → SpellsReport agent bytes one → SpellsReport agent bytes other → one ≡ other
 
 -- the results of a report that has a text are values of their fluents
 abbrev pub ResultsOfReportsFit : Type 0

@@ -11,7 +11,7 @@ use Rattle.std.proofs.lemmas.List.{append-nil}
 use Rattle.golog_tree.specs.declared.agent.Agent.{Agent}
 use Rattle.golog_semantics.specs.declared.journal.Entry.{Entry}
 use Rattle.golog_semantics.specs.declared.journal.PlacedRun.{PlacedRun}
-use Rattle.golog_semantics.specs.Journal.{Journal, Command, command_at, commands, is_posted_by, posted, is_close, is_end, is_counted, count, limit, last_of, is_result_of, is_outstanding, outstanding, is_rest_after, is_sensing}
+use Rattle.golog_semantics.specs.Journal.{Journal, Command, command_at, commands, is_posted_by, posted, is_close, is_end, is_counted, count, limit, last_of, is_result_of, is_outstanding, outstanding_commands, is_rest_after, is_sensing}
 use Rattle.golog_semantics.specs.Text.{at_each, line_text, with_line_feed, report_text}
 use Rattle.golog_semantics.specs.Online.{fault_at, first_fault, IsOnlineSoFar}
 use Rattle.golog_semantics.specs.OneMore.{and_then, with_runs, EntriesGrow, PostsGrow, ProgressGrows, new_command, CommandsGrow, ReportGrows}
@@ -111,8 +111,8 @@ module _ (agent : Agent) (journal : Journal) (e : Entry) where
         ap (λ b. is_sensing agent c.action && not b) (any-push (is_result_of c.place) journal e)
         ∙ and_not_or (is_sensing agent c.action) (list_any (is_result_of c.place) journal) (is_result_of c.place e)
 
-    outstanding-push : outstanding agent device (and_then journal e)
-        ≡ filter (λ c. not (is_result_of c.place e)) (outstanding agent device journal) ++ filter (is_outstanding agent (and_then journal e)) (new_command agent journal e device)
+    outstanding-push : outstanding_commands agent device (and_then journal e)
+        ≡ filter (λ c. not (is_result_of c.place e)) (outstanding_commands agent device journal) ++ filter (is_outstanding agent (and_then journal e)) (new_command agent journal e device)
     outstanding-push =
         ap (filter (is_outstanding agent (and_then journal e))) commands-push
         ∙ filter-append (is_outstanding agent (and_then journal e)) (commands agent device journal) (new_command agent journal e device)

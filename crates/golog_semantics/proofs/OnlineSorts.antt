@@ -14,7 +14,7 @@ use Rattle.golog_semantics.specs.declared.journal.PlacedRun.{PlacedRun}
 use Rattle.golog_semantics.specs.Truth.{env_of, arg_value}
 use Rattle.golog_semantics.specs.Values.{fluent_sort}
 use Rattle.golog_semantics.specs.Ways.{is_empty}
-use Rattle.golog_semantics.specs.Journal.{Journal, sensed, sensed_by, outstanding}
+use Rattle.golog_semantics.specs.Journal.{Journal, sensed, sensed_by, outstanding_commands}
 use Rattle.golog_semantics.specs.Fits.{bound_from, args_fit}
 use Rattle.golog_semantics.specs.WellFormed.{WellFormed, sense_fits, sense_fits_for}
 use Rattle.golog_semantics.specs.Text.{at_each}
@@ -95,7 +95,7 @@ module _ (agent : Agent) (fits : WellFormed agent) where
     results-from before (Exo d action ∷ entries) h = results-from (before ++ Exo d action ∷ []) entries (later before (Exo d action) entries h)
     results-from before (Sense d place fluent value ∷ entries) h =
         let kept = place-kept before (Sense d place fluent value) entries h in
-        let first = slice_get (outstanding agent d before) 0 in
+        let first = slice_get (outstanding_commands agent d before) 0 in
         let below = nat_lt value (sort_size agent (fluent_sort agent fluent)) in
         let c = has (is_result agent before place fluent) first (and-left (option_map_or (is_result agent before place fluent) first false) below kept) in
         let senses = senses-it agent fluent (sensed agent c.item.action) (and-right (c.item.place == place) (option_map_or (λ f. f == fluent) (sensed agent c.item.action) false) c.passes) in (

@@ -9,7 +9,7 @@ use Rattle.golog_semantics.specs.declared.journal.Report.{Report}
 use Rattle.golog_semantics.specs.Journal.{Journal}
 use Rattle.golog_semantics.specs.Progress.{values_after, left_after}
 use Rattle.golog_semantics.specs.Text.{Text, at_each, report_text}
-use Rattle.golog_semantics.specs.Online.{begun}
+use Rattle.golog_semantics.specs.Online.{run_begun}
 use Rattle.golog_semantics.specs.Inline.{Scripted, inline_journal}
 use Rattle.golog_semantics.specs.Dealt.{Script}
 
@@ -26,7 +26,7 @@ module _ (agent : Agent) where
   -- the run that begins with the entry after these
   abbrev pub run_after : Journal → Entry → List PlacedRun
   run_after before e =
-      placed (length before) (begun agent before (values_after agent before) (left_after agent before) e)
+      placed (length before) (run_begun agent before (values_after agent before) (left_after agent before) e)
 
   -- the runs that the steps of a journal begin
   abbrev pub begun_runs : Journal → List PlacedRun

@@ -151,16 +151,16 @@ module _ (agent : Agent) where
   is_outstanding journal c = is_sensing agent c.action && not (list_any (is_result_of c.place) journal)
 
   -- the sensing commands of a device that have no result yet, in order
-  abbrev pub outstanding : ℕ → Journal → List Command
-  outstanding device journal = filter (is_outstanding journal) (commands agent device journal)
+  abbrev pub outstanding_commands : ℕ → Journal → List Command
+  outstanding_commands device journal = filter (is_outstanding journal) (commands agent device journal)
 
   -- those whose results the program waits for
-  abbrev pub held : ℕ → Journal → List Command
-  held device journal = filter (λ c. is_held agent c.action) (outstanding device journal)
+  abbrev pub held_commands : ℕ → Journal → List Command
+  held_commands device journal = filter (λ c. is_held agent c.action) (outstanding_commands device journal)
 
   -- the program waits for a result of the device
   abbrev pub is_waiting_for : Journal → ℕ → Bool
-  is_waiting_for journal device = not (is_empty (held device journal))
+  is_waiting_for journal device = not (is_empty (held_commands device journal))
 
   -- the program waits for no result
   abbrev pub is_settled : Journal → Bool

@@ -7,7 +7,7 @@ use Rattle.golog_tree.specs.declared.prog.Label.{Label}
 use Rattle.golog_semantics.specs.declared.journal.Entry.{Entry}
 use Rattle.golog_semantics.specs.declared.journal.PlacedRun.{PlacedRun}
 use Rattle.golog_semantics.specs.declared.journal.Report.{Report}
-use Rattle.golog_semantics.specs.Journal.{Journal, Command, command_at, commands, is_posted_by, posted, is_open, is_close, has_end, is_end, is_counted, count, is_full, last_of, is_result_of, is_outstanding, outstanding, is_rest_after, is_at_rest, is_settled, is_quiet}
+use Rattle.golog_semantics.specs.Journal.{Journal, Command, command_at, commands, is_posted_by, posted, is_open, is_close, has_end, is_end, is_counted, count, is_full, last_of, is_result_of, is_outstanding, outstanding_commands, is_rest_after, is_at_rest, is_settled, is_quiet}
 use Rattle.golog_semantics.specs.Progress.{after_entry, values_after, left_at, left_after}
 use Rattle.golog_semantics.specs.Answer.{is_unanswered}
 use Rattle.golog_semantics.specs.Text.{run_at, line_text, with_line_feed, report_text}
@@ -56,8 +56,8 @@ module _ (agent : Agent) (journal : Journal) (e : Entry) where
     pub each : (c : Command)
         → is_outstanding agent (and_then journal e) c
         ≡ (is_outstanding agent journal c && not (is_result_of c.place e))
-    pub waiting : outstanding agent device (and_then journal e)
-        ≡ filter (λ c. not (is_result_of c.place e)) (outstanding agent device journal)
+    pub waiting : outstanding_commands agent device (and_then journal e)
+        ≡ filter (λ c. not (is_result_of c.place e)) (outstanding_commands agent device journal)
         ++ filter (is_outstanding agent (and_then journal e)) (new_command device)
     pub rest : is_at_rest agent (and_then journal e) device
         ≡ (let taken = length (commands agent device (and_then journal e)) in

@@ -32,7 +32,7 @@ use Rattle.golog_semantics.specs.Search.{final, nest_limit}
 use Rattle.golog_semantics.specs.Blocks.{moves}
 use Rattle.golog_semantics.specs.Heavy.{heavy}
 use Rattle.golog_semantics.specs.Same.{same_code, same_label, same_run, same_values}
-use Rattle.golog_semantics.specs.Journal.{Journal, Command, devices, may_post, sensed, commands, is_outstanding, outstanding, poster_of, posted, is_close, has_end, is_open, count, limit, is_full, is_settled}
+use Rattle.golog_semantics.specs.Journal.{Journal, Command, devices, may_post, sensed, commands, is_outstanding, outstanding_commands, poster_of, posted, is_close, has_end, is_open, count, limit, is_full, is_settled}
 use Rattle.golog_semantics.specs.Progress.{values_after, left_after}
 use Rattle.golog_semantics.specs.Answer.{is_unanswered, answer_at}
 use Rattle.golog_semantics.specs.Text.{Text, at_each, run_at, line_text}
@@ -74,7 +74,7 @@ module _ (agent : Agent) (before : Journal) where
   -- a result is that of the first outstanding command of its device, and a constant of the fluent's sort
   abbrev pub keeps_place : Entry → Bool
   keeps_place (Sense poster place fluent value) =
-      option_map_or (is_result place fluent) (slice_get (outstanding agent poster before) 0) false
+      option_map_or (is_result place fluent) (slice_get (outstanding_commands agent poster before) 0) false
       && nat_lt value (sort_size agent (fluent_sort agent fluent))
   keeps_place _ = true
 
@@ -122,12 +122,12 @@ module _ (agent : Agent) (before : Journal) where
   run_of (m ∷ ms) = m.run
 
   -- the run that a step begins
-  abbrev pub begun : Values → Prog → Entry → Option (List Label)
-  begun values p e = option_map_or (λ label. run_of (moves agent values Must p)) (label_of e) None
+  abbrev pub run_begun : Values → Prog → Entry → Option (List Label)
+  run_begun values p e = option_map_or (λ label. run_of (moves agent values Must p)) (label_of e) None
 
   -- a run is printed exactly where a step begins one
   abbrev pub keeps_run : Option (List Label) → Values → Prog → Entry → Bool
-  keeps_run printed values p e = same_run printed (begun values p e)
+  keeps_run printed values p e = same_run printed (run_begun values p e)
 
   -- The program ends with its answer, or for want of memory. It may end for want of fuel where it is heavy
   -- and goes on or waits for no result.

@@ -75,6 +75,6 @@ pub record IsReport (agent : Agent) (report : Report) : Type 0 where
   pub in_bounds : IsTrue (nat_le (length report.entries) (place_limit + 1))
 
 -- the bytes are the text of the report
-pub record Spells (agent : Agent) (bytes : Text) (report : Report) : Type 0 where
+pub record SpellsReport (agent : Agent) (bytes : Text) (report : Report) : Type 0 where
   pub fits : IsReport agent report
   pub text : bytes ≡ report_text agent report
