@@ -9,7 +9,7 @@ use Rattle.clap.specs.declared.error.Error.{Error}
 use Rattle.clap.specs.declared.error.ErrorKind.TheVariants.{OutOfMemory}
 use Rattle.clap.specs.declared.builder.command.Command.{Command as Parser}
 use Rattle.clap.specs.declared.parser.matches.ArgMatches.{ArgMatches}
-use Rattle.golog_words.specs.Commands.{Command, Text, run, check, replay, ask, demo, size_in}
+use Rattle.golog_words.specs.Commands.{CommandLine, Text, run, check, replay, ask, demo, size_in}
 use Rattle.golog_words.specs.Found.{Finds}
 
 -- what the rows of a run hold
@@ -23,7 +23,7 @@ abbrev pub ask_rows : List Row → Option Text × Option Text × Option Text
 ask_rows rows = (first_of (codes "agent") rows, first_of (codes "journal") rows, first_of (codes "condition") rows)
 
 -- the rows hold what the command asks for
-abbrev pub Holds : List Row → Command → Type 0
+abbrev pub Holds : List Row → CommandLine → Type 0
 Holds rows (run agent devices is_inline) =
     run_rows rows ≡ (Some agent, devices, Some (if is_inline then codes "true" else codes "false"))
 Holds rows (check agent) = first_of (codes "agent") rows ≡ Some agent
@@ -32,11 +32,11 @@ Holds rows (ask agent journal condition) = ask_rows rows ≡ (Some agent, Some j
 Holds rows (demo size) = (word : Text) × (first_of (codes "size") rows ≡ Some word) × (size_in word ≡ Some size)
 
 -- `clap` takes the words, and its rows hold what the command asks for
-abbrev pub Meets : App → List Text → Option Command → Type 0
+abbrev pub Meets : App → List Text → Option CommandLine → Type 0
 Meets app words None = ⊤
 Meets app words (Some command) = (Holds (matches_of app words) command) × (takes app words ≡ true)
 
-found_by : (matches : ArgMatches) (command : Command)
+found_by : (matches : ArgMatches) (command : CommandLine)
     → Holds (rows_of (found_of matches)) command → Finds matches command
 found_by m (run agent devices is_inline) h = (
   first_value-rows (found_of m) (codes "agent") ∙ ap (λ p. p.0) h,
@@ -55,10 +55,10 @@ found_by m (ask agent journal condition) h = (
 )
 found_by m (demo size) h = (h.0, first_value-rows (found_of m) (codes "size") ∙ h.1, h.2)
 
-module _ (app : App) (words : List Text) (spelled : Option Command) (meets : Meets app words spelled) (parser : Parser)
+module _ (app : App) (words : List Text) (spelled : Option CommandLine) (meets : Meets app words spelled) (parser : Parser)
     (same : app_of parser ≡ app) (simple : is_simple app ≡ true) (result : Result ArgMatches Error) where
   pub found : IfOk result (HasMatchesOf (app_of parser) words)
-      → IfOk result (λ matches. (command : Command) → spelled ≡ Some command → Finds matches command)
+      → IfOk result (λ matches. (command : CommandLine) → spelled ≡ Some command → Finds matches command)
   found = IfOk-weaker result _ _ (λ matches has command named.
       let rows : rows_of (found_of matches) ≡ matches_of app words
       = (has (ap is_simple same ∙ simple)).0 ∙ ap (λ (a : App). matches_of a words) same in
@@ -70,6 +70,6 @@ module _ (app : App) (words : List Text) (spelled : Option Command) (meets : Mee
   fails = IfErr-weaker result _ _ (λ error fault some.
       fault (ap (λ (a : App). takes a words) same ∙ taken spelled meets some))
     where
-      taken : (named : Option Command) → Meets app words named → IsSome named → takes app words ≡ true
+      taken : (named : Option CommandLine) → Meets app words named → IsSome named → takes app words ≡ true
       taken None met some = absurd (true≢false (sym some))
       taken (Some command) met some = met.1

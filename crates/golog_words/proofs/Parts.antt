@@ -5,8 +5,8 @@ use Rattle.std.specs.List.{list_any}
 use Rattle.std.specs.Str.Parse.{digits_value}
 use Rattle.clap.specs.Words.{found_of, one_text}
 use Rattle.clap.specs.declared.parser.matches.ArgMatches.{ArgMatches}
-use Rattle.golog_words.specs.Commands.{Command, Text, run, check, replay, ask, demo, are_run_words, files_in, is_file_word, is_inline, is_size, run_of, run_in, check_in, replay_in, ask_in, demo_of, demo_in, size_in}
-use Rattle.golog_words.specs.Found.{Finds, text_of}
+use Rattle.golog_words.specs.Commands.{CommandLine, Text, run, check, replay, ask, demo, are_run_words, files_in, is_file_word, is_inline, is_size, run_with, run_in, check_in, replay_in, ask_in, demo_of, demo_in, size_in}
+use Rattle.golog_words.specs.Found.{Finds, text_found}
 use Rattle.golog_words.proofs.Conditions.{holds_under}
 
 -- ---- a text that is found
@@ -28,39 +28,39 @@ flag_is text flag false is set unset = unset is
 
 -- ---- each list of words spells a command of one kind, or none
 
-abbrev Runs : Option Command → Type 0
+abbrev Runs : Option CommandLine → Type 0
 Runs None = ⊤
 Runs (Some (run agent devices inline)) = ⊤
 Runs (Some other) = ⊥
 
-abbrev Checks : Option Command → Type 0
+abbrev Checks : Option CommandLine → Type 0
 Checks None = ⊤
 Checks (Some (check agent)) = ⊤
 Checks (Some other) = ⊥
 
-abbrev Replays : Option Command → Type 0
+abbrev Replays : Option CommandLine → Type 0
 Replays None = ⊤
 Replays (Some (replay agent journal)) = ⊤
 Replays (Some other) = ⊥
 
-abbrev Asks : Option Command → Type 0
+abbrev Asks : Option CommandLine → Type 0
 Asks None = ⊤
 Asks (Some (ask agent journal condition)) = ⊤
 Asks (Some other) = ⊥
 
-abbrev Demos : Option Command → Type 0
+abbrev Demos : Option CommandLine → Type 0
 Demos None = ⊤
 Demos (Some (demo size)) = ⊤
 Demos (Some other) = ⊥
 
-runs_of : (files : List Text) (inline : Bool) → Runs (run_of files inline)
+runs_of : (files : List Text) (inline : Bool) → Runs (run_with files inline)
 runs_of [] inline = tt
 runs_of (agent ∷ []) inline = tt
 runs_of (agent ∷ devices ∷ []) inline = tt
 runs_of (agent ∷ devices ∷ other ∷ more) inline = tt
 
 runs_in : (words : List Text) → Runs (run_in words)
-runs_in words = holds_under Runs (are_run_words words) (run_of (files_in words) (list_any is_inline words)) tt
+runs_in words = holds_under Runs (are_run_words words) (run_with (files_in words) (list_any is_inline words)) tt
     (λ _. runs_of (files_in words) (list_any is_inline words))
 
 checks_in : (words : List Text) → Checks (check_in words)
@@ -92,49 +92,49 @@ demos_in (word ∷ other ∷ more) = tt
 
 -- ---- the parts
 
-pub record RunParts (found : ArgMatches) (spelled : Option Command) : Type 0 where
+pub record RunParts (found : ArgMatches) (spelled : Option CommandLine) : Type 0 where
   pub agent : Text
   pub devices : Option Text
   pub is_inline : Bool
   pub is : spelled ≡ Some (run agent devices is_inline)
-  pub agent_is : text_of found (codes "agent") ≡ Some agent
-  pub devices_is : text_of found (codes "devices") ≡ devices
+  pub agent_is : text_found found (codes "agent") ≡ Some agent
+  pub devices_is : text_found found (codes "devices") ≡ devices
   pub inline_is : one_text (found_of found) (codes "inline") ≡ Some (if is_inline then codes "true" else codes "false")
 
-pub record CheckParts (found : ArgMatches) (spelled : Option Command) : Type 0 where
+pub record CheckParts (found : ArgMatches) (spelled : Option CommandLine) : Type 0 where
   pub agent : Text
   pub is : spelled ≡ Some (check agent)
-  pub agent_is : text_of found (codes "agent") ≡ Some agent
+  pub agent_is : text_found found (codes "agent") ≡ Some agent
 
-pub record ReplayParts (found : ArgMatches) (spelled : Option Command) : Type 0 where
+pub record ReplayParts (found : ArgMatches) (spelled : Option CommandLine) : Type 0 where
   pub agent : Text
   pub journal : Text
   pub is : spelled ≡ Some (replay agent journal)
-  pub agent_is : text_of found (codes "agent") ≡ Some agent
-  pub journal_is : text_of found (codes "journal") ≡ Some journal
+  pub agent_is : text_found found (codes "agent") ≡ Some agent
+  pub journal_is : text_found found (codes "journal") ≡ Some journal
 
-pub record AskParts (found : ArgMatches) (spelled : Option Command) : Type 0 where
+pub record AskParts (found : ArgMatches) (spelled : Option CommandLine) : Type 0 where
   pub agent : Text
   pub journal : Text
   pub condition : Text
   pub is : spelled ≡ Some (ask agent journal condition)
-  pub agent_is : text_of found (codes "agent") ≡ Some agent
-  pub journal_is : text_of found (codes "journal") ≡ Some journal
-  pub condition_is : text_of found (codes "condition") ≡ Some condition
+  pub agent_is : text_found found (codes "agent") ≡ Some agent
+  pub journal_is : text_found found (codes "journal") ≡ Some journal
+  pub condition_is : text_found found (codes "condition") ≡ Some condition
 
-pub record DemoParts (found : ArgMatches) (spelled : Option Command) : Type 0 where
+pub record DemoParts (found : ArgMatches) (spelled : Option CommandLine) : Type 0 where
   pub word : Text
   pub size : ℕ
   pub is : spelled ≡ Some (demo size)
-  pub word_is : text_of found (codes "size") ≡ Some word
+  pub word_is : text_found found (codes "size") ≡ Some word
   pub size_is : size_in word ≡ Some size
 
 -- what is spelled was found
-abbrev FindsIt : ArgMatches → Option Command → Type 0
-FindsIt found spelled = (command : Command) → spelled ≡ Some command → Finds found command
+abbrev FindsIt : ArgMatches → Option CommandLine → Type 0
+FindsIt found spelled = (command : CommandLine) → spelled ≡ Some command → Finds found command
 
 module _ (found : ArgMatches) where
-  run_parts_of : (spelled : Option Command) → Runs spelled → IsSome spelled → FindsIt found spelled
+  run_parts_of : (spelled : Option CommandLine) → Runs spelled → IsSome spelled → FindsIt found spelled
       → RunParts found spelled
   run_parts_of None kind some finds = absurd (true≢false (sym some))
   run_parts_of (Some (run a d i)) kind some finds =
@@ -142,13 +142,13 @@ module _ (found : ArgMatches) where
       record { agent = a; devices = d; is_inline = i; is = refl; agent_is = h.0; devices_is = h.1; inline_is = h.2 }
   run_parts_of (Some other) kind some finds = absurd kind
 
-  check_parts_of : (spelled : Option Command) → Checks spelled → IsSome spelled → FindsIt found spelled
+  check_parts_of : (spelled : Option CommandLine) → Checks spelled → IsSome spelled → FindsIt found spelled
       → CheckParts found spelled
   check_parts_of None kind some finds = absurd (true≢false (sym some))
   check_parts_of (Some (check a)) kind some finds = record { agent = a; is = refl; agent_is = finds (check a) refl }
   check_parts_of (Some other) kind some finds = absurd kind
 
-  replay_parts_of : (spelled : Option Command) → Replays spelled → IsSome spelled → FindsIt found spelled
+  replay_parts_of : (spelled : Option CommandLine) → Replays spelled → IsSome spelled → FindsIt found spelled
       → ReplayParts found spelled
   replay_parts_of None kind some finds = absurd (true≢false (sym some))
   replay_parts_of (Some (replay a j)) kind some finds =
@@ -156,7 +156,7 @@ module _ (found : ArgMatches) where
       record { agent = a; journal = j; is = refl; agent_is = h.0; journal_is = h.1 }
   replay_parts_of (Some other) kind some finds = absurd kind
 
-  ask_parts_of : (spelled : Option Command) → Asks spelled → IsSome spelled → FindsIt found spelled
+  ask_parts_of : (spelled : Option CommandLine) → Asks spelled → IsSome spelled → FindsIt found spelled
       → AskParts found spelled
   ask_parts_of None kind some finds = absurd (true≢false (sym some))
   ask_parts_of (Some (ask a j q)) kind some finds =
@@ -164,7 +164,7 @@ module _ (found : ArgMatches) where
       record { agent = a; journal = j; condition = q; is = refl; agent_is = h.0; journal_is = h.1; condition_is = h.2 }
   ask_parts_of (Some other) kind some finds = absurd kind
 
-  demo_parts_of : (spelled : Option Command) → Demos spelled → IsSome spelled → FindsIt found spelled
+  demo_parts_of : (spelled : Option CommandLine) → Demos spelled → IsSome spelled → FindsIt found spelled
       → DemoParts found spelled
   demo_parts_of None kind some finds = absurd (true≢false (sym some))
   demo_parts_of (Some (demo n)) kind some finds =

@@ -9,7 +9,7 @@ use Rattle.clap.specs.Words.{App, Rule, built, is_simple, new_app, new_rule, wit
 use Rattle.clap.specs.Simple.{Shape}
 use Rattle.clap.specs.Walk.{Walk, nothing_held, walked}
 use Rattle.clap.specs.declared.builder.ArgAction.TheVariants.{SetTrue}
-use Rattle.golog_words.specs.Commands.{Command, Text, run, run_in, run_of, are_run_words, files_in, is_file_word, is_inline}
+use Rattle.golog_words.specs.Commands.{CommandLine, Text, run, run_in, run_with, are_run_words, files_in, is_file_word, is_inline}
 use Rattle.golog_words.proofs.Meeting.{Meets, run_rows}
 use Rattle.golog_words.proofs.Runs.{no_fourth}
 use Rattle.golog_words.proofs.Conditions.{first, second, holds_under, is_no}
@@ -139,8 +139,8 @@ not_inline : (x : ℕ) (xs : Text) → (x == 45) ≡ false → is_inline (x ∷ 
 not_inline x xs e = rw e refl
 
 -- the run that these words spell, where they are words of a run
-abbrev spelled : List Text → Option Command
-spelled words = run_of (files_in words) (list_any is_inline words)
+abbrev spelled : List Text → Option CommandLine
+spelled words = run_with (files_in words) (list_any is_inline words)
 
 abbrev Once : List Text → Type 0
 Once words = nat_le (count_by is_inline words) 1 ≡ true
@@ -149,7 +149,7 @@ module _ (name : Text) where
   abbrev Done : List Text → Type 0
   Done words = Meets running (name ∷ words) (spelled words)
 
-  shown : (words : List Text) (command : Option Command) → spelled words ≡ command
+  shown : (words : List Text) (command : Option CommandLine) → spelled words ≡ command
       → Meets running (name ∷ words) command → Done words
   shown words command is met = subst (Meets running (name ∷ words)) (sym is) met
 

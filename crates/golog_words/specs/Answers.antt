@@ -1,13 +1,13 @@
 -- What the words of a command are answered.
 use Rattle.std.specs.Prelude.{◌≡◌, Option, None, Some, option_map, IsSome, Result, Ok, Err}
-use Rattle.golog_words.specs.Commands.{Command, run, check, replay, ask, demo}
+use Rattle.golog_words.specs.Commands.{CommandLine, run, check, replay, ask, demo}
 use Rattle.golog_words.specs.declared.order.Order.{Order}
 use Rattle.golog_words.specs.declared.order.Order.TheVariants.{Run, Check, Replay, Ask, Demo}
 use Rattle.golog_words.specs.declared.order.WordsFault.{WordsFault}
 use Rattle.golog_words.specs.declared.order.WordsFault.TheVariants.{Refused, Memory}
 
 -- the command of an order: the bytes of its texts
-abbrev pub command_of : Order → Command
+abbrev pub command_of : Order → CommandLine
 command_of (Run agent devices inline) = run agent.now (option_map (λ name. name.now) devices) inline
 command_of (Check agent) = check agent.now
 command_of (Replay agent journal) = replay agent.now journal.now
@@ -16,7 +16,7 @@ command_of (Demo size) = demo size
 
 -- An order is that of the command that the words spell, they are refused where they spell none, and memory runs out
 -- only where they spell one.
-abbrev pub Answers : Result Order WordsFault → Option Command → Type 0
+abbrev pub Answers : Result Order WordsFault → Option CommandLine → Type 0
 Answers (Ok order) spelled = spelled ≡ Some (command_of order)
 Answers (Err Refused) spelled = spelled ≡ None
 Answers (Err Memory) spelled = IsSome spelled

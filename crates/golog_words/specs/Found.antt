@@ -2,23 +2,23 @@
 use Rattle.std.specs.Prelude.{◌≡◌, if◌then◌else◌, Option, Some, codes}
 use Rattle.clap.specs.Words.{first_value, found_of, one_text}
 use Rattle.clap.specs.declared.parser.matches.ArgMatches.{ArgMatches}
-use Rattle.golog_words.specs.Commands.{Command, run, check, replay, ask, demo, size_in, Text}
+use Rattle.golog_words.specs.Commands.{CommandLine, run, check, replay, ask, demo, size_in, Text}
 
 -- the text found under this name
-abbrev pub text_of : ArgMatches → Text → Option Text
-text_of matches name = first_value (found_of matches) name
+abbrev pub text_found : ArgMatches → Text → Option Text
+text_found matches name = first_value (found_of matches) name
 
 -- the matches hold what the command asks for
-abbrev pub Finds : ArgMatches → Command → Type 0
+abbrev pub Finds : ArgMatches → CommandLine → Type 0
 Finds matches (run agent devices is_inline) =
-    (text_of matches (codes "agent") ≡ Some agent)
-    × (text_of matches (codes "devices") ≡ devices)
+    (text_found matches (codes "agent") ≡ Some agent)
+    × (text_found matches (codes "devices") ≡ devices)
     × (one_text (found_of matches) (codes "inline") ≡ Some (if is_inline then codes "true" else codes "false"))
-Finds matches (check agent) = text_of matches (codes "agent") ≡ Some agent
+Finds matches (check agent) = text_found matches (codes "agent") ≡ Some agent
 Finds matches (replay agent journal) =
-    (text_of matches (codes "agent") ≡ Some agent) × (text_of matches (codes "journal") ≡ Some journal)
+    (text_found matches (codes "agent") ≡ Some agent) × (text_found matches (codes "journal") ≡ Some journal)
 Finds matches (ask agent journal condition) =
-    (text_of matches (codes "agent") ≡ Some agent)
-    × (text_of matches (codes "journal") ≡ Some journal)
-    × (text_of matches (codes "condition") ≡ Some condition)
-Finds matches (demo size) = (word : Text) × (text_of matches (codes "size") ≡ Some word) × (size_in word ≡ Some size)
+    (text_found matches (codes "agent") ≡ Some agent)
+    × (text_found matches (codes "journal") ≡ Some journal)
+    × (text_found matches (codes "condition") ≡ Some condition)
+Finds matches (demo size) = (word : Text) × (text_found matches (codes "size") ≡ Some word) × (size_in word ≡ Some size)

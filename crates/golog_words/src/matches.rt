@@ -1,7 +1,7 @@
 // A command of `clap` for each first word, which stands in the words where a program's name does.
 ghost use Rattle.std.specs.Prelude.{◌≡◌, Some, IsSome, IfOk, IfErr, drop, map, string_bytes};
 ghost use Rattle.clap.specs.Words.{kind_of};
-ghost use Rattle.golog_words.specs.Commands.{Command as Spelled, run_in, check_in, replay_in, ask_in, demo_in};
+ghost use Rattle.golog_words.specs.Commands.{CommandLine as Spelled, run_in, check_in, replay_in, ask_in, demo_in};
 ghost use Rattle.golog_words.specs.Found.{Finds};
 
 use clap::error::ErrorKind;

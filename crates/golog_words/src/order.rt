@@ -47,6 +47,6 @@ pub enum WordsFault {
     #[error("words refused")]
     Refused,
     /// Memory ran out.
-    #[error("out of memory")]
+    #[error("memory ran out")]
     Memory,
 }

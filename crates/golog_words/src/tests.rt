@@ -11,7 +11,7 @@ fn answer(alloc: Global, line: &str) -> Result<String> {
     match order_of(alloc, words.as_slice()) {
         Ok(order) => Ok(format!(in alloc; "{order:?}")?),
         Err(WordsFault::Refused) => Ok(String::from_str(alloc, "refused")?),
-        Err(WordsFault::Memory) => bail!("out of memory"),
+        Err(WordsFault::Memory) => bail!("memory ran out"),
     }
 }
 
