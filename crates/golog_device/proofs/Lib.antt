@@ -10,6 +10,7 @@ pub mod DealtTurn
 pub mod Scripted
 pub mod Standings
 pub mod Refused
-pub mod Told
+pub mod Commanded
 pub mod SensedSorts
 pub mod DealtFirst
+pub mod Kept

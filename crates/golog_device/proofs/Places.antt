@@ -10,7 +10,7 @@ use Rattle.golog_tree.specs.Ground.{Ground, action_args, ground_actions, ground_
 use Rattle.golog_tree.proofs.Numbers.{length-all_from}
 use Rattle.golog_semantics.specs.declared.journal.Entry.{Entry}
 use Rattle.golog_semantics.specs.declared.journal.Entry.TheVariants.{Do, Test, Exo, Sense, Rest, Close, End}
-use Rattle.golog_semantics.specs.Journal.{Journal, Command, device_of, is_carried_by, command_at, commands, is_outstanding, outstanding, is_posted_by, is_result_of}
+use Rattle.golog_semantics.specs.Journal.{Journal, Command, device_of, is_carried_by, command_at, commands, is_outstanding, outstanding_commands, is_posted_by, is_result_of}
 use Rattle.golog_semantics.specs.Text.{at_each}
 use Rattle.golog_semantics.specs.Online.{told_taken, is_result, may_have_taken}
 use Rattle.golog_semantics.proofs.CausesKeep.{has}
@@ -130,7 +130,7 @@ module _ (agent : Agent) where
         own : at ≡ c.place → p ≡ device
         own same =
             let keeps = (lawful-parts agent before (Sense p at f v) lawful).place in
-            let first = has (is_result agent before at f) (slice_get (outstanding agent p before) 0) (and_parts _ _ keeps).0 in
+            let first = has (is_result agent before at f) (slice_get (outstanding_commands agent p before) 0) (and_parts _ _ keeps).0 in
             let x : Command = first.item in
             let place : x.place ≡ at = eqb-true x.place at (and_parts (x.place == at) _ first.passes).0 in
             let k = first-of (is_outstanding agent before) (commands agent p before) x first.is in

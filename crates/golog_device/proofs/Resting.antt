@@ -9,7 +9,7 @@ use Rattle.std.proofs.lemmas.List.Folds.{list_all-append, list_any-append}
 use Rattle.golog_tree.specs.declared.agent.Agent.{Agent}
 use Rattle.golog_semantics.specs.declared.journal.Entry.{Entry}
 use Rattle.golog_semantics.specs.declared.journal.Entry.TheVariants.{Do, Test, Exo, Sense, Rest, Close, End}
-use Rattle.golog_semantics.specs.Journal.{Journal, Command, is_sensing, commands, is_outstanding, outstanding, is_posted_by, posted, is_close, is_open, is_result_of, last_of, is_rest_after, is_at_rest}
+use Rattle.golog_semantics.specs.Journal.{Journal, Command, is_sensing, commands, is_outstanding, outstanding_commands, is_posted_by, posted, is_close, is_open, is_result_of, last_of, is_rest_after, is_at_rest}
 use Rattle.golog_semantics.specs.Text.{at_each}
 use Rattle.golog_semantics.specs.Online.{is_result}
 use Rattle.golog_semantics.specs.OneMore.{new_command}
@@ -220,8 +220,8 @@ module _ (agent : Agent) (device : ℕ) where
   no-sense : (journal : Journal) (p at f v : ℕ) → is_posted_by device (Sense p at f v) ≡ true → Lawful agent journal (Sense p at f v) → AtRest journal → ⊥
   no-sense journal p at f v own lawful rest =
       let mine = eqb-true p device own in
-      let first = (and_parts (option_map_or (is_result agent journal at f) (slice_get (outstanding agent p journal) 0) false) _ lawful.place).0 in
-      let none = ap (λ q. option_map_or (is_result agent journal at f) (slice_get (outstanding agent q journal) 0) false) mine
+      let first = (and_parts (option_map_or (is_result agent journal at f) (slice_get (outstanding_commands agent p journal) 0) false) _ lawful.place).0 in
+      let none = ap (λ q. option_map_or (is_result agent journal at f) (slice_get (outstanding_commands agent q journal) 0) false) mine
       ∙ first-none (is_outstanding agent journal) (is_result agent journal at f) (commands agent device journal) rest.settled in
       absurd (cc)
 

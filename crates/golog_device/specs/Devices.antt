@@ -78,9 +78,9 @@ abbrev pub next_answer : List Text → Served
 next_answer [] = Nothing
 next_answer (text ∷ texts) = Value text
 
-abbrev pub rest_of : List Text → List Text
+abbrev pub rest_of : {A : Type 0} → List A → List A
 rest_of [] = []
-rest_of (text ∷ texts) = texts
+rest_of (item ∷ items) = items
 
 -- how a script fills idle time: with none left it closes
 abbrev pub idle_of : Text → Idle

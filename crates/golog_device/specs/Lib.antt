@@ -4,3 +4,6 @@ pub mod Turns
 pub mod Dealing
 pub mod Slots
 pub mod Laws
+pub mod Kept
+pub mod Logs
+pub mod Tables

@@ -21,40 +21,47 @@ use Rattle.golog_semantics.specs.Posts.{awaited, result_of, entry_of, closing, p
 use Rattle.golog_semantics.specs.Online.{is_result}
 use Rattle.golog_semantics.specs.Reports.{is_device, is_value, is_exogenous, place_limit, fits_entry}
 use Rattle.golog_semantics.specs.WellFormed.{is_device_no, are_sorts, action_item_fits}
-use Rattle.golog_journal.specs.declared.tally.DeviceTally.{DeviceTally}
+use Rattle.golog_journal.specs.declared.commands.Commands.{Commands}
+use Rattle.golog_journal.specs.declared.standing.Standing.{Standing}
 use Rattle.golog_journal.specs.Agents.{ServesDevices}
 use Rattle.golog_journal.specs.Boards.{IsBoardList}
-use Rattle.golog_journal.specs.Tallies.{command_of, IsKept}
+use Rattle.golog_journal.specs.Kept.{command_of, AreKept}
+use Rattle.golog_journal.specs.Tallies.{IsCounted}
 use Rattle.golog_journal.proofs.Lawful.{count-push, lawful-last, lawful-parts, commands-few, result-before}
 
 abbrev one_if : Bool → ℕ
 one_if b = if b then 1 else 0
 
-none-closed : (ts : List DeviceTally) → All (λ tally. tally.is_open ≡ true) ts → count_by (λ (tally : DeviceTally). not tally.is_open) ts ≡ 0
+none-closed : (ts : List Standing) → All (λ standing. standing.is_open ≡ true) ts → count_by (λ (standing : Standing). not standing.is_open) ts ≡ 0
 none-closed [] opens = refl
 none-closed (t ∷ ts) opens =
-    let first = sum_by-cons (λ (tally : DeviceTally). if not tally.is_open then 1 else 0) t ts in
-    let none : one_if (not t.is_open) ≡ 0 = ap (λ b. one_if (not b)) (All-head (λ (tally : DeviceTally). tally.is_open ≡ true) t ts opens) in
-    let rest = none-closed ts (All-tail (λ (tally : DeviceTally). tally.is_open ≡ true) t ts opens) in
+    let first = sum_by-cons (λ (standing : Standing). if not standing.is_open then 1 else 0) t ts in
+    let none : one_if (not t.is_open) ≡ 0 = ap (λ b. one_if (not b)) (All-head (λ (standing : Standing). standing.is_open ≡ true) t ts opens) in
+    let rest = none-closed ts (All-tail (λ (standing : Standing). standing.is_open ≡ true) t ts opens) in
     omega (arith, first, none, rest)
 
 -- nothing is counted of an empty journal
-pub kept-new : (agent : Agent) (ts : List DeviceTally) → ServesDevices agent → length ts ≡ length agent.devices
-    → All (λ tally. tally.commands.items ≡ []) ts → All (λ tally. tally.rested ≡ None) ts → All (λ tally. tally.is_open ≡ true) ts
-    → IsKept agent [] ts
-kept-new agent ts serves long no_commands not_rested opens = record {
+pub counted-new : (agent : Agent) (ts : List Standing) → ServesDevices agent → length ts ≡ length agent.devices
+    → All (λ standing. standing.commands ≡ 0) ts → All (λ standing. standing.rested ≡ None) ts → All (λ standing. standing.is_open ≡ true) ts
+    → IsCounted agent [] ts
+counted-new agent ts serves long no_commands not_rested opens = record {
   serves = serves;
   lawful = record { lawful = refl; room = omega arith };
   tallied = record {
     one_each = long;
     each = λ d x below. record {
-      has_commands = ap (map command_of) (no_commands d x below);
+      has_commands = no_commands d x below;
       has_rested = not_rested d x below;
       has_open = opens d x below;
     };
     in_all = let none = none-closed ts opens in omega (arith, none);
   };
 }
+
+-- no command is kept of an empty journal
+pub kept-new : (agent : Agent) (devices : List Commands) → length devices ≡ length agent.devices
+    → All (λ (own : Commands). own.kept.items ≡ []) devices → AreKept agent [] devices
+kept-new agent devices long none = record { one_each = long; each = λ d x below. ap (map command_of) (none d x below) }
 
 module _ (agent : Agent) where
   -- a device of an action is one of the agent's

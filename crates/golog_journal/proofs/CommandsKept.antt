@@ -9,11 +9,12 @@ use Rattle.golog_semantics.specs.declared.journal.Entry.{Entry}
 use Rattle.golog_semantics.specs.declared.journal.Entry.TheVariants.{Do, Test, Exo, Sense, Rest, Close, End}
 use Rattle.golog_semantics.specs.Journal.{Journal, Command, commands, posted, last_of, is_rest_after, is_outstanding, poster_of}
 use Rattle.golog_semantics.specs.Posts.{awaited, awaited_by}
-use Rattle.golog_journal.specs.declared.tally.Kept.{Kept}
-use Rattle.golog_journal.specs.declared.tally.DeviceTally.{DeviceTally}
+use Rattle.golog_journal.specs.declared.commands.Commands.{Commands}
+use Rattle.golog_journal.specs.declared.commands.Kept.{Kept}
+use Rattle.golog_journal.specs.declared.standing.Standing.{Standing}
 use Rattle.golog_journal.specs.Commands.{is_resting}
-use Rattle.golog_journal.specs.Commits.{IsOfProgram}
-use Rattle.golog_journal.specs.Tallies.{command_of, rested_after, IsTally, IsKept, IsStep}
+use Rattle.golog_journal.specs.Kept.{command_of, AreKept}
+use Rattle.golog_journal.specs.Tallies.{rested_after, IsTally, IsCounted, IsStep}
 
 -- what a tally says of the last entry is what the journal says
 pub resting-of : (taken : ℕ) (o : Option Entry) → option_map_or (λ n. n == taken) (rested_after o) false ≡ option_map_or (is_rest_after taken) o false
@@ -26,28 +27,33 @@ resting-of taken (Some (Sense p at f v)) = refl
 resting-of taken (Some (Close p r t)) = refl
 resting-of taken (Some (End a)) = refl
 
-module _ (agent : Agent) (journal : Journal) (ts : List DeviceTally) (kept : IsKept agent journal ts) (d : ℕ) (tally : DeviceTally)
-    (inside : d < length agent.devices) (at : tally ≡ get_or ts d tally) where
-  is-tally : IsTally agent journal d tally
-  is-tally =
-      let one = kept.tallied.one_each in
-      subst (IsTally agent journal d) (sym at) (kept.tallied.each d tally (omega (arith, inside, one)))
+-- what is counted for a device
+pub counted-resting : (agent : Agent) (journal : Journal) (ts : List Standing) → IsCounted agent journal ts → (d : ℕ) (standing : Standing)
+    → d < length agent.devices → standing ≡ get_or ts d standing → (taken : ℕ)
+    → option_map_or (λ n. n == taken) standing.rested false ≡ is_resting agent journal d taken
+counted-resting agent journal ts kept d standing inside at taken =
+    let one = kept.tallied.one_each in
+    let is = subst (IsTally agent journal d) (sym at) (kept.tallied.each d standing (omega (arith, inside, one))) in
+    ap (λ o. option_map_or (λ n. n == taken) o false) is.has_rested ∙ resting-of taken (last_of (posted d journal))
 
-  pub command-kept : (items : List Kept) (k : ℕ) (x : Kept) → items ≡ tally.commands.items → slice_get items k ≡ Some x
+module _ (agent : Agent) (journal : Journal) (devices : List Commands) (are : AreKept agent journal devices) (d : ℕ) (own : Commands)
+    (inside : d < length agent.devices) (at : own ≡ get_or devices d own) where
+  own-commands : (items : List Kept) → items ≡ own.kept.items → commands agent d journal ≡ map command_of items
+  own-commands items same =
+      let one = are.one_each in
+      sym (are.each d own (omega (arith, inside, one)))
+      ∙ ap (λ (x : Commands). map command_of x.kept.items) (sym at)
+      ∙ ap (map command_of) (sym same)
+
+  pub command-kept : (items : List Kept) (k : ℕ) (x : Kept) → items ≡ own.kept.items → slice_get items k ≡ Some x
       → slice_get (commands agent d journal) k ≡ Some (command_of x)
   command-kept items k x same here =
-      ap (λ cs. slice_get cs k) (sym is-tally.has_commands ∙ ap (map command_of) (sym same))
-      ∙ slice_get-map command_of items k ∙ ap (option_map command_of) here
+      ap (λ cs. slice_get cs k) (own-commands items same) ∙ slice_get-map command_of items k ∙ ap (option_map command_of) here
 
-  pub command-past : (items : List Kept) (k : ℕ) → items ≡ tally.commands.items → slice_get items k ≡ None
+  pub command-past : (items : List Kept) (k : ℕ) → items ≡ own.kept.items → slice_get items k ≡ None
       → slice_get (commands agent d journal) k ≡ None
   command-past items k same past =
-      ap (λ cs. slice_get cs k) (sym is-tally.has_commands ∙ ap (map command_of) (sym same))
-      ∙ slice_get-map command_of items k ∙ ap (option_map command_of) past
-
-  pub kept-resting : (taken : ℕ) → option_map_or (λ n. n == taken) tally.rested false ≡ is_resting agent journal d taken
-  kept-resting taken =
-      ap (λ o. option_map_or (λ n. n == taken) o false) is-tally.has_rested ∙ resting-of taken (last_of (posted d journal))
+      ap (λ cs. slice_get cs k) (own-commands items same) ∙ slice_get-map command_of items k ∙ ap (option_map command_of) past
 
 module _ (agent : Agent) (journal : Journal) (d taken : ℕ) where
   -- the last command taken is awaited where its result does not stand
@@ -71,13 +77,3 @@ is-step agent (Exo p a) own other = absurd (cc)
 is-step agent (Sense p at f v) own other = absurd (cc)
 is-step agent (Rest p t) own other = absurd (cc)
 is-step agent (Close p r t) own other = absurd (cc)
-
--- an entry of the program is of no device
-pub of-no-device : (agent : Agent) (journal : Journal) (place : ℕ) (e x : Entry) → IsOfProgram agent journal place e x → poster_of x ≡ None
-of-no-device agent journal place e (Do action) own = refl
-of-no-device agent journal place e Test own = refl
-of-no-device agent journal place e (End answer) own = refl
-of-no-device agent journal place e (Exo p a) own = absurd own
-of-no-device agent journal place e (Sense p at f v) own = absurd own
-of-no-device agent journal place e (Rest p t) own = absurd own
-of-no-device agent journal place e (Close p r t) own = absurd own

@@ -12,5 +12,6 @@ pub mod Beginning
 pub mod Filling
 pub mod Views
 pub mod CommandsKept
+pub mod KeptGrows
 mod Quieting
 pub mod SmallAgent

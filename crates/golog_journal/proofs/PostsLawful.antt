@@ -17,7 +17,7 @@ use Rattle.golog_semantics.specs.declared.journal.Reason.TheVariants as reason
 use Rattle.golog_tree.specs.Ground.{sort_size, ground_fluents}
 use Rattle.golog_semantics.specs.Values.{fluent_sort}
 use Rattle.golog_semantics.specs.Ways.{is_empty}
-use Rattle.golog_semantics.specs.Journal.{Journal, Command, action_item, may_post, sensed, commands, is_outstanding, outstanding, has_end, is_counted, is_full, count, limit}
+use Rattle.golog_semantics.specs.Journal.{Journal, Command, action_item, may_post, sensed, commands, is_outstanding, outstanding_commands, has_end, is_counted, is_full, count, limit}
 use Rattle.golog_semantics.specs.Posts.{awaited, awaited_by, is_value_for, is_bad, later_reason, result_of, entry_of, posted_entry}
 use Rattle.golog_semantics.specs.Online.{may_have_taken, may_close, is_result}
 use Rattle.golog_semantics.specs.Reports.{place_limit, is_device}
@@ -198,7 +198,7 @@ module _ (agent : Agent) (journal : Journal) (device taken : ℕ) where
               list_any_at (is_result agent journal c.place fluent) mine (taken - 1) c (slice_get_within mine (taken - 1) c is.at)
               (ap (is_result agent journal c.place fluent) (get_or_from_slice_get mine (taken - 1) c c is.at) ∙ itself)
 
-          first : option_map_or (is_result agent journal c.place fluent) (slice_get (outstanding agent device journal) 0) false ≡ true
+          first : option_map_or (is_result agent journal c.place fluent) (slice_get (outstanding_commands agent device journal) 0) false ≡ true
           first =
               ap (λ o. option_map_or (is_result agent journal c.place fluent) o false)
               (filter-first (is_outstanding agent journal) mine (taken - 1) c firsts is.at is.open_still)

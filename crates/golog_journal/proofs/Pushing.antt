@@ -1,20 +1,18 @@
 -- What is kept of a journal with one more lawful entry.
-use Rattle.std.proofs.Common.{◌≡◌, ◌≢◌, ℕ, ◌+◌, ◌≤◌, ◌<◌, Bool, true, false, not, ◌&&◌, ◌||◌, ◌==◌, if◌then◌else◌, Option, Some, None, List, [], ◌∷◌, ◌++◌, length, length-append, set, get_or, refl, sym, ap, ◌∙◌, subst, arith, length-set}
+use Rattle.std.proofs.Common.{◌≡◌, ◌≢◌, ℕ, ◌+◌, ◌≤◌, ◌<◌, Bool, true, false, not, ◌&&◌, ◌||◌, ◌==◌, if◌then◌else◌, Some, None, List, [], ◌∷◌, ◌++◌, length, length-append, set, get_or, refl, sym, ap, ◌∙◌, subst, arith, length-set}
 use Rattle.std.proofs.lemmas.Bool.{and_parts, ltb-true, eq-eqb, ne_eqb}
-use Rattle.std.specs.Option.{option_map_or}
 use Rattle.std.proofs.lemmas.Option.{same_Some}
 use Rattle.std.proofs.lemmas.List.Sums.{count_by-le-length}
 use Rattle.golog_tree.specs.declared.agent.Agent.{Agent}
 use Rattle.golog_semantics.specs.declared.journal.Entry.{Entry}
 use Rattle.golog_semantics.specs.declared.journal.Entry.TheVariants.{Do, Test, Exo, Sense, Rest, Close, End}
-use Rattle.golog_semantics.specs.Journal.{Journal, command_at, is_carried_by, device_of, is_posted_by, poster_of, is_close, is_end, has_end, is_counted, count}
+use Rattle.golog_semantics.specs.Journal.{Journal, command_at, device_of, is_posted_by, poster_of, is_close, is_end, has_end, is_counted, count}
 use Rattle.golog_semantics.specs.Reports.{is_device}
-use Rattle.golog_journal.specs.declared.tally.Kept.{Kept}
-use Rattle.golog_journal.specs.declared.tally.DeviceTally.{DeviceTally}
+use Rattle.golog_journal.specs.declared.standing.Standing.{Standing}
 use Rattle.golog_journal.specs.Boards.{IsBoardList}
-use Rattle.golog_journal.specs.Tallies.{command_of, rested_after, IsTally, closed, AreTallies, IsStep, IsKept}
+use Rattle.golog_journal.specs.Tallies.{rested_after, IsTally, closed, AreTallies, IsStep, IsCounted}
 use Rattle.golog_journal.proofs.Lawful.{count-push, lawful-last, lawful-parts}
-use Rattle.golog_journal.proofs.Tallied.{tally-command, tally-noted, each-set, tallies-step, has_end-after, closed-same, closed-more, some-open}
+use Rattle.golog_journal.proofs.Tallied.{no-carrier, other-carrier, own-carrier, tally-command, tally-noted, each-set, tallies-step, has_end-after, closed-same, closed-more, some-open}
 
 or-false : (b : Bool) → (b || false) ≡ b
 or-false true = refl
@@ -67,10 +65,10 @@ module _ (agent : Agent) (journal : Journal) where
       let same = ended (Close p r t) refl in
       omega (arith, c, l, same, more, all)
 
-  module _ (ts : List DeviceTally) (kept : IsKept agent journal ts) where
+  module _ (ts : List Standing) (kept : IsCounted agent journal ts) where
     few : closed agent journal ts ≤ 16
     few =
-        let most = count_by-le-length (λ (tally : DeviceTally). not tally.is_open) ts in
+        let most = count_by-le-length (λ (standing : Standing). not standing.is_open) ts in
         let one = kept.tallied.one_each in
         let devices = kept.serves.few in
         omega (arith, most, one, devices)
@@ -87,7 +85,7 @@ module _ (agent : Agent) (journal : Journal) where
         omega (arith, number, one)
 
     pub open-in : (p : ℕ) (r : _) (t : ℕ) → IsBoardList agent (journal ++ Close p r t ∷ [])
-        → (inside : p < length ts) → (d : DeviceTally) → (get_or ts p d).is_open ≡ true
+        → (inside : p < length ts) → (d : Standing) → (get_or ts p d).is_open ≡ true
     open-in p r t is inside d =
         (kept.tallied.each p d inside).has_open ∙ (lawful-parts agent journal (Close p r t) (lawful-last agent journal (Close p r t) is)).poster
 
@@ -135,69 +133,58 @@ module _ (agent : Agent) (journal : Journal) where
     room-for (End answer) is = at-end answer is
 
     -- the list goes on, with other tallies
-    goes : (e : Entry) (new : List DeviceTally) → IsBoardList agent (journal ++ e ∷ []) → AreTallies agent (journal ++ e ∷ []) new
-        → IsKept agent (journal ++ e ∷ []) new
+    goes : (e : Entry) (new : List Standing) → IsBoardList agent (journal ++ e ∷ []) → AreTallies agent (journal ++ e ∷ []) new
+        → IsCounted agent (journal ++ e ∷ []) new
     goes e new is are = record { serves = kept.serves; lawful = is; tallied = are }
 
     -- a test
-    pub kept-test : IsBoardList agent (journal ++ Test ∷ []) → IsKept agent (journal ++ Test ∷ []) ts
-    kept-test is =
+    pub counted-test : IsBoardList agent (journal ++ Test ∷ []) → IsCounted agent (journal ++ Test ∷ []) ts
+    counted-test is =
         goes Test ts is
         (tallies-step agent journal Test ts (λ d. refl) (λ d. refl) (in-counted Test (closed agent journal ts) refl refl kept.tallied.in_all) kept.tallied)
 
     -- the end
-    pub kept-end : (answer : _) → IsBoardList agent (journal ++ End answer ∷ []) → IsKept agent (journal ++ End answer ∷ []) ts
-    kept-end answer is =
+    pub counted-end : (answer : _) → IsBoardList agent (journal ++ End answer ∷ []) → IsCounted agent (journal ++ End answer ∷ []) ts
+    counted-end answer is =
         goes (End answer) ts is
         (tallies-step agent journal (End answer) ts (λ d. refl) (λ d. refl) (in-end answer (closed agent journal ts) (goes-on answer is) kept.tallied.in_all) kept.tallied)
 
-    module _ (action : ℕ) where
-      carried : (o : Option ℕ) (d : ℕ) → device_of agent action ≡ o → is_carried_by agent d action ≡ option_map_or (λ x. x == d) o false
-      carried o d is = ap (λ p. option_map_or (λ x. x == d) p false) is
+    -- an action without a device
+    pub counted-do : (action : ℕ) → device_of agent action ≡ None → IsBoardList agent (journal ++ Do action ∷ []) → IsCounted agent (journal ++ Do action ∷ []) ts
+    counted-do action none is =
+        goes (Do action) ts is
+        (tallies-step agent journal (Do action) ts (λ d. refl) (no-carrier agent journal action none)
+        (in-counted (Do action) (closed agent journal ts) refl refl kept.tallied.in_all) kept.tallied)
 
-      command-if : (d : ℕ) (b : Bool) → is_carried_by agent d action ≡ b
-          → command_at agent d (length journal, Do action) ≡ (if b then Some (record { place = length journal; action = action }) else None)
-      command-if d b is = ap (λ c. if c then Some (record { place = length journal; action = action }) else None) is
+    -- a command of a device
+    pub counted-command : (action i : ℕ) (new : Standing) → device_of agent action ≡ Some i → i < length ts
+        → new.commands ≡ (get_or ts i new).commands + 1
+        → new.rested ≡ (get_or ts i new).rested → new.is_open ≡ (get_or ts i new).is_open
+        → IsBoardList agent (journal ++ Do action ∷ []) → IsCounted agent (journal ++ Do action ∷ []) (set ts i new)
+    counted-command action i new device inside more rested still is =
+        goes (Do action) (set ts i new) is (record {
+          one_each = length-set ts i new ∙ kept.tallied.one_each;
+          each = each-set agent journal (Do action) ts i new inside (λ d other. (refl, other-carrier agent journal action i device d other)) this
+              kept.tallied.each;
+          in_all = in_all;
+        })
+      where
+        this : IsTally agent (journal ++ Do action ∷ []) i new
+        this =
+            tally-command agent journal (Do action) i (get_or ts i new) new (record { place = length journal; action = action }) refl
+            (own-carrier agent journal action i device) more rested still (kept.tallied.each i new inside)
 
-      -- an action without a device
-      pub kept-do : device_of agent action ≡ None → IsBoardList agent (journal ++ Do action ∷ []) → IsKept agent (journal ++ Do action ∷ []) ts
-      kept-do none is =
-          goes (Do action) ts is
-          (tallies-step agent journal (Do action) ts (λ d. refl) (λ d. command-if d false (carried None d none))
-          (in-counted (Do action) (closed agent journal ts) refl refl kept.tallied.in_all) kept.tallied)
-
-      -- a command of a device
-      pub kept-command : (i : ℕ) (new : DeviceTally) (command : Kept) → device_of agent action ≡ Some i → i < length ts
-          → command_of command ≡ record { place = length journal; action = action }
-          → new.commands.items ≡ (get_or ts i new).commands.items ++ command ∷ []
-          → new.rested ≡ (get_or ts i new).rested → new.is_open ≡ (get_or ts i new).is_open
-          → IsBoardList agent (journal ++ Do action ∷ []) → IsKept agent (journal ++ Do action ∷ []) (set ts i new)
-      kept-command i new command device inside it more rested still is =
-          goes (Do action) (set ts i new) is (record {
-            one_each = length-set ts i new ∙ kept.tallied.one_each;
-            each = each-set agent journal (Do action) ts i new inside others this kept.tallied.each;
-            in_all = in_all;
-          })
-        where
-          others : (d : ℕ) → d ≢ i → (is_posted_by d (Do action) ≡ false) × (command_at agent d (length journal, Do action) ≡ None)
-          others d other = (refl, command-if d false (carried (Some i) d device ∙ ne_eqb i d (λ e. other (sym e))))
-
-          this : IsTally agent (journal ++ Do action ∷ []) i new
-          this =
-              tally-command agent journal (Do action) i (get_or ts i new) new command refl
-              (command-if i true (carried (Some i) i device ∙ eq-eqb i i refl) ∙ ap Some (sym it)) more rested still (kept.tallied.each i new inside)
-
-          in_all : length (journal ++ Do action ∷ []) ≡ count (journal ++ Do action ∷ []) + closed agent journal (set ts i new) + one_if (has_end (journal ++ Do action ∷ []))
-          in_all =
-              let same = closed-same ts i new inside still in
-              let all = in-counted (Do action) (closed agent journal ts) refl refl kept.tallied.in_all in
-              omega (arith, same, all)
+        in_all : length (journal ++ Do action ∷ []) ≡ count (journal ++ Do action ∷ []) + closed agent journal (set ts i new) + one_if (has_end (journal ++ Do action ∷ []))
+        in_all =
+            let same = closed-same ts i new inside still in
+            let all = in-counted (Do action) (closed agent journal ts) refl refl kept.tallied.in_all in
+            omega (arith, same, all)
 
     -- what a device posted
-    module _ (i : ℕ) (new : DeviceTally) (inside : i < length ts) where
+    module _ (i : ℕ) (new : Standing) (inside : i < length ts) where
       -- the tallies where the entry is this device's and no command
       noted : (e : Entry) (own : is_posted_by i e ≡ true) → ((d : ℕ) → d ≢ i → is_posted_by d e ≡ false) → ((d : ℕ) → command_at agent d (length journal, e) ≡ None)
-          → new.commands.items ≡ (get_or ts i new).commands.items → new.rested ≡ rested_after (Some e)
+          → new.commands ≡ (get_or ts i new).commands → new.rested ≡ rested_after (Some e)
           → new.is_open ≡ ((get_or ts i new).is_open && not (is_close e))
           → length (journal ++ e ∷ []) ≡ count (journal ++ e ∷ []) + closed agent journal (set ts i new) + one_if (has_end (journal ++ e ∷ []))
           → AreTallies agent (journal ++ e ∷ []) (set ts i new)
@@ -236,29 +223,29 @@ module _ (agent : Agent) (journal : Journal) where
           let more = closed-more ts i new inside now_shut was_open in
           in-close p r t (closed agent journal ts) (closed agent journal (set ts i new)) more.0 kept.tallied.in_all
 
-      pub kept-posted : (e : Entry) → poster_of e ≡ Some i
-          → new.commands.items ≡ (get_or ts i new).commands.items → new.rested ≡ rested_after (Some e)
+      pub counted-posted : (e : Entry) → poster_of e ≡ Some i
+          → new.commands ≡ (get_or ts i new).commands → new.rested ≡ rested_after (Some e)
           → new.is_open ≡ ((get_or ts i new).is_open && not (is_close e))
-          → IsBoardList agent (journal ++ e ∷ []) → IsKept agent (journal ++ e ∷ []) (set ts i new)
-      kept-posted (Do action) own same rested still is = absurd (cc)
-      kept-posted Test own same rested still is = absurd (cc)
-      kept-posted (End answer) own same rested still is = absurd (cc)
-      kept-posted (Exo p action) own same rested still is =
+          → IsBoardList agent (journal ++ e ∷ []) → IsCounted agent (journal ++ e ∷ []) (set ts i new)
+      counted-posted (Do action) own same rested still is = absurd (cc)
+      counted-posted Test own same rested still is = absurd (cc)
+      counted-posted (End answer) own same rested still is = absurd (cc)
+      counted-posted (Exo p action) own same rested still is =
           let n = same_Some p i own in let e = Exo p action in
           goes e (set ts i new) is (noted e (own-number p n) (other-number p n) (λ d. refl) same rested still (counts e refl refl refl still))
-      kept-posted (Sense p place fluent value) own same rested still is =
+      counted-posted (Sense p place fluent value) own same rested still is =
           let n = same_Some p i own in let e = Sense p place fluent value in
           goes e (set ts i new) is (noted e (own-number p n) (other-number p n) (λ d. refl) same rested still (counts e refl refl refl still))
-      kept-posted (Rest p taken) own same rested still is =
+      counted-posted (Rest p taken) own same rested still is =
           let n = same_Some p i own in let e = Rest p taken in
           goes e (set ts i new) is (noted e (own-number p n) (other-number p n) (λ d. refl) same rested still (counts e refl refl refl still))
-      kept-posted (Close p r t) own same rested still is =
+      counted-posted (Close p r t) own same rested still is =
           let n = same_Some p i own in let e = Close p r t in
           goes e (set ts i new) is (noted e (own-number p n) (other-number p n) (λ d. refl) same rested still (shuts p r t n is still))
 
 -- not too many entries stand
-pub kept-short : (agent : Agent) (journal : Journal) (ts : List DeviceTally) → IsKept agent journal ts → length journal ≤ 65553
-kept-short agent journal ts kept =
+pub counted-short : (agent : Agent) (journal : Journal) (ts : List Standing) → IsCounted agent journal ts → length journal ≤ 65553
+counted-short agent journal ts kept =
     let shut = few agent journal ts kept in
     let ends = at-most-one agent journal ts kept (has_end journal) in
     let room = kept.lawful.room in
@@ -266,12 +253,12 @@ kept-short agent journal ts kept =
     omega (arith, shut, ends, room, all)
 
 -- an entry of the program that is no command
-pub kept-step : (agent : Agent) (journal : Journal) (ts : List DeviceTally) → IsKept agent journal ts → (e : Entry) → IsStep agent e
-    → IsBoardList agent (journal ++ e ∷ []) → IsKept agent (journal ++ e ∷ []) ts
-kept-step agent journal ts kept (Do action) step is = kept-do agent journal ts kept action step is
-kept-step agent journal ts kept Test step is = kept-test agent journal ts kept is
-kept-step agent journal ts kept (End answer) step is = kept-end agent journal ts kept answer is
-kept-step agent journal ts kept (Exo p a) step is = absurd step
-kept-step agent journal ts kept (Sense p at f v) step is = absurd step
-kept-step agent journal ts kept (Rest p t) step is = absurd step
-kept-step agent journal ts kept (Close p r t) step is = absurd step
+pub counted-step : (agent : Agent) (journal : Journal) (ts : List Standing) → IsCounted agent journal ts → (e : Entry) → IsStep agent e
+    → IsBoardList agent (journal ++ e ∷ []) → IsCounted agent (journal ++ e ∷ []) ts
+counted-step agent journal ts kept (Do action) step is = counted-do agent journal ts kept action step is
+counted-step agent journal ts kept Test step is = counted-test agent journal ts kept is
+counted-step agent journal ts kept (End answer) step is = counted-end agent journal ts kept answer is
+counted-step agent journal ts kept (Exo p a) step is = absurd step
+counted-step agent journal ts kept (Sense p at f v) step is = absurd step
+counted-step agent journal ts kept (Rest p t) step is = absurd step
+counted-step agent journal ts kept (Close p r t) step is = absurd step

@@ -1,16 +1,15 @@
 -- Whether each device is closed or at rest, by the tallies.
-use Rattle.std.proofs.Common.{◌≡◌, ℕ, zero, suc, ◌+◌, ◌<◌, Bool, true, false, not, ◌&&◌, ◌||◌, ◌==◌, List, [], ◌∷◌, Option, Some, None, length, map, get_or, refl, sym, ap, ◌∙◌, arith}
-use Rattle.std.specs.List.{list_any, list_all, range_with_len}
-use Rattle.std.proofs.lemmas.List.{length-map}
+use Rattle.std.proofs.Common.{◌≡◌, ℕ, suc, ◌+◌, ◌<◌, Bool, false, not, ◌&&◌, ◌||◌, ◌==◌, List, [], ◌∷◌, length, get_or, refl, ap, ◌∙◌, arith}
+use Rattle.std.specs.List.{list_all, range_with_len}
 use Rattle.std.specs.Option.{option_map_or}
 use Rattle.golog_tree.specs.declared.agent.Agent.{Agent}
 use Rattle.golog_semantics.specs.Journal.{Journal, commands, is_at_rest, is_open, is_quiet, is_rest_after, last_of, posted}
-use Rattle.golog_journal.specs.declared.tally.DeviceTally.{DeviceTally}
-use Rattle.golog_journal.specs.Tallies.{command_of, rested_after, IsTally, AreTallies}
+use Rattle.golog_journal.specs.declared.standing.Standing.{Standing}
+use Rattle.golog_journal.specs.Tallies.{IsTally, AreTallies}
 use Rattle.golog_journal.specs.Quiet.{is_quiet_by}
 use Rattle.golog_journal.proofs.CommandsKept.{resting-of}
 
-all_of : (f : DeviceTally → Bool) (g : ℕ → Bool) (ts : List DeviceTally) (a : ℕ) → ((k : ℕ) (d : DeviceTally) → k < length ts → f (get_or ts k d) ≡ g (a + k))
+all_of : (f : Standing → Bool) (g : ℕ → Bool) (ts : List Standing) (a : ℕ) → ((k : ℕ) (d : Standing) → k < length ts → f (get_or ts k d) ≡ g (a + k))
     → list_all f ts ≡ list_all g (range_with_len a (length ts))
 all_of f g [] a h = refl
 all_of f g (t ∷ ts) a h =
@@ -19,15 +18,14 @@ all_of f g (t ∷ ts) a h =
     ap (λ b. b && list_all f ts) first ∙ ap (λ b. g a && b) others
 
 module _ (agent : Agent) (journal : Journal) where
-  one_quiet : (d : ℕ) (t : DeviceTally) → IsTally agent journal d t → is_quiet_by t ≡ (not (is_open d journal) || is_at_rest agent journal d)
+  one_quiet : (d : ℕ) (t : Standing) → IsTally agent journal d t → is_quiet_by t ≡ (not (is_open d journal) || is_at_rest agent journal d)
   one_quiet d t is =
-      let as_many : length t.commands.items ≡ length (commands agent d journal) = sym (length-map t.commands.items command_of) ∙ ap length is.has_commands in
-      ap (λ b. not b || option_map_or (λ rested. rested == length t.commands.items) t.rested false) is.has_open
-      ∙ ap (λ o. not (is_open d journal) || option_map_or (λ rested. rested == length t.commands.items) o false) is.has_rested
-      ∙ ap (λ b. not (is_open d journal) || b) (resting-of (length t.commands.items) (last_of (posted d journal)))
-      ∙ ap (λ n. not (is_open d journal) || option_map_or (is_rest_after n) (last_of (posted d journal)) false) as_many
+      ap (λ b. not b || option_map_or (λ rested. rested == t.commands) t.rested false) is.has_open
+      ∙ ap (λ o. not (is_open d journal) || option_map_or (λ rested. rested == t.commands) o false) is.has_rested
+      ∙ ap (λ b. not (is_open d journal) || b) (resting-of t.commands (last_of (posted d journal)))
+      ∙ ap (λ n. not (is_open d journal) || option_map_or (is_rest_after n) (last_of (posted d journal)) false) is.has_commands
 
-  pub quiet_by : (ts : List DeviceTally) → AreTallies agent journal ts → list_all is_quiet_by ts ≡ is_quiet agent journal
+  pub quiet_by : (ts : List Standing) → AreTallies agent journal ts → list_all is_quiet_by ts ≡ is_quiet agent journal
   quiet_by ts are =
       all_of is_quiet_by (λ d. not (is_open d journal) || is_at_rest agent journal d) ts 0 (λ k d below. one_quiet k (get_or ts k d) (are.each k d below) ∙ ap (λ n. not (is_open n journal) || is_at_rest agent journal n) (omega arith))
       ∙ ap (λ n. list_all (λ d. not (is_open d journal) || is_at_rest agent journal d) (range_with_len 0 n)) are.one_each

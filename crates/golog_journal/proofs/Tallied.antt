@@ -1,19 +1,37 @@
 -- Tallies with one more entry.
-use Rattle.std.proofs.Common.{◌≡◌, ◌≢◌, ℕ, zero, suc, ◌+◌, ◌≤◌, ◌<◌, Bool, true, false, not, ◌&&◌, ◌||◌, if◌then◌else◌, Some, None, List, [], ◌∷◌, ◌++◌, length, map, set, get_or, sym, ap, ◌∙◌, subst, arith, ◌⊎◌, inl, inr, get_or-set_same, get_or-set_other, length-set}
+use Rattle.std.proofs.Common.{◌≡◌, ◌≢◌, ℕ, zero, suc, ◌+◌, ◌≤◌, ◌<◌, Bool, true, false, not, ◌&&◌, ◌||◌, ◌==◌, if◌then◌else◌, Option, Some, None, List, [], ◌∷◌, ◌++◌, length, length-append, set, get_or, refl, sym, ap, ◌∙◌, subst, arith, ◌⊎◌, inl, inr, get_or-set_same, get_or-set_other, length-set}
 use Rattle.std.specs.Prelude.{count_by}
 use Rattle.std.specs.List.{list_any}
-use Rattle.std.specs.Option.{option_to_list}
-use Rattle.std.proofs.lemmas.Bool.{cases_eq}
-use Rattle.std.proofs.lemmas.List.{append-nil, map-append}
+use Rattle.std.specs.Option.{option_to_list, option_map_or}
+use Rattle.std.proofs.lemmas.Bool.{cases_eq, eq-eqb, ne_eqb}
+use Rattle.std.proofs.lemmas.List.{append-nil}
 use Rattle.std.proofs.lemmas.List.Sums.{sum_by-set, sum_by-cons, count_by-le-length}
 use Rattle.golog_tree.specs.declared.agent.Agent.{Agent}
 use Rattle.golog_semantics.specs.declared.journal.Entry.{Entry}
-use Rattle.golog_semantics.specs.Journal.{Journal, Command, command_at, commands, is_posted_by, posted, is_close, is_open, is_end, has_end, count, last_of}
+use Rattle.golog_semantics.specs.declared.journal.Entry.TheVariants.{Do}
+use Rattle.golog_semantics.specs.Journal.{Journal, Command, device_of, command_at, commands, is_posted_by, posted, is_close, is_open, is_end, has_end, count, last_of}
 use Rattle.golog_semantics.proofs.Pushed.{fold-push}
 use Rattle.golog_semantics.proofs.Grown.{posted-push, posts_grow, commands-push, entries_grow}
-use Rattle.golog_journal.specs.declared.tally.Kept.{Kept}
-use Rattle.golog_journal.specs.declared.tally.DeviceTally.{DeviceTally}
-use Rattle.golog_journal.specs.Tallies.{command_of, rested_after, IsTally, closed, AreTallies}
+use Rattle.golog_journal.specs.declared.standing.Standing.{Standing}
+use Rattle.golog_journal.specs.Tallies.{rested_after, IsTally, closed, AreTallies}
+
+-- whose command an action is
+module _ (agent : Agent) (journal : Journal) (action : ℕ) where
+  command-if : (d : ℕ) (o : Option ℕ) (b : Bool) → device_of agent action ≡ o → option_map_or (λ x. x == d) o false ≡ b
+      → command_at agent d (length journal, Do action) ≡ (if b then Some (record { place = length journal; action = action }) else None)
+  command-if d o b is by =
+      ap (λ c. if c then Some (record { place = length journal; action = action }) else None)
+      (ap (λ p. option_map_or (λ x. x == d) p false) is ∙ by)
+
+  pub no-carrier : device_of agent action ≡ None → (d : ℕ) → command_at agent d (length journal, Do action) ≡ None
+  no-carrier none d = command-if d None false none refl
+
+  pub other-carrier : (i : ℕ) → device_of agent action ≡ Some i → (d : ℕ) → d ≢ i → command_at agent d (length journal, Do action) ≡ None
+  other-carrier i device d other = command-if d (Some i) false device (ne_eqb i d (λ e. other (sym e)))
+
+  pub own-carrier : (i : ℕ) → device_of agent action ≡ Some i
+      → command_at agent i (length journal, Do action) ≡ Some (record { place = length journal; action = action })
+  own-carrier i device = command-if i (Some i) true device (eq-eqb i i refl)
 
 module _ (agent : Agent) (journal : Journal) (e : Entry) where
   abbrev after : Journal
@@ -34,33 +52,33 @@ module _ (agent : Agent) (journal : Journal) (e : Entry) where
   commands-more d c some = commands-push agent journal e d ∙ ap (λ o. commands agent d journal ++ option_to_list o) some
 
   -- the entry is neither posted by the device nor a command of it
-  pub tally-stays : (d : ℕ) (t : DeviceTally) → is_posted_by d e ≡ false → command_at agent d (length journal, e) ≡ None
+  pub tally-stays : (d : ℕ) (t : Standing) → is_posted_by d e ≡ false → command_at agent d (length journal, e) ≡ None
       → IsTally agent journal d t → IsTally agent after d t
   tally-stays d t other none is = record {
-    has_commands = is.has_commands ∙ sym (commands-same d none);
+    has_commands = is.has_commands ∙ ap length (sym (commands-same d none));
     has_rested = is.has_rested ∙ ap (λ es. rested_after (last_of es)) (sym (posted-other d other));
     has_open = is.has_open ∙ ap (λ es. not (list_any is_close es)) (sym (posted-other d other));
   }
 
   -- the entry is a command of the device
-  pub tally-command : (d : ℕ) (t new : DeviceTally) (kept : Kept) → is_posted_by d e ≡ false
-      → command_at agent d (length journal, e) ≡ Some (command_of kept)
-      → new.commands.items ≡ t.commands.items ++ kept ∷ [] → new.rested ≡ t.rested → new.is_open ≡ t.is_open
+  pub tally-command : (d : ℕ) (t new : Standing) (c : Command) → is_posted_by d e ≡ false
+      → command_at agent d (length journal, e) ≡ Some c
+      → new.commands ≡ t.commands + 1 → new.rested ≡ t.rested → new.is_open ≡ t.is_open
       → IsTally agent journal d t → IsTally agent after d new
-  tally-command d t new kept other some more rested still is = record {
+  tally-command d t new c other some more rested still is = record {
     has_commands =
-        ap (map command_of) more ∙ map-append command_of t.commands.items (kept ∷ [])
-        ∙ ap (λ cs. cs ++ command_of kept ∷ []) is.has_commands ∙ sym (commands-more d (command_of kept) some);
+        more ∙ ap (λ n. n + 1) is.has_commands ∙ sym (length-append (commands agent d journal) (c ∷ []))
+        ∙ ap length (sym (commands-more d c some));
     has_rested = rested ∙ is.has_rested ∙ ap (λ es. rested_after (last_of es)) (sym (posted-other d other));
     has_open = still ∙ is.has_open ∙ ap (λ es. not (list_any is_close es)) (sym (posted-other d other));
   }
 
   -- the entry is posted by the device
-  pub tally-noted : (d : ℕ) (t new : DeviceTally) → is_posted_by d e ≡ true → command_at agent d (length journal, e) ≡ None
-      → new.commands.items ≡ t.commands.items → new.rested ≡ rested_after (Some e) → new.is_open ≡ (t.is_open && not (is_close e))
+  pub tally-noted : (d : ℕ) (t new : Standing) → is_posted_by d e ≡ true → command_at agent d (length journal, e) ≡ None
+      → new.commands ≡ t.commands → new.rested ≡ rested_after (Some e) → new.is_open ≡ (t.is_open && not (is_close e))
       → IsTally agent journal d t → IsTally agent after d new
   tally-noted d t new own none same rested still is = record {
-    has_commands = ap (map command_of) same ∙ is.has_commands ∙ sym (commands-same d none);
+    has_commands = same ∙ is.has_commands ∙ ap length (sym (commands-same d none));
     has_rested = rested ∙ ap rested_after (sym (fold-push _ None (posted d journal) e)) ∙ ap (λ es. rested_after (last_of es)) (sym (posted-own d own));
     has_open =
         still ∙ ap (λ b. b && not (is_close e)) is.has_open
@@ -68,11 +86,11 @@ module _ (agent : Agent) (journal : Journal) (e : Entry) where
   }
 
   -- one device's tally changes
-  pub each-set : (ts : List DeviceTally) (i : ℕ) (new : DeviceTally) → i < length ts
+  pub each-set : (ts : List Standing) (i : ℕ) (new : Standing) → i < length ts
       → ((d : ℕ) → d ≢ i → (is_posted_by d e ≡ false) × (command_at agent d (length journal, e) ≡ None))
       → IsTally agent after i new
-      → ((d : ℕ) (x : DeviceTally) → d < length ts → IsTally agent journal d (get_or ts d x))
-      → (d : ℕ) (x : DeviceTally) → d < length (set ts i new) → IsTally agent after d (get_or (set ts i new) d x)
+      → ((d : ℕ) (x : Standing) → d < length ts → IsTally agent journal d (get_or ts d x))
+      → (d : ℕ) (x : Standing) → d < length (set ts i new) → IsTally agent after d (get_or (set ts i new) d x)
   each-set ts i new inside others this each d x below = go (cases_eq d i)
     where
       within : d < length ts
@@ -91,7 +109,7 @@ module _ (agent : Agent) (journal : Journal) (e : Entry) where
   has_end-after = (entries_grow journal e).end
 
   -- an entry of the program that is no command
-  pub tallies-step : (ts : List DeviceTally) → ((d : ℕ) → is_posted_by d e ≡ false) → ((d : ℕ) → command_at agent d (length journal, e) ≡ None)
+  pub tallies-step : (ts : List Standing) → ((d : ℕ) → is_posted_by d e ≡ false) → ((d : ℕ) → command_at agent d (length journal, e) ≡ None)
       → length after ≡ count after + closed agent after ts + (if has_end after then 1 else 0)
       → AreTallies agent journal ts → AreTallies agent after ts
   tallies-step ts others none in_all are = record {
@@ -101,12 +119,12 @@ module _ (agent : Agent) (journal : Journal) (e : Entry) where
   }
 
 -- how many devices are closed, where one tally changes
-module _ (ts : List DeviceTally) (i : ℕ) (new : DeviceTally) (inside : i < length ts) where
-  abbrev shut : DeviceTally → ℕ
+module _ (ts : List Standing) (i : ℕ) (new : Standing) (inside : i < length ts) where
+  abbrev shut : Standing → ℕ
   shut t = if not t.is_open then 1 else 0
 
-  abbrev shut_in : List DeviceTally → ℕ
-  shut_in tallies = count_by (λ tally. not tally.is_open) tallies
+  abbrev shut_in : List Standing → ℕ
+  shut_in standings = count_by (λ standing. not standing.is_open) standings
 
   pub closed-same : new.is_open ≡ (get_or ts i new).is_open → shut_in (set ts i new) ≡ shut_in ts
   closed-same same =
@@ -120,7 +138,7 @@ module _ (ts : List DeviceTally) (i : ℕ) (new : DeviceTally) (inside : i < len
       let one : shut new ≡ 1 = ap (λ b. if not b then 1 else 0) is_shut in
       let none : shut (get_or ts i new) ≡ 0 = ap (λ b. if not b then 1 else 0) was_open in
       let more : shut_in (set ts i new) ≡ shut_in ts + 1 = omega (arith, total, one, none) in
-      let most = count_by-le-length (λ tally. not tally.is_open) (set ts i new) in
+      let most = count_by-le-length (λ standing. not standing.is_open) (set ts i new) in
       let long = length-set ts i new in
       (more, omega (arith, more, most, long))
 
@@ -132,16 +150,16 @@ at-most-one true = omega arith
 at-most-one false = omega arith
 
 -- where one device is open, not all are closed
-pub some-open : (ts : List DeviceTally) (i : ℕ) → i < length ts → ((d : DeviceTally) → (get_or ts i d).is_open ≡ true)
-    → count_by (λ tally. not tally.is_open) ts + 1 ≤ length ts
+pub some-open : (ts : List Standing) (i : ℕ) → i < length ts → ((d : Standing) → (get_or ts i d).is_open ≡ true)
+    → count_by (λ standing. not standing.is_open) ts + 1 ≤ length ts
 some-open [] i inside is_open = absurd (omega (arith, inside))
 some-open (t ∷ ts) zero inside is_open =
-    let first = sum_by-cons (λ (tally : DeviceTally). if not tally.is_open then 1 else 0) t ts in
+    let first = sum_by-cons (λ (standing : Standing). if not standing.is_open then 1 else 0) t ts in
     let none : one_if (not t.is_open) ≡ 0 = ap (λ b. one_if (not b)) (is_open t) in
-    let most = count_by-le-length (λ (tally : DeviceTally). not tally.is_open) ts in
+    let most = count_by-le-length (λ (tally : Standing). not tally.is_open) ts in
     omega (arith, first, none, most)
 some-open (t ∷ ts) (suc i) inside is_open =
-    let first = sum_by-cons (λ (tally : DeviceTally). if not tally.is_open then 1 else 0) t ts in
+    let first = sum_by-cons (λ (standing : Standing). if not standing.is_open then 1 else 0) t ts in
     let one = at-most-one (not t.is_open) in
     let most = some-open ts i (omega (arith, inside)) is_open in
     omega (arith, first, one, most)

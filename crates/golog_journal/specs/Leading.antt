@@ -1,5 +1,6 @@
 -- What the lead of a program does with a board. (This project's own.)
-use Rattle.std.specs.Prelude.{◌≡◌, ◌≢◌, ◌⊎◌, Bool, true, false, not, ◌||◌, is_some, [], ◌∷◌, ◌++◌}
+use Rattle.std.specs.Prelude.{◌≡◌, ◌≢◌, ◌⊎◌, ℕ, Bool, true, false, not, ◌||◌, Option, is_some, List, [], ◌∷◌, ◌++◌}
+use Rattle.std.specs.Borrow.{GName}
 use Rattle.std.specs.List.{list_any, list_all}
 use Rattle.golog_tree.specs.declared.agent.Agent.{Agent}
 use Rattle.golog_semantics.specs.declared.journal.Entry.{Entry}
@@ -8,12 +9,20 @@ use Rattle.golog_semantics.specs.declared.journal.Answer.{Answer}
 use Rattle.golog_semantics.specs.Journal.{Journal, poster_of, has_end}
 use Rattle.golog_journal.specs.Growing.{Sight, party_of}
 
--- what a lead means: the agent that it was made with, the entries that it has copied, and whether it waits for
--- a device where these are all the entries
+-- what a lead writes to: the reference that it was given, the bytes that stood there then, where they are told, and
+-- how often the outside had failed
+pub record Outlet : Type 0 where
+  pub name : GName
+  pub base : Option (List ℕ)
+  pub faults : ℕ
+
+-- what a lead means: the agent that it was made with, the entries that it has copied, whether it waits for a device
+-- where these are all the entries, and what it writes to, if anything
 pub record Mind : Type 0 where
   pub agent : Agent
   pub list : Journal
   pub waits : Journal → Bool
+  pub outlet : Option Outlet
 
 -- an entry of no device: an action, a test or the end
 abbrev pub is_of_program : Entry → Bool
@@ -25,10 +34,11 @@ pub record IsBehind (list seen : Journal) : Type 0 where
   pub front : seen ≡ list ++ since
   pub of_devices : list_any is_of_program since ≡ false
 
--- the agent and the lists at which it waits stay
+-- the agent, the lists at which it waits and what it writes to stay
 pub record SameMind (old new : Mind) : Type 0 where
   pub same_agent : new.agent ≡ old.agent
   pub same_waits : new.waits ≡ old.waits
+  pub same_outlet : new.outlet ≡ old.outlet
 
 -- an entry of the program, or one that someone else may have added
 abbrev pub may_come : Sight → Entry → Bool

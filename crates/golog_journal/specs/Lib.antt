@@ -9,6 +9,8 @@ pub mod Leading
 pub mod Agents
 pub mod Facts
 pub mod Tallies
+pub mod Kept
+pub mod Trails
 pub mod Ledgers
 pub mod Laws
 pub mod Quiet

@@ -1,17 +1,12 @@
 -- What is counted for each device, so that no call goes through the journal.
-use Rattle.std.specs.Prelude.{◌≡◌, ℕ, ◌+◌, ◌<◌, not, if◌then◌else◌, Option, Some, None, List, length, map, count_by, slice_index_or}
+use Rattle.std.specs.Prelude.{◌≡◌, ℕ, ◌+◌, ◌<◌, not, if◌then◌else◌, Option, Some, None, List, length, count_by, slice_index_or}
 use Rattle.golog_tree.specs.declared.agent.Agent.{Agent}
 use Rattle.golog_semantics.specs.declared.journal.Entry.{Entry}
 use Rattle.golog_semantics.specs.declared.journal.Entry.TheVariants.{Do, Test, Rest, End}
-use Rattle.golog_semantics.specs.Journal.{Journal, Command, device_of, commands, posted, is_open, last_of, has_end, count}
-use Rattle.golog_journal.specs.declared.tally.Kept.{Kept}
-use Rattle.golog_journal.specs.declared.tally.DeviceTally.{DeviceTally}
+use Rattle.golog_semantics.specs.Journal.{Journal, device_of, commands, posted, is_open, last_of, has_end, count}
+use Rattle.golog_journal.specs.declared.standing.Standing.{Standing}
 use Rattle.golog_journal.specs.Agents.{ServesDevices}
 use Rattle.golog_journal.specs.Boards.{IsBoardList}
-
--- the command that is kept
-abbrev pub command_of : Kept → Command
-command_of kept = record { place = kept.place; action = kept.action }
 
 -- how many commands its device had taken at a Rest
 abbrev pub rested_after : Option Entry → Option ℕ
@@ -26,26 +21,26 @@ IsStep agent (End answer) = Unit {0}
 IsStep agent other = ⊥
 
 module _ (agent : Agent) (journal : Journal) where
-  -- the device's commands, the number at its last entry if that is a Rest, and whether it is open
-  pub record IsTally (device : ℕ) (tally : DeviceTally) : Type 0 where
-    pub has_commands : map command_of tally.commands.items ≡ commands agent device journal
-    pub has_rested : tally.rested ≡ rested_after (last_of (posted device journal))
-    pub has_open : tally.is_open ≡ is_open device journal
+  -- how many commands the device has, the number at its last entry if that is a Rest, and whether it is open
+  pub record IsTally (device : ℕ) (standing : Standing) : Type 0 where
+    pub has_commands : standing.commands ≡ length (commands agent device journal)
+    pub has_rested : standing.rested ≡ rested_after (last_of (posted device journal))
+    pub has_open : standing.is_open ≡ is_open device journal
 
   -- how many devices are closed
-  abbrev pub closed : List DeviceTally → ℕ
-  closed tallies = count_by (λ tally. not tally.is_open) tallies
+  abbrev pub closed : List Standing → ℕ
+  closed standings = count_by (λ standing. not standing.is_open) standings
 
   -- One tally for each device of the agent. The entries are those that are counted, a Close of each closed
   -- device, and the end.
-  pub record AreTallies (tallies : List DeviceTally) : Type 0 where
-    pub one_each : length tallies ≡ length agent.devices
-    pub each : (device : ℕ) (d : DeviceTally) → device < length tallies
-        → IsTally device (slice_index_or tallies device d)
-    pub in_all : length journal ≡ count journal + closed tallies + (if has_end journal then 1 else 0)
+  pub record AreTallies (standings : List Standing) : Type 0 where
+    pub one_each : length standings ≡ length agent.devices
+    pub each : (device : ℕ) (d : Standing) → device < length standings
+        → IsTally device (slice_index_or standings device d)
+    pub in_all : length journal ≡ count journal + closed standings + (if has_end journal then 1 else 0)
 
   -- what holds of a journal between two calls
-  pub record IsKept (tallies : List DeviceTally) : Type 0 where
+  pub record IsCounted (standings : List Standing) : Type 0 where
     pub serves : ServesDevices agent
     pub lawful : IsBoardList agent journal
-    pub tallied : AreTallies tallies
+    pub tallied : AreTallies standings

@@ -1,21 +1,21 @@
 //! The journal of one owner.
 ghost use Rattle.std.specs.Prelude.{◌≡◌, ◌<◌, ◌≤◌, [], ◌∷◌, ◌++◌, length, min, take, drop, ◌-◌, Some, None, IfOk, IfSome, MatchOption, if◌then◌else◌, option_map, slice_get};
 ghost use Rattle.std.specs.Option.{option_map_or};
-ghost use Rattle.golog_semantics.specs.Journal.{poster_of, device_of, commands, is_open as is_open_in, is_full as is_full_in, is_quiet as is_quiet_in, longest};
+ghost use Rattle.golog_semantics.specs.Journal.{commands, is_open as is_open_in, is_full as is_full_in, is_quiet as is_quiet_in, longest};
 ghost use Rattle.golog_journal.specs.Quiet.{asked_of as asked_of_device};
 ghost use Rattle.golog_semantics.specs.Posts.{awaited as awaited_in, is_bad as is_bad_in, later_reason as later_reason_in, closing as closing_in, entry_of as entry_in};
-ghost use Rattle.golog_semantics.specs.declared.journal.Entry.TheVariants.{Do, Close};
+ghost use Rattle.golog_semantics.specs.declared.journal.Entry.TheVariants.{Close};
 ghost use Rattle.golog_journal.specs.Agents.{ServesDevices};
 ghost use Rattle.golog_journal.specs.Boards.{IsBoardList};
 ghost use Rattle.golog_journal.specs.Posting.{posted_at as posted_at_in};
 ghost use Rattle.golog_journal.specs.Commands.{next_of as next_in, next_by};
-ghost use Rattle.golog_journal.specs.Tallies.{command_of, IsStep};
+ghost use Rattle.golog_journal.specs.Kept.{command_of};
 
-use crate::facts::AgentFacts;
+use crate::commands::{Commands, Kept, commands_of};
+use crate::counts::Counts;
+use crate::keeping::keep_command;
 use crate::ledger::Ledger;
-use crate::quiet::all_quiet;
-use crate::tally::{DeviceTally, Kept, tallies_of};
-use crate::{BATCH, Batch, Board, Commit, LIMIT, Next, Posted};
+use crate::{BATCH, Batch, Board, Commit, Next, Posted};
 use golog_base::{List, NoMemory};
 use golog_semantics::{Entry, Item, Reason};
 use golog_tree::Agent;
@@ -25,14 +25,15 @@ use std::marker::Model;
 /// A journal of an agent that no one else adds to. Contracts see it as the agent and the entries.
 #[derive(Drop)]
 pub struct Journal {
-    facts: AgentFacts,
+    counts: Counts,
     ledger: Ledger,
-    tallies: Vec<DeviceTally>,
+    commands: Vec<Commands>,
 }
 
 impl Model for Journal {
     ghost use Rattle.golog_journal.specs.Boards.{AgentJournal};
-    ghost use Rattle.golog_journal.specs.Tallies.{IsKept};
+    ghost use Rattle.std.specs.Prelude.{◌≡◌};
+    ghost use Rattle.golog_journal.specs.Kept.{AreKept};
     ghost use Rattle.std.specs.Coded.{codes};
     ghost use Rattle.golog_tree.specs.contracts.cond.Cond as cond;
     ghost use Rattle.golog_tree.specs.contracts.cond.Term as term;
@@ -43,9 +44,11 @@ impl Model for Journal {
 
     ghost coded = { Prim.hlevel (codes, cond.the_row.coded, term.the_row.coded, prog.the_row.coded, way.the_row.coded) };
 
-    ghost view = { λ journal. record { agent = journal.facts; entries = journal.ledger } };
+    ghost view = { λ journal. journal.counts };
 
-    ghost invariant = { λ journal. IsKept journal.facts journal.ledger journal.tallies.items };
+    ghost invariant = { λ journal.
+        (journal.ledger ≡ journal.counts.entries)
+        × AreKept journal.counts.agent journal.counts.entries journal.commands.items };
 }
 
 impl Journal {
@@ -54,13 +57,13 @@ impl Journal {
         requires { ServesDevices agent.now }
         ensures { IfOk result (λ journal. journal ≡ record { agent = agent.now; entries = [] }) }
     {
-        let facts = AgentFacts::of(alloc, agent)?;
+        let counts = Counts::new(alloc, agent)?;
         let ledger = Ledger::new(alloc)?;
-        let tallies = tallies_of(alloc, agent.devices.len())?;
+        let commands = commands_of(alloc, agent.devices.len())?;
         Ok(Journal {
-            facts,
+            counts,
             ledger,
-            tallies,
+            commands,
         })
     }
 
@@ -69,7 +72,7 @@ impl Journal {
         requires { device < length self.now.agent.devices }
         ensures { result ≡ is_open_in device self.now.entries }
     {
-        self.tallies[device as usize].is_open
+        self.counts.is_open(device)
     }
 
     /// The number of entries.
@@ -77,32 +80,28 @@ impl Journal {
         ensures number { result ≡ length self.now.entries }
         ensures most { length self.now.entries ≤ longest }
     {
-        self.ledger.len()
+        self.counts.len()
     }
 
     /// Whether it takes no further counted entry.
     pub fn is_full(&self) -> bool
         ensures { result ≡ is_full_in self.now.entries }
     {
-        self.ledger.count() >= LIMIT
+        self.counts.is_full()
     }
 
     /// Whether each device is closed or at rest. Takes time for each device, and none for the entries.
     pub fn is_quiet(&self) -> bool
         ensures { result ≡ is_quiet_in self.now.agent self.now.entries }
     {
-        all_quiet(&self.tallies)
+        self.counts.is_quiet()
     }
 
     /// The device that answers the action with a value, if one does.
     pub fn asked_of(&self, action: u32) -> Option<u8>
         ensures { result ≡ asked_of_device self.now.agent action }
     {
-        if self.facts.is_sensing(action) {
-            self.facts.device_of(action)
-        } else {
-            None
-        }
+        self.counts.asked_of(action)
     }
 
     /// Adds an entry, of the program or of a device, as to a copy of another board's entries.
@@ -110,10 +109,7 @@ impl Journal {
         requires { IsBoardList self.old.agent (self.old.entries ++ entry ∷ []) }
         ensures { self.new ≡ record { agent = self.old.agent; entries = self.old.entries ++ entry ∷ [] } }
     {
-        match poster(entry) {
-            Some(device) => self.push_posted(device, entry),
-            None => self.push_committed(entry),
-        }
+        self.push(entry);
     }
 
     /// The entries, handed out. Takes no memory.
@@ -123,61 +119,15 @@ impl Journal {
         self.ledger.into_entries()
     }
 
-    // Adds an entry of the program that is no command.
-    fn push_step(&mut self, entry: Entry)
-        requires step { IsStep self.old.agent entry }
-        requires lawful { IsBoardList self.old.agent (self.old.entries ++ entry ∷ []) }
+    // Adds an entry.
+    fn push(&mut self, entry: Entry)
+        requires { IsBoardList self.old.agent (self.old.entries ++ entry ∷ []) }
         ensures more { self.new ≡ record { agent = self.old.agent; entries = self.old.entries ++ entry ∷ [] } }
         ensures short { length self.new.entries ≤ longest }
     {
-        self.ledger.push(entry);
-    }
-
-    // Adds an action.
-    fn push_do(&mut self, action: u32)
-        requires { IsBoardList self.old.agent (self.old.entries ++ Do action ∷ []) }
-        ensures more { self.new ≡ record { agent = self.old.agent; entries = self.old.entries ++ Do action ∷ [] } }
-        ensures short { length self.new.entries ≤ longest }
-    {
-        match self.facts.device_of(action) {
-            Some(device) => self.push_command(device, action),
-            None => self.push_step(Entry::Do { action }),
-        }
-    }
-
-    // Adds an action that is a command of the device.
-    fn push_command(&mut self, device: u8, action: u32)
-        requires device { device_of self.old.agent action ≡ Some device }
-        requires lawful { IsBoardList self.old.agent (self.old.entries ++ Do action ∷ []) }
-        ensures more { self.new ≡ record { agent = self.old.agent; entries = self.old.entries ++ Do action ∷ [] } }
-        ensures short { length self.new.entries ≤ longest }
-    {
-        let place = self.ledger.len();
-        self.tallies[device as usize].add(Kept { place, action });
-        self.ledger.push(Entry::Do { action });
-    }
-
-    // Adds an entry of the program.
-    fn push_committed(&mut self, entry: Entry)
-        requires program { poster_of entry ≡ None }
-        requires lawful { IsBoardList self.old.agent (self.old.entries ++ entry ∷ []) }
-        ensures more { self.new ≡ record { agent = self.old.agent; entries = self.old.entries ++ entry ∷ [] } }
-        ensures short { length self.new.entries ≤ longest }
-    {
-        match entry {
-            Entry::Do { action } => self.push_do(action),
-            _ => self.push_step(entry),
-        }
-    }
-
-    // Adds an entry of a device.
-    fn push_posted(&mut self, poster: u8, entry: Entry)
-        requires poster { poster_of entry ≡ Some poster }
-        requires lawful { IsBoardList self.old.agent (self.old.entries ++ entry ∷ []) }
-        ensures more { self.new ≡ record { agent = self.old.agent; entries = self.old.entries ++ entry ∷ [] } }
-        ensures short { length self.new.entries ≤ longest }
-    {
-        self.tallies[poster as usize].note(entry);
+        keep_command(&mut self.commands, &self.counts, entry);
+        self.counts.add(entry);
+        self.counts.keeps_rules();
         self.ledger.push(entry);
     }
 
@@ -187,8 +137,8 @@ impl Journal {
         ensures command { option_map command_of result ≡ slice_get (commands self.now.agent poster self.now.entries) number }
         ensures place { IfSome result (λ command. command.place < length self.now.entries) }
     {
-        let tally = &self.tallies[poster as usize];
-        match tally.commands.get(number as usize) {
+        let commands = &self.commands[poster as usize];
+        match commands.kept.get(number as usize) {
             Some(command) => Some(*command),
             None => None,
         }
@@ -204,7 +154,7 @@ impl Journal {
         }
         match self.command_at(poster, taken - 1) {
             Some(command)
-                if self.facts.is_sensing(command.action)
+                if self.counts.facts().is_sensing(command.action)
                     && !self.ledger.is_answered(command.place) => { Some(command) }
             _ => None,
         }
@@ -219,7 +169,7 @@ impl Journal {
             Some(next) => Next::Command {
                 place: next.place,
                 action: next.action,
-                asked: self.facts.is_sensing(next.action),
+                asked: self.counts.facts().is_sensing(next.action),
             },
             None => self.next_without(poster, taken),
         }
@@ -230,9 +180,8 @@ impl Journal {
         requires { poster < length self.now.agent.devices }
         ensures { result ≡ next_by self.now.agent self.now.entries poster taken None }
     {
-        let ended = self.ledger.has_end();
-        let tally = &self.tallies[poster as usize];
-        let resting = tally.is_resting(taken);
+        let ended = self.counts.has_end();
+        let resting = self.counts.is_resting(poster, taken);
         idle_next(ended, resting)
     }
 
@@ -242,7 +191,7 @@ impl Journal {
         ensures lawful { IsBoardList self.now.agent self.now.entries }
         ensures short { length self.now.entries ≤ longest }
     {
-        let _entries = &self.ledger;
+        self.counts.keeps_rules();
     }
 
     // The number of entries, where there are more than that.
@@ -251,7 +200,7 @@ impl Journal {
         ensures { MatchOption result (length self.now.entries ≡ at)
             (λ longer. (at < length self.now.entries) × (longer ≡ length self.now.entries)) }
     {
-        let length = self.ledger.len();
+        let length = self.counts.len();
         if length == at { None } else { Some(length) }
     }
 
@@ -269,7 +218,7 @@ impl Journal {
         Batch {
             count: count as u32,
             entries,
-            length: self.ledger.len(),
+            length: self.counts.len(),
         }
     }
 
@@ -277,12 +226,13 @@ impl Journal {
         requires { poster < length self.now.agent.devices }
         ensures { result ≡ is_bad_in self.now.agent self.now.entries poster taken item }
     {
+        self.keeps_rules();
         let awaited = self.awaited(poster, taken);
         match item {
             Item::Unreadable | Item::Silent => true,
-            Item::Exo(action) => !self.facts.may_post(poster, action) || awaited.is_some(),
+            Item::Exo(action) => !self.counts.facts().may_post(poster, action) || awaited.is_some(),
             Item::Value(value) => match awaited {
-                Some(command) => !self.facts.is_value_for(command.action, value),
+                Some(command) => !self.counts.facts().is_value_for(command.action, value),
                 None => true,
             },
             Item::Rest | Item::Close | Item::Stop | Item::Refused => awaited.is_some(),
@@ -293,7 +243,7 @@ impl Journal {
         requires { poster < length self.now.agent.devices }
         ensures { result ≡ later_reason_in self.now.agent self.now.entries poster taken item }
     {
-        if self.ledger.has_end() {
+        if self.counts.has_end() {
             Some(Reason::Late)
         } else if self.is_full() {
             Some(Reason::Full)
@@ -345,7 +295,7 @@ impl Journal {
                 Some(command) => Entry::Sense {
                     poster,
                     place: command.place,
-                    fluent: self.facts.sensed(command.action).unwrap_or(0),
+                    fluent: self.counts.facts().sensed(command.action).unwrap_or(0),
                     value,
                 },
                 None => Entry::Rest { poster, taken },
@@ -357,19 +307,6 @@ impl Journal {
             | Item::Stop
             | Item::Refused => Entry::Rest { poster, taken },
         }
-    }
-}
-
-// The device that an entry is of, if it is of one.
-fn poster(entry: Entry) -> Option<u8>
-    ensures { result ≡ poster_of entry }
-{
-    match entry {
-        Entry::Exo { poster, .. }
-        | Entry::Sense { poster, .. }
-        | Entry::Rest { poster, .. }
-        | Entry::Close { poster, .. } => Some(poster),
-        Entry::Do { .. } | Entry::Test | Entry::End { .. } => None,
     }
 }
 
@@ -404,10 +341,10 @@ impl Board for Journal {
 
     fn post(&mut self, poster: u8, item: Item, taken: u32) -> Posted {
         self.keeps_rules();
-        let place = self.ledger.len();
+        let place = self.counts.len();
         let closing = self.closing(poster, item, taken);
         let entry = self.posted_entry(poster, item, taken, closing);
-        self.push_posted(poster, entry);
+        self.push(entry);
         posted_at(place, closing)
     }
 
@@ -426,7 +363,7 @@ impl Board for Journal {
         match self.longer_than(at) {
             Some(longer) => Commit::Moved { longer },
             None => {
-                self.push_committed(entry);
+                self.push(entry);
                 Commit::Taken
             }
         }

@@ -17,10 +17,13 @@ pub enum Led {
 }
 
 /// What drives a program: it copies what devices post, and commits what it decides. Its copy is a prefix of what
-/// the board has seen, and misses only entries of devices.
+/// the board has seen, and misses only entries of devices. A lead that writes its copy out says what it has written.
 pub trait Lead {
-    // The agent that it was made with, its copy, and the lists at which it waits for a device.
+    // The agent that it was made with, its copy, the lists at which it waits for a device, and what it writes to.
     ghost mind: { Self → Mind };
+
+    // What it has written is its copy, over what stood there before.
+    ghost stands: { Self → Type 0 };
 
     /// Commits what the program does next, or nothing. Answers whether the program has ended. Where no one else
     /// adds entries and the program has not ended, it adds one unless the lead waits, and then none but the end.
@@ -29,6 +32,7 @@ pub trait Lead {
         requires held { (B.sight board.old).holds program ≡ true }
         requires behind { IsBehind (mind self.old).list (B.sight board.old).seen }
         ensures same { SameMind (mind self.old) (mind self.new) }
+        ensures stands { stands self.old → stands self.new }
         ensures behind { IsBehind (mind self.new).list (B.sight board.new).seen }
         ensures leads { Leads (B.sight board.old) (B.sight board.new) }
         ensures ended { (result ≡ Led.Ended) ↔ IsTrue (has_end (B.sight board.new).seen) }
@@ -42,6 +46,7 @@ pub trait Lead {
         requires held { (B.sight board.old).holds program ≡ true }
         requires behind { IsBehind (mind self.old).list (B.sight board.old).seen }
         ensures same { SameMind (mind self.old) (mind self.new) }
+        ensures stands { stands self.old → stands self.new }
         ensures whole { (mind self.new).list ≡ (B.sight board.new).seen }
         ensures watches { Watches (B.sight board.old) (B.sight board.new) }
         ensures lawful { IsBoardList (mind self.new).agent (B.sight board.new).seen }

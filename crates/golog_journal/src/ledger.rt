@@ -1,7 +1,7 @@
 //! The entries of a journal, in room that was reserved for them.
 ghost use Rattle.std.specs.Prelude.{◌≡◌, ◌≤◌, ◌<◌, ◌||◌, ℕ, [], ◌∷◌, ◌++◌, length, drop, true, false, IfOk, slice_index_or};
 ghost use Rattle.std.specs.List.{list_any};
-ghost use Rattle.golog_semantics.specs.Journal.{is_result_of, is_counted as counts, is_end as ends, count as count_of, has_end as has_ended, longest};
+ghost use Rattle.golog_semantics.specs.Journal.{is_result_of, longest};
 
 use crate::LONGEST;
 use golog_base::{List, NoMemory};
@@ -15,16 +15,12 @@ pub(crate) struct Ledger {
     entries: Vec<Entry>,
     /// Whether the result of the entry at each place stands.
     answered: Vec<bool>,
-    /// How many entries are counted.
-    counted: u32,
-    ended: bool,
 }
 
 impl Model for Ledger {
-    ghost use Rattle.std.specs.Prelude.{List, ℕ, ◌≡◌, ◌≤◌, ◌<◌, false, length, vec_capacity, slice_index_or};
-    ghost use Rattle.std.specs.List.{list_any};
+    ghost use Rattle.std.specs.Prelude.{List, ◌≤◌, vec_capacity};
     ghost use Rattle.golog_semantics.specs.declared.journal.Entry.{Entry};
-    ghost use Rattle.golog_semantics.specs.Journal.{is_result_of, count, has_end, longest};
+    ghost use Rattle.golog_semantics.specs.Journal.{longest};
     ghost use Rattle.golog_journal.specs.Ledgers.{AreAnswered};
 
     ghost Value = { List Entry };
@@ -34,39 +30,7 @@ impl Model for Ledger {
     ghost invariant = { λ ledger.
         (longest ≤ vec_capacity ledger.entries)
         × (longest ≤ vec_capacity ledger.answered)
-        × AreAnswered ledger.entries.items ledger.answered.items
-        × (ledger.counted ≡ count ledger.entries.items)
-        × (ledger.ended ≡ has_end ledger.entries.items)
-        × (length ledger.entries.items ≤ longest) };
-}
-
-/// Whether the entry counts.
-fn is_counted(entry: Entry) -> bool
-    ensures { result ≡ counts entry }
-{
-    match entry {
-        Entry::Close { .. } | Entry::End { .. } => false,
-        Entry::Do { .. }
-        | Entry::Test
-        | Entry::Exo { .. }
-        | Entry::Sense { .. }
-        | Entry::Rest { .. } => true,
-    }
-}
-
-/// Whether the entry ends the program.
-fn is_end(entry: Entry) -> bool
-    ensures { result ≡ ends entry }
-{
-    match entry {
-        Entry::End { .. } => true,
-        Entry::Do { .. }
-        | Entry::Test
-        | Entry::Exo { .. }
-        | Entry::Sense { .. }
-        | Entry::Rest { .. }
-        | Entry::Close { .. } => false,
-    }
+        × AreAnswered ledger.entries.items ledger.answered.items };
 }
 
 /// Marks the command whose result the entry is.
@@ -86,20 +50,7 @@ impl Ledger {
     {
         let entries = Vec::with_capacity(alloc, LONGEST as usize)?;
         let answered = Vec::with_capacity(alloc, LONGEST as usize)?;
-        Ok(Ledger {
-            entries,
-            answered,
-            counted: 0,
-            ended: false,
-        })
-    }
-
-    /// The number of entries.
-    pub(crate) fn len(&self) -> u32
-        ensures number { result ≡ length self.now }
-        ensures most { length self.now ≤ longest }
-    {
-        self.entries.len() as u32
+        Ok(Ledger { entries, answered })
     }
 
     /// The entries from a place on.
@@ -108,20 +59,6 @@ impl Ledger {
         ensures { result.now ≡ drop place self.now }
     {
         &self.entries[place as usize..]
-    }
-
-    /// How many entries are counted.
-    pub(crate) fn count(&self) -> u32
-        ensures { result ≡ count_of self.now }
-    {
-        self.counted
-    }
-
-    /// Whether the program has ended.
-    pub(crate) fn has_end(&self) -> bool
-        ensures { result ≡ has_ended self.now }
-    {
-        self.ended
     }
 
     /// Whether the result of the entry at a place stands.
@@ -148,7 +85,5 @@ impl Ledger {
         mark(&mut self.answered, entry);
         self.answered.push_reserved(false);
         self.entries.push_reserved(entry);
-        self.counted += u32::from(is_counted(entry));
-        self.ended |= is_end(entry);
     }
 }

@@ -2,21 +2,28 @@
 #![tactic(auto)]
 
 mod board;
+mod commands;
+mod counts;
 mod facts;
 mod journal;
+mod keeping;
 mod laws;
 mod lead;
 mod ledger;
 mod quiet;
+mod standing;
 mod table;
-mod tally;
+mod totals;
+mod trail;
 
 pub use board::{BATCH, Batch, Board, Commit, LIMIT, LONGEST, Next, Posted};
+pub use counts::{Counts, poster_of};
 pub use facts::AgentFacts;
 pub use golog_semantics::{Answer, Entry, Item, PlacedRun, Reason, Report};
 pub use journal::Journal;
 pub use laws::{driven_stays, fitting_stays, ready_stays, well_formed_serves};
 pub use lead::{Lead, Led};
+pub use totals::is_counted;
 
 #[cfg(test)]
 mod tests;

@@ -2,22 +2,18 @@ ghost use Rattle.std.specs.Prelude.{◌≡◌};
 ghost use Rattle.std.specs.List.{list_all};
 ghost use Rattle.golog_journal.specs.Quiet.{is_quiet_by};
 
-use crate::tally::DeviceTally;
+use crate::standing::Standing;
 
 /// Whether the device is closed or at rest.
-fn is_quiet(tally: &DeviceTally) -> bool
-    ensures { result ≡ is_quiet_by tally.now }
+fn is_quiet(standing: &Standing) -> bool
+    ensures { result ≡ is_quiet_by standing.now }
 {
-    let rests = match tally.rested {
-        Some(rested) => rested as usize == tally.commands.len(),
-        None => false,
-    };
-    !tally.is_open || rests
+    !standing.is_open || standing.is_resting(standing.commands)
 }
 
 /// Whether each device is closed or at rest.
-pub(crate) fn all_quiet(tallies: &[DeviceTally]) -> bool
-    ensures { result ≡ list_all is_quiet_by tallies.now }
+pub(crate) fn all_quiet(standings: &[Standing]) -> bool
+    ensures { result ≡ list_all is_quiet_by standings.now }
 {
-    tallies.iter().all(|tally| is_quiet(tally))
+    standings.iter().all(|standing| is_quiet(standing))
 }

@@ -14,7 +14,7 @@ use Rattle.golog_semantics.specs.declared.journal.Report.{Report}
 use Rattle.golog_semantics.specs.InlineText.{placed}
 use Rattle.golog_semantics.specs.Journal.{Journal}
 use Rattle.golog_semantics.specs.Online.{same_line}
-use Rattle.golog_semantics.specs.Reports.{Spells, place_limit}
+use Rattle.golog_semantics.specs.Reports.{SpellsReport, place_limit}
 use Rattle.golog_semantics.specs.Text.{Text, at_each, line_text, report_text, run_at, with_line_feed}
 use Rattle.golog_semantics.specs.WellFormed.{WellFormed}
 use Rattle.golog_semantics.specs.Ways.{is_empty}
@@ -151,7 +151,7 @@ module _ (agent : Agent) (well : WellFormed agent) where
           lines = subst (λ es. AreLines agent report.runs 0 es bytes) (sym said.entries) (subst (AreLines agent report.runs 0 said.added) (join_with_byte-slice_split 10 bytes) said.lines);
         }
 
-    pub kept-is-spelled : TextsAreKept agent report (lines_in bytes) → Spells agent bytes report
+    pub kept-is-spelled : TextsAreKept agent report (lines_in bytes) → SpellsReport agent bytes report
     unfolding report_text
     kept-is-spelled kept =
         let said = all-lines in record {

@@ -12,6 +12,7 @@ use Rattle.golog_semantics.specs.Progress.{after_entry, values_after}
 use Rattle.golog_semantics.specs.Text.{Text, at_each, body_text, line_text, run_at, with_line_feed}
 use Rattle.golog_semantics.specs.Truth.{Values}
 use Rattle.golog_progress.proofs.Rolled.{fold-more}
+use Rattle.golog_text.specs.Filled.{full_line}
 use Rattle.golog_text.proofs.RunsBehind.{from_place, same_run}
 
 module _ (agent : Agent) (runs : List PlacedRun) (entries : Journal) where
@@ -52,7 +53,7 @@ module _ (agent : Agent) (runs : List PlacedRun) (entries : Journal) where
     pub lines_go_on : (here : List PlacedRun) (values : Values) (text new whole : Text)
         → here ≡ from_place place runs → values ≡ values_after agent (take place entries)
         → text ++ lines_from place ≡ whole
-        → new ≡ text ++ (decimal place ++ codes " " ++ body_text agent values (run_at here place) e ++ 10 ∷ [])
+        → new ≡ text ++ full_line agent place values (run_at here place) e
         → new ++ lines_from (place + 1) ≡ whole
     lines_go_on here values text new whole k h w n =
         let line = line_text agent runs (take place entries) e in

@@ -1,7 +1,7 @@
 -- The runs from a place on, of runs in the order of their places.
 use Rattle.std.proofs.Common.{◌≡◌, ℕ, ◌+◌, ◌<◌, ◌≤◌, ◌≢◌, Bool, true, false, cond, ◌&&◌, ◌==◌, List, [], ◌∷◌, map, refl, sym, ap, ◌∙◌, subst, Some, None, inl, inr, arith}
 use Rattle.std.specs.Prelude.{nat_le, nat_lt, filter, find, slice_get, option_map, if◌then◌else◌}
-use Rattle.std.proofs.lemmas.Bool.{cases_lt, leb-true, leb-false, lt-ltb, le-ltb, le-leb, lt-leb, ne_eqb}
+use Rattle.std.proofs.lemmas.Bool.{cases_lt, leb-true, leb-false, lt-ltb, le-ltb, le-leb, lt-leb, eq-eqb, ne_eqb}
 use Rattle.golog_semantics.specs.declared.journal.PlacedRun.{PlacedRun}
 use Rattle.golog_semantics.specs.Reports.{grow_from}
 use Rattle.golog_semantics.specs.Text.{run_at}
@@ -67,6 +67,20 @@ none-before place n (r ∷ runs) h k =
     let from = first-from n r runs h in
     let apart : r.place ≢ place = omega (arith, from, k) in
     there place r runs apart ∙ none-before place (r.place + 1) runs (others-from n r runs h) (omega (arith, from, k))
+
+-- no run begins where there is none
+pub none_first : (place : ℕ) (runs : List PlacedRun) → None ≡ slice_get runs 0 → run_at runs place ≡ None
+none_first place [] h = refl
+none_first place (r ∷ runs) h = absurd (cc)
+
+-- the first run is the one that begins at its place
+pub first_here : (place : ℕ) (r : PlacedRun) (runs : List PlacedRun) → Some r ≡ slice_get runs 0 → r.place ≡ place → run_at runs place ≡ Some r.labels
+first_here place r [] h here = absurd (cc)
+first_here place r (q ∷ runs) h here =
+    let same : q ≡ r = cc in
+    let there : q.place ≡ place = ap (λ (x : PlacedRun). x.place) same ∙ here in
+    ap (λ b. option_map (λ (x : PlacedRun). x.labels) (if b then Some q else find (λ (x : PlacedRun). x.place == place) runs)) (eq-eqb q.place place there)
+    ∙ ap (λ (x : PlacedRun). Some x.labels) same
 
 -- no run begins at the place where the first begins elsewhere
 pub none_here : (place : ℕ) (r : PlacedRun) (runs : List PlacedRun) → Some r ≡ slice_get runs 0 → AreFrom place runs → r.place ≢ place → run_at runs place ≡ None

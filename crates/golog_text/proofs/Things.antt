@@ -1,6 +1,6 @@
 -- The things that a report names are the agent's.
-use Rattle.std.proofs.Common.{◌≡◌, ℕ, ◌<◌, true, not, ◌&&◌, List, [], ◌∷◌, ◌++◌, length, arith}
-use Rattle.std.specs.Prelude.{All, nat_le, nat_lt}
+use Rattle.std.proofs.Common.{◌≡◌, ℕ, suc, ◌<◌, Bool, true, false, not, ◌&&◌, ◌==◌, Some, List, [], ◌∷◌, ◌++◌, length, arith}
+use Rattle.std.specs.Prelude.{All, IfSome, find, if◌then◌else◌, nat_le, nat_lt, option_map}
 use Rattle.std.specs.List.{AllByRecursion, list_all, list_any}
 use Rattle.std.proofs.lemmas.List.Elements.{All-from_recursion}
 use Rattle.std.proofs.lemmas.Bool.{ltb-true}
@@ -16,7 +16,7 @@ use Rattle.golog_semantics.specs.declared.journal.Report.{Report}
 use Rattle.golog_semantics.specs.Journal.{Journal, commands}
 use Rattle.golog_semantics.specs.Online.{is_result}
 use Rattle.golog_semantics.specs.Reports.{IsReport, fits_entry, fits_label, fits_run, is_device, is_exogenous, is_value, place_limit}
-use Rattle.golog_semantics.specs.Text.{at_each}
+use Rattle.golog_semantics.specs.Text.{at_each, run_at}
 use Rattle.golog_semantics.specs.Values.{fluent_sort}
 use Rattle.golog_semantics.specs.Ways.{is_empty}
 use Rattle.golog_semantics.proofs.ActionNames.{HasAction}
@@ -85,6 +85,15 @@ module _ (agent : Agent) where
 
   pub runs_named : (report : Report) → IsReport agent report → AreNamed agent report.runs
   runs_named report fits = All-from_recursion (λ r. AreLabels agent r.labels) report.runs (runs-named report.entries report.runs fits.runs)
+
+  -- the run at a place is one of them
+  pub run_named : (runs : List PlacedRun) → AreNamed agent runs → (place : ℕ) → IfSome (run_at runs place) (AreLabels agent)
+  run_named [] named place = tt
+  run_named (r ∷ runs) named place = go (r.place == place) (run_named runs (λ k d inside. named (suc k) d (omega (arith, inside))) place)
+    where
+      go : (b : Bool) → IfSome (run_at runs place) (AreLabels agent) → IfSome (option_map (λ (q : PlacedRun). q.labels) (if b then Some r else find (λ (q : PlacedRun). q.place == place) runs)) (AreLabels agent)
+      go true rest = named 0 r (omega arith)
+      go false rest = rest
 
   module _ (fluent value : ℕ) (h : is_value agent fluent value ≡ true) where
     is-fluent : nat_lt fluent (length (ground_fluents agent)) ≡ true

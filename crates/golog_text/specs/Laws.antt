@@ -6,7 +6,7 @@ use Rattle.golog_semantics.specs.declared.journal.Entry.{Entry}
 use Rattle.golog_semantics.specs.declared.journal.Report.{Report}
 use Rattle.golog_semantics.specs.Journal.{Journal}
 use Rattle.golog_semantics.specs.Online.{keeps_text}
-use Rattle.golog_semantics.specs.Reports.{IsReport, Spells}
+use Rattle.golog_semantics.specs.Reports.{IsReport, SpellsReport}
 use Rattle.golog_semantics.specs.ReportLaws.{TellsApart}
 use Rattle.golog_semantics.specs.Text.{Text, report_text}
 use Rattle.golog_semantics.specs.WellFormed.{WellFormed}
@@ -65,5 +65,5 @@ abbrev pub ReadIsSpelled : Type 0
 ReadIsSpelled =
     (agent : Agent) → WellFormed agent → TellsApart agent → (bytes : Text) (report : Report)
     → (journal_of agent bytes).outcome ≡ Ok report
-    → (TextsAreKept agent report (lines_in bytes) → Spells agent bytes report)
-    × (Spells agent bytes report → TextsAreKept agent report (lines_in bytes))
+    → (TextsAreKept agent report (lines_in bytes) → SpellsReport agent bytes report)
+    × (SpellsReport agent bytes report → TextsAreKept agent report (lines_in bytes))

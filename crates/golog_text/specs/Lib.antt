@@ -7,3 +7,4 @@ pub mod Answers
 pub mod ReadsAs
 pub mod Views
 pub mod Laws
+pub mod Filled

@@ -1,29 +1,33 @@
 // What the line of an entry says.
-ghost use Rattle.std.specs.Prelude.{◌≡◌, ◌<◌, ◌++◌, length, IsTrue, OnOk, codes, decimal, slice_index};
+ghost use Rattle.std.specs.Prelude.{◌≡◌, ◌<◌, ◌≤◌, ◌+◌, ◌++◌, length, IfSome, IsTrue, OnErr, OnOk, codes, decimal, option_copied, slice_index};
 ghost use Rattle.golog_tree.specs.Ground.{IsCountable, action_args, ground_count};
 ghost use Rattle.golog_semantics.specs.Journal.{device_of as spec_device_of};
 ghost use Rattle.golog_semantics.specs.Reports.{is_value};
 ghost use Rattle.golog_semantics.specs.SortLaws.{AreInSorts, IsOf};
-ghost use Rattle.golog_semantics.specs.Text.{action_text, against_text, at_device, body_text, device_text, run_at, value_text};
+ghost use Rattle.golog_semantics.specs.Text.{action_text, against_text, at_device, body_text, device_text, value_text};
 ghost use Rattle.golog_semantics.specs.Values.{fluent_sort};
 ghost use Rattle.golog_semantics.specs.WellFormed.{WellFormed};
-ghost use Rattle.golog_text.specs.Named.{AreFrom, AreNamed, IsNamed};
+ghost use Rattle.golog_text.specs.Filled.{reserved, run_most};
+ghost use Rattle.golog_text.specs.Named.{AreLabels, IsNamed};
 
+use crate::line::Line;
 use crate::names::{add_action, add_device, add_number, add_value, device_of};
 use crate::runs::add_run;
 use crate::words::{answer_name, reason_name};
-use golog_base::{Bytes, NoMemory};
+use golog_base::{List, NoMemory};
 use golog_known::UNKNOWN;
-use golog_semantics::{Entry, PlacedRun};
-use golog_tree::Agent;
+use golog_semantics::Entry;
+use golog_tree::{Agent, Label};
 
 // Adds a command: its action, and the device that carries it out, where one does.
-fn add_command(text: &mut Bytes, agent: &Agent, action: u32) -> Result<(), NoMemory>
+fn add_command(text: &mut Line, agent: &Agent, action: u32) -> Result<(), NoMemory>
     requires formed { WellFormed agent.now }
     requires number { action < ground_count agent.now (action_args agent.now) }
-    ensures { OnOk result (text.new
+    ensures added { OnOk result (text.new
         ≡ text.old ++ (codes "do " ++ action_text agent.now action
         ++ at_device agent.now (spec_device_of agent.now action))) }
+    ensures short { OnOk result (length text.new ≤ length text.old + 164) }
+    ensures full { OnErr result (reserved < length text.old + 164) }
 {
     text.extend(b"do ")?;
     add_action(text, agent, action)?;
@@ -37,10 +41,13 @@ fn add_command(text: &mut Bytes, agent: &Agent, action: u32) -> Result<(), NoMem
 }
 
 // Adds a word, and a device that posts it.
-fn add_poster(text: &mut Bytes, agent: &Agent, word: &[u8], poster: u8) -> Result<(), NoMemory>
-    requires { poster < length agent.now.devices }
-    ensures { OnOk result (text.new
+fn add_poster(text: &mut Line, agent: &Agent, word: &[u8], poster: u8) -> Result<(), NoMemory>
+    requires device { poster < length agent.now.devices }
+    requires word { length word.now ≤ 6 }
+    ensures added { OnOk result (text.new
         ≡ text.old ++ (word.now ++ device_text agent.now poster ++ codes " ")) }
+    ensures short { OnOk result (length text.new ≤ length text.old + 38) }
+    ensures full { OnErr result (reserved < length text.old + 38) }
 {
     text.extend(word)?;
     add_device(text, agent, u32::from(poster))?;
@@ -49,7 +56,7 @@ fn add_poster(text: &mut Bytes, agent: &Agent, word: &[u8], poster: u8) -> Resul
 
 // Adds the value that was known before, where it is another constant.
 fn add_against(
-    text: &mut Bytes,
+    text: &mut Line,
     agent: &Agent,
     fluent: u32,
     old: u8,
@@ -58,7 +65,9 @@ fn add_against(
     requires countable { IsCountable agent.now }
     requires value { IsTrue (is_value agent.now fluent value) }
     requires old { IsOf agent.now (fluent_sort agent.now fluent) old }
-    ensures { OnOk result (text.new ≡ text.old ++ against_text agent.now fluent old value) }
+    ensures added { OnOk result (text.new ≡ text.old ++ against_text agent.now fluent old value) }
+    ensures short { OnOk result (length text.new ≤ length text.old + 137) }
+    ensures full { OnErr result (reserved < length text.old + 137) }
 {
     if old == UNKNOWN || old == value {
         return Ok(());
@@ -69,7 +78,7 @@ fn add_against(
 
 // Adds the result of a command: its place, the value, and the value that was known before.
 fn add_result(
-    text: &mut Bytes,
+    text: &mut Line,
     agent: &Agent,
     values: &[u8],
     command: u32,
@@ -79,9 +88,11 @@ fn add_result(
     requires countable { IsCountable agent.now }
     requires sorts { AreInSorts agent.now values.now }
     requires value { IsTrue (is_value agent.now fluent value) }
-    ensures { OnOk result (text.new
+    ensures added { OnOk result (text.new
         ≡ text.old ++ (decimal command ++ codes " " ++ value_text agent.now fluent value
         ++ against_text agent.now fluent (slice_index values.now fluent) value)) }
+    ensures short { OnOk result (length text.new ≤ length text.old + 306) }
+    ensures full { OnErr result (reserved < length text.old + 306) }
 {
     add_number(text, command as usize)?;
     text.extend(b" ")?;
@@ -89,32 +100,32 @@ fn add_result(
     add_against(text, agent, fluent, values[fluent as usize], value)
 }
 
-// Adds what the line of an entry says that stands at this place, with these values before it. The runs
-// are those from the place on.
+// Adds what the line of an entry says, with these values before it and the run that it begins, if it begins
+// one.
 pub(crate) fn add_body(
-    text: &mut Bytes,
+    text: &mut Line,
     agent: &Agent,
     values: &[u8],
-    runs: &[PlacedRun],
-    place: usize,
+    run: Option<&List<Label>>,
     entry: Entry,
 ) -> Result<(), NoMemory>
     requires formed { WellFormed agent.now }
     requires sorts { AreInSorts agent.now values.now }
-    requires in_order { AreFrom place runs.now }
-    requires runs { AreNamed agent.now runs.now }
+    requires labels { IfSome (option_copied run) (AreLabels agent.now) }
     requires entry { IsNamed agent.now entry }
-    ensures { OnOk result
-        (text.new ≡ text.old ++ body_text agent.now values.now (run_at runs.now place) entry) }
+    ensures added { OnOk result
+        (text.new ≡ text.old ++ body_text agent.now values.now (option_copied run.entry) entry) }
+    ensures short { OnOk result (length text.new ≤ length text.old + 344 + run_most (option_copied run.entry)) }
+    ensures full { OnErr result (reserved < length text.old + 344 + run_most (option_copied run.entry)) }
 {
     match entry {
         Entry::Do { action } => {
             add_command(text, agent, action)?;
-            add_run(text, agent, runs, place)
+            add_run(text, agent, run)
         }
         Entry::Test => {
             text.extend(b"test")?;
-            add_run(text, agent, runs, place)
+            add_run(text, agent, run)
         }
         Entry::Exo { poster, action } => {
             add_poster(text, agent, b"exo ", poster)?;

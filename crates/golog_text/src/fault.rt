@@ -23,7 +23,7 @@ pub enum TextFault {
     #[error("refused {why} at {line}")]
     Refused { line: u32, why: u8 },
     /// Memory ran out.
-    #[error("out of memory")]
+    #[error("memory ran out")]
     Memory,
 }
 

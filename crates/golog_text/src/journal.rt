@@ -1,17 +1,15 @@
-ghost use Rattle.std.specs.Prelude.{◌≡◌, [], ◌∷◌, ◌++◌, length, IfOk, OnOk, codes, decimal};
+ghost use Rattle.std.specs.Prelude.{◌≡◌, ◌<◌, ◌++◌, IfOk, OnOk};
 ghost use Rattle.golog_semantics.specs.Reports.{IsReport};
 ghost use Rattle.golog_semantics.specs.SortLaws.{AreInSorts};
-ghost use Rattle.golog_semantics.specs.Text.{body_text, line_text, report_text, run_at};
-ghost use Rattle.golog_semantics.specs.Journal.{Journal};
-ghost use Rattle.golog_semantics.specs.Progress.{values_after};
+ghost use Rattle.golog_semantics.specs.Text.{report_text, run_at};
 ghost use Rattle.golog_semantics.specs.WellFormed.{WellFormed};
+ghost use Rattle.golog_text.specs.Filled.{full_line};
 ghost use Rattle.golog_text.specs.Named.{AreFrom, AreNamed, IsNamed};
 
-use crate::body::add_body;
-use crate::names::add_number;
-use crate::runs::runs_behind;
+use crate::line::Line;
+use crate::runs::{run_here, runs_behind};
 use golog_base::{Bytes, NoMemory};
-use golog_progress::start;
+use golog_progress::{State, start};
 use golog_semantics::{Entry, PlacedRun, Report};
 use golog_tree::Agent;
 use std::alloc::Global;
@@ -27,10 +25,11 @@ pub fn write_journal(alloc: Global, agent: &Agent, report: &Report) -> Result<By
     ensures { IfOk result (λ text. text ≡ report_text agent.now report.now) }
 {
     let mut text = Bytes::new(alloc);
+    let mut line = Line::new(alloc)?;
     let mut state = start(alloc, agent)?;
     let mut runs = report.runs.as_slice();
     for (place, entry) in report.entries.as_slice().iter().enumerate() {
-        add_line(&mut text, agent, state.values(), runs, place, *entry)?;
+        add_line(&mut text, &mut line, agent, &state, runs, place, *entry)?;
         state.roll(agent, &[*entry]);
         runs = runs_behind(runs, place);
     }
@@ -41,48 +40,22 @@ pub fn write_journal(alloc: Global, agent: &Agent, report: &Report) -> Result<By
 // runs are those from the place on.
 fn add_line(
     text: &mut Bytes,
+    line: &mut Line,
     agent: &Agent,
-    values: &[u8],
+    before: &State,
     runs: &[PlacedRun],
     place: usize,
     entry: Entry,
 ) -> Result<(), NoMemory>
     requires formed { WellFormed agent.now }
-    requires sorts { AreInSorts agent.now values.now }
+    requires sorts { AreInSorts agent.now before.now }
+    requires place { place < 1048576 }
     requires in_order { AreFrom place runs.now }
     requires runs { AreNamed agent.now runs.now }
     requires entry { IsNamed agent.now entry }
     ensures { OnOk result (text.new
-        ≡ text.old ++ (decimal place ++ codes " "
-        ++ body_text agent.now values.now (run_at runs.now place) entry ++ 10 ∷ [])) }
+        ≡ text.old ++ full_line agent.now place before.now (run_at runs.now place) entry) }
 {
-    write_line(text, agent, values, runs, place, entry)?;
-    text.extend(b"\n")
-}
-
-/// Adds the line of an entry that stands at this place, with these values before it, to a text, without its
-/// line feed. The runs are those from the place on.
-///
-/// `NoMemory` comes only for want of memory.
-pub fn write_line(
-    text: &mut Bytes,
-    agent: &Agent,
-    values: &[u8],
-    runs: &[PlacedRun],
-    place: usize,
-    entry: Entry,
-) -> Result<(), NoMemory>
-    requires formed { WellFormed agent.now }
-    requires sorts { AreInSorts agent.now values.now }
-    requires in_order { AreFrom place runs.now }
-    requires runs { AreNamed agent.now runs.now }
-    requires entry { IsNamed agent.now entry }
-    ensures body { OnOk result (text.new
-        ≡ text.old ++ (decimal place ++ codes " " ++ body_text agent.now values.now (run_at runs.now place) entry)) }
-    ensures line { OnOk result ((before : Journal) → length before ≡ place → values_after agent.now before ≡ values.now
-        → text.new ≡ text.old ++ line_text agent.now runs.now before entry) }
-{
-    add_number(text, place)?;
-    text.extend(b" ")?;
-    add_body(text, agent, values, runs, place, entry)
+    let run = run_here(runs, place);
+    text.extend(line.try_fill(agent, place as u32, entry, before, run)?)
 }

@@ -7,6 +7,7 @@ mod fault;
 mod forms;
 mod journal;
 mod laws;
+mod line;
 mod lookups;
 mod named;
 mod names;
@@ -17,11 +18,12 @@ mod said;
 mod words;
 
 pub use fault::{MISPLACED, NO_BODY, NO_RESULT, NOT_OWN, TextFault};
-pub use journal::{write_journal, write_line};
+pub use journal::write_journal;
 pub use laws::{
     journal_is_read, lines_say_their_texts, read_is_spelled, read_or_refused, reports_are_read,
     written_reads_back,
 };
+pub use line::Line;
 pub use reading::read_journal;
-pub use runs::runs_behind;
+pub use runs::{run_here, runs_behind};
 pub use words::answer_name;

@@ -1,52 +1,62 @@
-// The things of an agent, whose texts are added to a text.
-ghost use Rattle.std.specs.Prelude.{◌≡◌, ◌<◌, ◌++◌, decimal, length, IsTrue, IfSome, OnOk};
+// The things of an agent, whose texts are added to a line.
+ghost use Rattle.std.specs.Prelude.{◌≡◌, ◌<◌, ◌≤◌, ◌+◌, ◌++◌, decimal, length, IsTrue, IfSome, OnErr, OnOk};
 ghost use Rattle.golog_tree.specs.Ground.{IsCountable, ground_count, action_args, fluent_args};
 ghost use Rattle.golog_semantics.specs.Journal.{device_of as spec_device_of};
 ghost use Rattle.golog_semantics.specs.Reports.{is_value};
 ghost use Rattle.golog_semantics.specs.Text.{action_text as spec_action_text, device_text, value_text};
 ghost use Rattle.golog_semantics.specs.Values.{fluent_sort as spec_fluent_sort};
 ghost use Rattle.golog_semantics.specs.WellFormed.{WellFormed};
+ghost use Rattle.golog_text.specs.Filled.{reserved};
 
-use golog_base::{Bytes, NoMemory};
+use crate::line::Line;
+use golog_base::NoMemory;
 use golog_ground::{action_text, constant_text};
 use golog_tree::{Agent, action_of, fluent_of};
 use itoa::Buffer;
 
 // Adds a number.
-pub(crate) fn add_number(text: &mut Bytes, number: usize) -> Result<(), NoMemory>
-    ensures { OnOk result (text.new ≡ text.old ++ decimal number) }
+pub(crate) fn add_number(text: &mut Line, number: usize) -> Result<(), NoMemory>
+    ensures added { OnOk result (text.new ≡ text.old ++ decimal number) }
+    ensures short { OnOk result (length text.new ≤ length text.old + 40) }
+    ensures full { OnErr result (reserved < length text.old + 40) }
 {
     let mut buffer = Buffer::new();
     text.extend(buffer.format(number).as_bytes())
 }
 
 // Adds a ground action.
-pub(crate) fn add_action(text: &mut Bytes, agent: &Agent, action: u32) -> Result<(), NoMemory>
+pub(crate) fn add_action(text: &mut Line, agent: &Agent, action: u32) -> Result<(), NoMemory>
     requires countable { IsCountable agent.now }
     requires number { action < ground_count agent.now (action_args agent.now) }
-    ensures { OnOk result (text.new ≡ text.old ++ spec_action_text agent.now action) }
+    ensures added { OnOk result (text.new ≡ text.old ++ spec_action_text agent.now action) }
+    ensures short { OnOk result (length text.new ≤ length text.old + 128) }
+    ensures full { OnErr result (reserved < length text.old + 128) }
 {
     text.extend(action_text(agent, action).as_bytes())
 }
 
 // Adds the name of a device.
-pub(crate) fn add_device(text: &mut Bytes, agent: &Agent, device: u32) -> Result<(), NoMemory>
+pub(crate) fn add_device(text: &mut Line, agent: &Agent, device: u32) -> Result<(), NoMemory>
     requires { device < length agent.now.devices }
-    ensures { OnOk result (text.new ≡ text.old ++ device_text agent.now device) }
+    ensures added { OnOk result (text.new ≡ text.old ++ device_text agent.now device) }
+    ensures short { OnOk result (length text.new ≤ length text.old + 31) }
+    ensures full { OnErr result (reserved < length text.old + 31) }
 {
     text.extend(agent.devices.as_slice()[device as usize].as_bytes())
 }
 
 // Adds a value of a ground fluent.
 pub(crate) fn add_value(
-    text: &mut Bytes,
+    text: &mut Line,
     agent: &Agent,
     fluent: u32,
     value: u8,
 ) -> Result<(), NoMemory>
     requires countable { IsCountable agent.now }
     requires value { IsTrue (is_value agent.now fluent value) }
-    ensures { OnOk result (text.new ≡ text.old ++ value_text agent.now fluent value) }
+    ensures added { OnOk result (text.new ≡ text.old ++ value_text agent.now fluent value) }
+    ensures short { OnOk result (length text.new ≤ length text.old + 128) }
+    ensures full { OnErr result (reserved < length text.old + 128) }
 {
     text.extend(constant_text(agent, fluent_sort(agent, fluent), value).as_bytes())
 }

@@ -1,21 +1,25 @@
 // The runs of a report, which stand in the order of their places.
-ghost use Rattle.std.specs.Prelude.{◌≡◌, ◌++◌, IsTrue, OnOk, codes, filter, nat_lt};
+ghost use Rattle.std.specs.Prelude.{◌≡◌, ◌<◌, ◌≤◌, ◌+◌, ◌*◌, ◌++◌, length, IfSome, IsTrue, OnErr, OnOk, codes, filter, nat_lt, option_copied};
 ghost use Rattle.std.specs.List.{join_by};
 ghost use Rattle.golog_tree.specs.Ground.{IsCountable};
 ghost use Rattle.golog_semantics.specs.Reports.{fits_label};
 ghost use Rattle.golog_semantics.specs.Text.{label_text, run_at, run_text};
-ghost use Rattle.golog_text.specs.Named.{AreFrom, AreLabels, AreNamed};
+ghost use Rattle.golog_text.specs.Filled.{reserved, run_most};
+ghost use Rattle.golog_text.specs.Named.{AreFrom, AreLabels};
 
+use crate::line::Line;
 use crate::names::add_action;
-use golog_base::{Bytes, NoMemory};
+use golog_base::{List, NoMemory};
 use golog_semantics::PlacedRun;
 use golog_tree::{Agent, Label};
 
 // Adds a step of a run.
-fn add_label(text: &mut Bytes, agent: &Agent, label: Label) -> Result<(), NoMemory>
+fn add_label(text: &mut Line, agent: &Agent, label: Label) -> Result<(), NoMemory>
     requires countable { IsCountable agent.now }
     requires label { IsTrue (fits_label agent.now label) }
-    ensures { OnOk result (text.new ≡ text.old ++ label_text agent.now label) }
+    ensures added { OnOk result (text.new ≡ text.old ++ label_text agent.now label) }
+    ensures short { OnOk result (length text.new ≤ length text.old + 128) }
+    ensures full { OnErr result (reserved < length text.old + 128) }
 {
     match label {
         Label::Quiet => text.extend(b"-"),
@@ -24,11 +28,13 @@ fn add_label(text: &mut Bytes, agent: &Agent, label: Label) -> Result<(), NoMemo
 }
 
 // Adds the steps of a run.
-fn add_labels(text: &mut Bytes, agent: &Agent, labels: &[Label]) -> Result<(), NoMemory>
+fn add_labels(text: &mut Line, agent: &Agent, labels: &[Label]) -> Result<(), NoMemory>
     requires countable { IsCountable agent.now }
     requires labels { AreLabels agent.now labels.now }
-    ensures { OnOk result
+    ensures added { OnOk result
         (text.new ≡ text.old ++ join_by (label_text agent.now) (codes "; ") labels.now) }
+    ensures short { OnOk result (length text.new ≤ length text.old + 130 * length labels.now) }
+    ensures full { OnErr result (reserved < length text.old + 130 * length labels.now) }
 {
     let Some((first, others)) = labels.split_first() else {
         return Ok(());
@@ -41,24 +47,41 @@ fn add_labels(text: &mut Bytes, agent: &Agent, labels: &[Label]) -> Result<(), N
     Ok(())
 }
 
-// Adds the run that begins at a place, where one does.
+// Adds the run that an entry begins, if it begins one.
 pub(crate) fn add_run(
-    text: &mut Bytes,
+    text: &mut Line,
     agent: &Agent,
-    runs: &[PlacedRun],
-    place: usize,
+    run: Option<&List<Label>>,
 ) -> Result<(), NoMemory>
     requires countable { IsCountable agent.now }
-    requires in_order { AreFrom place runs.now }
-    requires named { AreNamed agent.now runs.now }
-    ensures { OnOk result (text.new ≡ text.old ++ run_text agent.now (run_at runs.now place)) }
+    requires labels { IfSome (option_copied run) (AreLabels agent.now) }
+    ensures added { OnOk result (text.new ≡ text.old ++ run_text agent.now (option_copied run.entry)) }
+    ensures short { OnOk result (length text.new ≤ length text.old + run_most (option_copied run.entry)) }
+    ensures full { OnErr result (reserved < length text.old + run_most (option_copied run.entry)) }
+{
+    match run {
+        Some(labels) => {
+            text.extend(b" run ")?;
+            add_labels(text, agent, labels.as_slice())
+        }
+        None => Ok(()),
+    }
+}
+
+/// The run that begins at a place, of runs in the order of their places from it on.
+pub fn run_here(runs: &[PlacedRun], place: usize) -> Option<&List<Label>>
+    requires { AreFrom place runs.now }
+    ensures { option_copied result ≡ run_at runs.now place }
 {
     match runs.first() {
-        Some(run) if run.place as usize == place => {
-            text.extend(b" run ")?;
-            add_labels(text, agent, run.labels.as_slice())
+        Some(run) => {
+            if run.place as usize == place {
+                Some(&run.labels)
+            } else {
+                None
+            }
         }
-        _ => Ok(()),
+        None => None,
     }
 }
 

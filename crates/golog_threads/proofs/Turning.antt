@@ -17,7 +17,7 @@ use Rattle.golog_device.specs.declared.turn.Turned.{Turned}
 use Rattle.golog_device.specs.declared.turn.Turned.TheVariants as turned
 use Rattle.golog_device.specs.Turns.{SameBoard, PostsItem, answer_item, idle_item, idle_turn, TurnsBy, Turns}
 use Rattle.golog_device.specs.Dealing.{DealtSoFar, DealtAfter, DealtIf, DealtNow}
-use Rattle.golog_device.proofs.Told.{answer-plain, idle-plain, not-refused}
+use Rattle.golog_device.proofs.Commanded.{answer-plain, idle-plain, not-refused}
 use Rattle.golog_threads.specs.Driving.{GoesFrom, has_refused, HasServed}
 use Rattle.golog_threads.proofs.Lists.{not-device}
 use Rattle.golog_threads.proofs.Refusals.{refused-more, refused-later, open-unrefused, entry-unrefused}

@@ -66,6 +66,7 @@ fn lead_on<A: Naming, N: AtLock, L: Lead, R: Wait>(
     ensures lock { IsSeatOf lock.now result }
     ensures held { contains (parties_of result) program ≡ true }
     ensures same { SameMind (L.mind lead.old) (L.mind lead.new) }
+    ensures stands { L.stands lead.old → L.stands lead.new }
     ensures behind { IsBehind (L.mind lead.new).list (seen result) }
     ensures ended { IsTrue (has_end (seen result)) }
 {
@@ -116,6 +117,7 @@ fn gather_at<L: Lead, B: Board>(lead: &mut L, board: &mut B)
     requires held { (B.sight board.old).holds program ≡ true }
     requires behind { IsBehind (L.mind lead.old).list (B.sight board.old).seen }
     ensures same { SameMind (L.mind lead.old) (L.mind lead.new) }
+    ensures stands { L.stands lead.old → L.stands lead.new }
     ensures whole { (L.mind lead.new).list ≡ (B.sight board.new).seen }
     ensures watches { Watches (B.sight board.old) (B.sight board.new) }
     ensures lawful { IsBoardList (L.mind lead.new).agent (B.sight board.new).seen }
@@ -139,6 +141,7 @@ fn gather_all<A: Naming, N: AtLock, L: Lead, R: Wait>(
     requires held { contains (parties_of seat) program ≡ true }
     requires behind { IsBehind (L.mind lead.old).list (seen seat) }
     ensures same { SameMind (L.mind lead.old) (L.mind lead.new) }
+    ensures stands { L.stands lead.old → L.stands lead.new }
     ensures gathered { Gathered A.agent (seen seat) (L.mind lead.new).list (parties_of seat) }
 {
     let mut board = SeatBoard::<R, Shared<A>, N>::of(rt, lock, agent, hall, seat);
@@ -177,6 +180,7 @@ fn run_beside<
         (seen result.0) (parties_of result.0) devices.old devices.new }
     ensures held { contains (parties_of result.1) program ≡ true }
     ensures same { SameMind (L.mind lead.old) (L.mind lead.new) }
+    ensures stands { L.stands lead.old → L.stands lead.new }
     ensures behind { IsBehind (L.mind lead.new).list (seen result.1) }
     ensures ended { IsTrue (has_end (seen result.1)) }
 {
@@ -199,6 +203,7 @@ fn run_beside<
                 × IsBehind (L.mind lead.now).list (rest_seen lead_rest.now) }
             ensures { IsSeatOf lock.entry.now result × (contains (parties_of result) program ≡ true)
                 × SameMind (L.mind lead.entry.now) (L.mind lead.exit.now)
+                × (L.stands lead.entry.now → L.stands lead.exit.now)
                 × IsBehind (L.mind lead.exit.now).list (seen result) × IsTrue (has_end (seen result)) }
         { lead_on::<A, N, L, R>(rt, lock, agent.get(), hall, lead_rest, lead) },
     )
@@ -234,6 +239,7 @@ fn run_locked<
     requires ready { AreReady (G.agent agent.now) (seen seat) (length devices.old) }
     requires behind { IsBehind (L.mind lead.old).list (seen seat) }
     ensures same { SameMind (L.mind lead.old) (L.mind lead.new) }
+    ensures stands { L.stands lead.old → L.stands lead.new }
     ensures ran { RunsOverThreads (G.agent agent.now) D.meaning
         (seen seat) (L.mind lead.new).list devices.old devices.new }
 {
@@ -270,6 +276,7 @@ fn run_named<
     requires may { MayRunSealed (G.agent agent.now) (H.journal journal) (L.mind lead.old)
         (length devices.old) hall.now.opens }
     ensures same { SameMind (L.mind lead.old) (L.mind lead.new) }
+    ensures stands { L.stands lead.old → L.stands lead.new }
     ensures ran { OnOk result (RunsOverThreads (G.agent agent.now) D.meaning
         (H.journal journal).entries (L.mind lead.new).list devices.old devices.new) }
     ensures memory { OnErr result ((L.mind lead.new ≡ L.mind lead.old) × (devices.new ≡ devices.old)) }
@@ -297,6 +304,7 @@ fn run_sealed<H: Held, L: Lead, D: Device + Send, R: Threads + Wait + Sync>(
     requires may { MayRunSealed agent.now (H.journal journal) (L.mind lead.old)
         (length devices.old) hall.now.opens }
     ensures same { SameMind (L.mind lead.old) (L.mind lead.new) }
+    ensures stands { L.stands lead.old → L.stands lead.new }
     ensures ran { OnOk result (RunsOverThreads agent.now D.meaning
         (H.journal journal).entries (L.mind lead.new).list devices.old devices.new) }
     ensures memory { OnErr result ((L.mind lead.new ≡ L.mind lead.old) × (devices.new ≡ devices.old)) }
@@ -326,6 +334,7 @@ pub fn run_threads<L: Lead, D: Device + Send, R: Threads + Wait + Sync>(
     requires ready { AreReady agent.now journal.entries (length devices.old) }
     requires behind { IsBehind (L.mind lead.old).list journal.entries }
     ensures same { SameMind (L.mind lead.old) (L.mind lead.new) }
+    ensures stands { L.stands lead.old → L.stands lead.new }
     ensures ran { OnOk result (RunsOverThreads agent.now D.meaning
         journal.entries (L.mind lead.new).list devices.old devices.new) }
     ensures memory { OnErr result ((L.mind lead.new ≡ L.mind lead.old) × (devices.new ≡ devices.old)) }

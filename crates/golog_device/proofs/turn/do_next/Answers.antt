@@ -2,7 +2,7 @@ use Rattle.std.proofs.Common.{◌+◌, sym, ◌∙◌, subst, arith}
 use Rattle.golog_semantics.specs.declared.journal.Item.TheVariants as item
 use Rattle.golog_journal.specs.Taken.{IsDriven}
 use Rattle.golog_journal.specs.Posting.{MayPost}
-use Rattle.golog_device.proofs.Told.{taken-small, told-number, told-driven, told-stop}
+use Rattle.golog_device.proofs.Commanded.{taken-small, told-number, told-driven, told-stop}
 use Rattle.golog_device.proofs.turn.do_next.Goals as goal
 
 pub overflow_add-taken : goal.overflow_add-taken

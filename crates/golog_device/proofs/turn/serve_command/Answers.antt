@@ -1,5 +1,5 @@
 use Rattle.std.proofs.Common.{sym, ◌∙◌}
-use Rattle.golog_device.proofs.Told.{may-plain, answer-plain, not-refused}
+use Rattle.golog_device.proofs.Commanded.{may-plain, answer-plain, not-refused}
 use Rattle.golog_device.proofs.turn.serve_command.Goals as goal
 
 pub post_item-requires-clause-allowed : goal.post_item-requires-clause-allowed

@@ -1,10 +1,12 @@
-use Rattle.std.proofs.Common.{◌≡◌, ◌++◌, ◌<◌, ◌≤◌, [], ◌∷◌, length, get_or, sym, ap, ◌∙◌, subst}
-use Rattle.std.specs.Prelude.{codes, decimal, nat_le}
+use Rattle.std.proofs.Common.{◌≡◌, ◌+◌, ◌++◌, ◌<◌, ◌≤◌, length, get_or, sym, ap, ◌∙◌, subst, arith}
+use Rattle.std.specs.Prelude.{nat_le}
+use Rattle.std.proofs.lemmas.Bool.{leb-true}
 use Rattle.std.proofs.lemmas.List.Elements.{All-filter}
 use Rattle.golog_semantics.specs.declared.journal.Entry.TheVariants.{Do}
 use Rattle.golog_semantics.specs.Progress.{after_entry}
-use Rattle.golog_semantics.specs.SortLaws.{AreInSorts}
-use Rattle.golog_semantics.specs.Text.{body_text, report_text, run_at}
+use Rattle.golog_semantics.specs.Reports.{place_limit}
+use Rattle.golog_semantics.specs.Text.{report_text, run_at}
+use Rattle.golog_text.specs.Filled.{full_line}
 use Rattle.golog_text.specs.Named.{AreFrom, AreLabels, AreNamed, IsNamed}
 use Rattle.golog_text.proofs.Lines.{lines_from, lines_go_on, next_values, no_lines, whole_text}
 use Rattle.golog_text.proofs.RunsBehind.{behind_place, from_grows, from_next, from_start}
@@ -22,7 +24,14 @@ loop-place-init c =
     }
 
 pub add_line-requires-clause-sorts : goal.add_line-requires-clause-sorts
-add_line-requires-clause-sorts c = subst (AreInSorts c.args.agent.now) (sym c.values.ensures) c.loop-place.invariant.sorts
+add_line-requires-clause-sorts c = c.loop-place.invariant.sorts
+
+pub add_line-requires-clause-place : goal.add_line-requires-clause-place
+add_line-requires-clause-place c =
+    let report = c.args.report.now in
+    let inside : c.loop-place.place < length report.entries = subst (λ es. c.loop-place.place < length es) c.as_slice-entry-items.ensures c.loop-place-test.true in
+    let most : length report.entries ≤ place_limit + 1 = leb-true (length report.entries) (place_limit + 1) c.requires.report.in_bounds in
+    omega (arith, inside, most)
 
 pub add_line-requires-clause-in_order : goal.add_line-requires-clause-in_order
 add_line-requires-clause-in_order c =
@@ -70,16 +79,16 @@ loop-place-preserved c =
     let place = c.loop-place.place in
     let here = c.loop-place.runs.now in
     let text = c.loop-place.text in
-    let values = c.values.result.now in
+    let values = c.loop-place.state in
     let items = c.as_slice-entry-items.result.now in
     let same : items ≡ report.entries = c.as_slice-entry-items.ensures in
     let inside : place < length report.entries = subst (λ es. place < length es) same c.loop-place-test.true in
     record {
       text =
           lines_go_on agent report.runs report.entries place (Do 0) inside here values text c.add_line.new.text
-          (lines_from agent report.runs report.entries 0) c.loop-place.invariant.runs (c.values.ensures ∙ c.loop-place.invariant.values) c.loop-place.invariant.text
+          (lines_from agent report.runs report.entries 0) c.loop-place.invariant.runs c.loop-place.invariant.values c.loop-place.invariant.text
           (c.in_ok-add_line.ensures
-          ∙ ap (λ es. text ++ (decimal place ++ codes " " ++ body_text agent values (run_at here place) (get_or es place (Do 0)) ++ 10 ∷ [])) same);
+          ∙ ap (λ es. text ++ full_line agent place values (run_at here place) (get_or es place (Do 0))) same);
       values =
           c.roll.ensures.values
           ∙ ap (λ es. after_entry agent c.loop-place.state (get_or es place (Do 0))) same

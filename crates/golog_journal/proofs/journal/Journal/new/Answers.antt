@@ -1,13 +1,16 @@
-use Rattle.std.proofs.Common.{◌≡◌, length, sym, subst, arith}
-use Rattle.golog_journal.specs.Tallies.{IsKept}
+use Rattle.std.proofs.Common.{◌≡◌, length, sym, ap, ◌∙◌, subst, arith}
+use Rattle.golog_journal.specs.Boards.{AgentJournal}
+use Rattle.golog_journal.specs.Kept.{AreKept}
 use Rattle.golog_journal.proofs.Beginning.{kept-new}
 use Rattle.golog_journal.proofs.journal.Journal.new.Goals as goal
 
 pub invariant_of-result : goal.invariant_of-result
 invariant_of-result c =
-    let told = c.in_ok-tallies.ensures.count in
-    let count : length c.in_ok-tallies.tallies.items ≡ length c.args.agent.now.devices = omega (arith, told) in
-    subst (λ agent. IsKept agent c.in_ok-ledger.ledger c.in_ok-tallies.tallies.items) (sym c.in_ok-facts.ensures)
-    (subst (λ entries. IsKept c.args.agent.now entries c.in_ok-tallies.tallies.items) (sym c.in_ok-ledger.ensures)
-    (kept-new c.args.agent.now c.in_ok-tallies.tallies.items c.requires count c.in_ok-tallies.ensures.commands
-    c.in_ok-tallies.ensures.rested c.in_ok-tallies.ensures.is_open))
+    let counts = c.in_ok-counts.counts in
+    let devices = c.in_ok-commands.commands.items in
+    let told = c.in_ok-commands.ensures.count in
+    let count : length devices ≡ length c.args.agent.now.devices = omega (arith, told) in (
+      c.in_ok-ledger.ensures ∙ ap (λ (v : AgentJournal). v.entries) (sym c.in_ok-counts.ensures),
+      subst (λ (v : AgentJournal). AreKept v.agent v.entries devices) (sym c.in_ok-counts.ensures)
+          (kept-new c.args.agent.now devices count c.in_ok-commands.ensures.commands),
+    )

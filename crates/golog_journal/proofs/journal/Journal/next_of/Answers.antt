@@ -9,7 +9,8 @@ pub returns-in-Some : goal.returns-in-Some
 returns-in-Some c =
     let v = c.args.self.now in
     let x = c.in-Some.next in
-    ap (next.Command x.place x.action) (c.is_sensing.ensures ∙ ap (λ (w : AgentJournal). is_sensing w.agent x.action) c.self.view_is)
+    ap (next.Command x.place x.action)
+    (c.is_sensing.ensures ∙ ap (λ agent. is_sensing agent x.action) c.facts.ensures ∙ ap (λ (w : AgentJournal). is_sensing w.agent x.action) c.self.view_is)
     ∙ ap (next_by v.agent v.entries c.args.poster c.args.taken) c.in-Some.ensures.command
 
 pub returns-in-None : goal.returns-in-None

@@ -2,17 +2,11 @@ use Rattle.std.proofs.Common.{◌∷◌, [], refl, sym, ap, subst}
 use Rattle.std.proofs.lemmas.List.{append-nil}
 use Rattle.golog_journal.specs.Boards.{AgentJournal, IsBoardList}
 use Rattle.golog_journal.proofs.Alone.{called}
-use Rattle.golog_journal.proofs.CommandsKept.{of-no-device}
 use Rattle.golog_journal.proofs.PostsLawful.{commit-list}
 use Rattle.golog_journal.proofs.journal.JournalBoard.commit.Goals as goal
 
-pub push_committed-requires-clause-program : goal.push_committed-requires-clause-program
-push_committed-requires-clause-program c =
-    let v = c.args.self.now in
-    of-no-device v.agent v.entries c.args.at c.args.entry c.args.entry c.requires.allowed.of_program
-
-pub push_committed-requires-clause-lawful : goal.push_committed-requires-clause-lawful
-push_committed-requires-clause-lawful c =
+pub push-requires : goal.push-requires
+push-requires c =
     let v = c.args.self.now in
     commit-list v.agent v.entries c.args.at c.args.entry c.keeps_rules.ensures.lawful c.requires.allowed c.in-None.ensures
 
@@ -25,8 +19,8 @@ returns-in-Some c =
 pub returns-in-None : goal.returns-in-None
 returns-in-None c =
     let v = c.args.self.now in
-    let more = c.push_committed.ensures.more in
+    let more = c.push.ensures.more in
     let list = commit-list v.agent v.entries c.args.at c.args.entry c.keeps_rules.ensures.lawful c.requires.allowed c.in-None.ensures in
     called _ _ _ (c.args.entry ∷ []) (ap (λ (w : AgentJournal). w.agent) more) refl refl (ap (λ (w : AgentJournal). w.entries) more)
     (record { at_end = c.in-None.ensures; one = refl }) (subst (λ (w : AgentJournal). IsBoardList w.agent w.entries) (sym more) list)
-    c.push_committed.ensures.short
+    c.push.ensures.short

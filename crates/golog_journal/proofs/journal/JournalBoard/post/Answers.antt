@@ -10,8 +10,8 @@ use Rattle.golog_journal.proofs.Sensing.{sensed-inside}
 use Rattle.golog_journal.proofs.PostsLawful.{post-list}
 use Rattle.golog_journal.proofs.journal.JournalBoard.post.Goals as goal
 
-pub push_posted-requires-clause-lawful : goal.push_posted-requires-clause-lawful
-push_posted-requires-clause-lawful c =
+pub push-requires : goal.push-requires
+push-requires c =
     let v = c.args.self.now in
     let same : c.posted_entry-entry.result ≡ posted_entry v.agent v.entries c.args.poster c.args.taken c.args.item =
     c.posted_entry-entry.ensures
@@ -32,10 +32,10 @@ returns c =
     (post-list v.agent v.entries c.args.poster c.args.taken c.keeps_rules.ensures.lawful c.requires.allowed.driven
     (sensed-inside v.agent c.keeps_rules.ensures.serves) c.args.item c.requires.allowed) in
     let place : c.len-place.result ≡ length v.entries = c.len-place.ensures.number ∙ ap (λ (w : AgentJournal). length w.entries) c.self.view_is in
-    let more = c.push_posted.ensures.more in
+    let more = c.push.ensures.more in
     called _ _ _ (e ∷ []) (ap (λ (w : AgentJournal). w.agent) more) refl refl (ap (λ (w : AgentJournal). w.entries) more)
     (record {
       one = ap (λ (x : Entry). x ∷ []) same;
       told = c.posted_at.ensures ∙ ap (λ (n : ℕ). posted_at n c.closing-closing.result) place ∙ ap (posted_at (length v.entries)) c.closing-closing.ensures;
     })
-    (subst (λ (w : AgentJournal). IsBoardList w.agent w.entries) (sym more) list) c.push_posted.ensures.short
+    (subst (λ (w : AgentJournal). IsBoardList w.agent w.entries) (sym more) list) c.push.ensures.short
