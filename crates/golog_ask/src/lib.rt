@@ -2,6 +2,7 @@
 #![tactic(auto)]
 
 mod asking;
+mod earlier;
 mod laws;
 
 pub use asking::ask;

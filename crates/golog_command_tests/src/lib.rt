@@ -4,6 +4,8 @@
 #[cfg(test)]
 mod asks;
 #[cfg(test)]
+mod asks_after;
+#[cfg(test)]
 mod demos;
 #[cfg(test)]
 mod replays;

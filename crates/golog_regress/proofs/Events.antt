@@ -1,11 +1,12 @@
 -- Conditions taken back over actions and over sensing.
 use Rattle.std.proofs.Common.{◌≡◌, ℕ, zero, suc, ◌-◌, ◌<◌, ◌≤◌, ◌⊎◌, inl, inr, Bool, true, false, ◌&&◌, ◌==◌, if◌then◌else◌, Option, Some, None, List, [], ◌∷◌, ◌++◌, drop, get_or, length, map, refl, sym, ap, ◌∙◌, subst, arith, zero-add}
-use Rattle.std.specs.Prelude.{IfOk, Result, Ok, Err, slice_get, slice_index, slice_set}
+use Rattle.std.specs.Prelude.{IfOk, Result, Ok, Err, fold, slice_get, slice_index, slice_set}
 use Rattle.std.specs.List.{list_all, enumerate_from}
 use Rattle.std.specs.Option.{option_map_or}
 use Rattle.std.proofs.lemmas.Bool.{eqb-true, eq-eqb, lt-ltb}
 use Rattle.std.proofs.lemmas.List.{get_or-set_same, get_or-set_other, length-map}
 use Rattle.std.proofs.lemmas.List.FromFn.{length-enumerate_from}
+use Rattle.std.proofs.lemmas.List.Sums.{fold-append}
 use Rattle.std.proofs.Math.ListN.{length-set}
 use Rattle.golog_tree.specs.declared.agent.Agent.{Agent}
 use Rattle.golog_tree.specs.declared.agent.ActionItem.{ActionItem}
@@ -18,7 +19,7 @@ use Rattle.golog_tree.specs.declared.cond.Cond.TheVariants as cond
 use Rattle.golog_tree.specs.Ground.{AreWithin, Ground, action_args, args_at, fluent_args, fluent_no, ground_actions, ground_count, ground_fluents, sizes, sort_size}
 use Rattle.golog_tree.proofs.Decoded.{args_at-get_or}
 use Rattle.golog_tree.proofs.Numbers.{length-all_from}
-use Rattle.golog_semantics.specs.Truth.{Values, chosen, env_of}
+use Rattle.golog_semantics.specs.Truth.{Values, chosen, env_of, truth_of}
 use Rattle.golog_semantics.specs.Values.{after_if, cause_for, caused, fluent_sort, matched, ruled}
 use Rattle.golog_semantics.specs.Fits.{bound_from, is_sort}
 use Rattle.golog_semantics.specs.Written.{Wording, written_cond_step, written_term_step}
@@ -231,6 +232,20 @@ module _ (agent : Agent) (fits : WellFormed agent) where
     truth = λ values env whole count at.
         s.truth values env whole count (record { scope = at.scope; fits = r.fits at.scope at.fits; set = at.set })
         ∙ r.truth (after_event agent values event) env (as-many values event whole) count at;
+  }
+
+  as-many-all : (values : Values) (events : List Event) → length values ≡ length (ground_fluents agent) → length (fold (after_event agent) values events) ≡ length (ground_fluents agent)
+  as-many-all values [] whole = whole
+  as-many-all values (event ∷ events) whole = as-many-all (after_event agent values event) events (as-many values event whole)
+
+  -- events before others
+  pub over_both : (first second : List Event) (c later answer : Cond) → IsRegressed agent second c later → IsRegressed agent first later answer → IsRegressed agent (first ++ second) c answer
+  over_both first second c later answer r s = record {
+    fits = λ scope e. s.fits scope (r.fits scope e);
+    truth = λ values env whole count at.
+        s.truth values env whole count (record { scope = at.scope; fits = r.fits at.scope at.fits; set = at.set })
+        ∙ r.truth (fold (after_event agent) values first) env (as-many-all values first whole) count at
+        ∙ ap (λ vs. truth_of agent vs c env) (sym (fold-append (after_event agent) values first second));
   }
 
 -- a condition before no event

@@ -1,10 +1,12 @@
 mod Back
 mod BackParts
 mod Evaluation
-mod Events
+pub mod Events
 mod Fresh
 mod Heads
 mod ImageParts
 mod Imaged
 mod Layers
+mod Read
 mod Related
+mod Untouched

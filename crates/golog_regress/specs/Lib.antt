@@ -3,3 +3,4 @@ pub mod Images
 pub mod Regressed
 pub mod Regression
 pub mod Size
+pub mod Touched

@@ -10,7 +10,9 @@ mod regression;
 mod size;
 mod substitute;
 mod taking_back;
+mod touched;
 
 pub use event::Event;
 pub use regression::{regress, regress_all};
 pub use size::nodes;
+pub use touched::touches;
