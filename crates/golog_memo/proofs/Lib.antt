@@ -1,4 +1,4 @@
 mod Numbers
 mod Pairs
-mod SameArguments
+pub mod SameArguments
 pub mod SamePrograms

@@ -129,7 +129,7 @@ pub fn is_same_way(one: &Way, other: &Way) -> bool
 
 /// Whether two lists of steps are equal.
 #[cycle(is_same_prog)]
-fn are_same_ways(one: &[Way], other: &[Way]) -> bool
+pub fn are_same_ways(one: &[Way], other: &[Way]) -> bool
     ensures { IsTrue result ↔ (one.now ≡ other.now) }
 {
     let mut rest = other;
