@@ -1,7 +1,7 @@
 -- Without a block at its front a program has the steps that it has without blocks.
-use Rattle.std.proofs.Common.{◌≡◌, ℕ, zero, suc, ◌+◌, ◌<◌, Bool, true, false, ◌&&◌, ◌||◌, List, [], ◌∷◌, length, map, Option, Some, None, refl, sym, ap, ◌∙◌, subst, arith}
-use Rattle.std.specs.Prelude.{not, slice_get}
-use Rattle.std.specs.List.{flat_map, range_with_len}
+use Rattle.std.proofs.Common.{◌≡◌, ℕ, zero, suc, ◌+◌, Bool, true, false, ◌&&◌, ◌||◌, List, [], ◌∷◌, length, map, Option, Some, None, refl, sym, ap, ◌∙◌}
+use Rattle.std.specs.Prelude.{not, slice_get, if◌then◌else◌, ◌++◌}
+use Rattle.std.specs.List.{flat_map}
 use Rattle.std.proofs.lemmas.List.{length-map}
 use Rattle.golog_tree.specs.declared.agent.Agent.{Agent}
 use Rattle.golog_tree.specs.declared.agent.ProcItem.{ProcItem}
@@ -24,6 +24,7 @@ use Rattle.golog_semantics.specs.Moves.{plain_moves}
 use Rattle.golog_semantics.specs.Blocks.{block_moves, moves}
 use Rattle.golog_semantics.specs.BlockFree.{block_at, has_block, has_block_by, has_block_step, proc_blocks, proc_blocks_to}
 use Rattle.golog_semantics.specs.Guarded.{Front, front, front_step, no_front, proc_fronts, IsGuarded}
+use Rattle.golog_semantics.specs.Heavy.{Reached, blocks_step, blocks_to, front_blocks as reached_blocks}
 use Rattle.golog_semantics.proofs.ByParts as parts
 use Rattle.golog_semantics.proofs.FoldsRelated.{Leaf, free, Answers, WayAnswers, folds_related, ones, twos}
 use Rattle.golog_semantics.proofs.PutByParts.{IgnoresPut, fold-put}
@@ -254,6 +255,51 @@ module _ (agent : Agent) where
     same_steps b (suc n) m p x =
         step_same (final_to agent values n) (moves_to agent values one n) (moves_to agent values other n) m (λ q. skips agent values m (b m) n q) (same_steps b n) (out-Prog p)
         (sym (ap (λ (f : Fronted). f.block) (fronted-by p (out-Prog p) refl)) ∙ x)
+
+  none_among : (f : ℕ → List Reached) (cs : List ℕ) → ((c : ℕ) → f c ≡ []) → flat_map f cs ≡ []
+  none_among f [] h = refl
+  none_among f (c ∷ cs) h = let e = h c in let k = none_among f cs h in cc
+
+  none_if : (b : Bool) (rs : List Reached) → (b ≡ true → rs ≡ []) → (if b then rs else []) ≡ []
+  none_if true rs h = h refl
+  none_if false rs h = refl
+
+  none_both : (rs ss : List Reached) → rs ≡ [] → ss ≡ [] → rs ++ ss ≡ []
+  none_both rs ss e k = rw (e, k) refl
+
+  module _ (values : Values) where
+    none_step : (u : Bool → Prog → List Reached) (higher : Bool) → ((k : Bool) (p : Prog) → Free p → u k p ≡ []) → (l : Layer)
+        → front_block_step (front_blocks agent) (map-Prog Prog Way Fronted Fronted (fronted fs (front_blocks agent)) way_fold l) ≡ false
+        → blocks_step agent values u higher l ≡ []
+    none_step u k h Nil x = refl
+    none_step u k h (Act action args) x = refl
+    none_step u k h (Test c) x = refl
+    none_step u k h (Seq p q) x =
+        let skip = ap (λ (r : Front). r.skip) (front-alike (front_blocks agent) p) in
+        none_both (u k p) (if (front agent p).skip then u k q else [])
+        (h k p (neither_first (has_front_block agent p) ((fronted fs (front_blocks agent) p).front.skip && has_front_block agent q) x))
+        (none_if (front agent p).skip (u k q)
+        (λ t. h k q (second_free (has_front_block agent p) (fronted fs (front_blocks agent) p).front.skip (has_front_block agent q) x (skip ∙ t))))
+    none_step u k h (Choice p q) x = none_both (u k p) (u k q) (h k p (neither_first (has_front_block agent p) (has_front_block agent q) x)) (h k q (neither_second (has_front_block agent p) (has_front_block agent q) x))
+    none_step u k h (Pick y sort p) x = none_among (λ c. u k (put_arg p y c)) (constants agent sort) (λ c. h k (put_arg p y c) (put_block p y c ∙ x))
+    none_step u k h (Star p) x = h k p x
+    none_step u k h (If c p q) x = none_both (u k p) (u k q) (h k p (neither_first (has_front_block agent p) (has_front_block agent q) x)) (h k q (neither_second (has_front_block agent p) (has_front_block agent q) x))
+    none_step u k h (While c p) x = h k p x
+    none_step u k h (Conc p q) x = none_both (u k p) (u k q) (h k p (neither_first (has_front_block agent p) (has_front_block agent q) x)) (h k q (neither_second (has_front_block agent p) (has_front_block agent q) x))
+    none_step u k h (Prio p q) x = none_both (u true p) (u k q) (h true p (neither_first (has_front_block agent p) (has_front_block agent q) x)) (h k q (neither_second (has_front_block agent p) (has_front_block agent q) x))
+    none_step u k h (Cstar p) x = h k p x
+    none_step u k h (Call item args) x = h k (body_of agent item args) (body_block item args (slice_get agent.procs item) refl x)
+    none_step u k h (Search depth fuel p) x = absurd (cc)
+    none_step u k h (Follow depth fuel p rest) x = absurd (cc)
+
+    none_to : (n : ℕ) (higher : Bool) (p : Prog) → Free p → blocks_to agent values n higher p ≡ []
+    none_to zero k p x = refl
+    none_to (suc n) k p x =
+        none_step (blocks_to agent values n) k (none_to n) (out-Prog p) (sym (ap (λ (f : Fronted). f.block) (fronted-by p (out-Prog p) refl)) ∙ x)
+
+  -- where no block stands at the front, none is reached without a step
+  pub none_reached : (values : Values) (p : Prog) → has_front_block agent p ≡ false → reached_blocks agent values p ≡ []
+  none_reached values p x = none_to values (front agent p).height false p x
 
   not_so : (b : Bool) → not b ≡ true → b ≡ false
   not_so true e = sym e

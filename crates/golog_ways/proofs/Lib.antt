@@ -1,6 +1,7 @@
 pub mod Acting
 pub mod AllFronts
 pub mod BlockParts
+pub mod Blockless
 pub mod ClosedConds
 pub mod Closing
 pub mod EndSteps
@@ -11,6 +12,7 @@ pub mod FrontBlocks
 pub mod FrontLefts
 pub mod FrontSteps
 pub mod FrontsGiven
+pub mod GoingThrough
 pub mod Holding
 pub mod InWorlds
 pub mod Lackings
@@ -22,6 +24,8 @@ pub mod PlainSteps
 pub mod Preconditions
 pub mod PutTruth
 pub mod ReachSteps
+pub mod SearchedWays
 pub mod Some
 pub mod Steps
 pub mod WellFormedFits
+pub mod Within

@@ -1,9 +1,11 @@
 -- Programs with a search block at their front, where they may take a step of the block first.
-use Rattle.std.specs.Prelude.{ℕ, zero, suc, Bool, true, false, ◌&&◌, ◌||◌, List, length, map}
+use Rattle.std.specs.Prelude.{◌≡◌, ℕ, zero, suc, Bool, true, false, ◌&&◌, ◌||◌, List, [], length, map}
 use Rattle.golog_tree.specs.declared.agent.Agent.{Agent}
 use Rattle.golog_tree.specs.declared.prog.Prog.{Prog}
 use Rattle.golog_tree.specs.declared.prog.Prog.TheOpen.{Prog-F, Nil, Act, Test, Seq, Choice, Pick, Star, If, While, Conc, Prio, Cstar, Call, Search, Follow}
 use Rattle.golog_tree.specs.declared.prog.Prog.TheFolds.{fold-Prog, map-Prog}
+use Rattle.golog_semantics.specs.Truth.{Values}
+use Rattle.golog_semantics.specs.Heavy.{front_blocks as reached_blocks}
 use Rattle.golog_semantics.specs.Guarded.{Front, no_front, front_step, proc_fronts}
 use Rattle.golog_semantics.specs.BlockFree.{block_at}
 
@@ -56,3 +58,9 @@ front_blocks agent = front_blocks_to (length agent.procs) agent
 -- a search block stands at the front of the program, or of a procedure that it may call without a step
 abbrev pub has_front_block : Agent → Prog → Bool
 has_front_block agent p = (fronted (proc_fronts agent) (front_blocks agent) p).block
+
+-- where no block stands at the front, no block is reached without a step, so none can want more than its fuel
+abbrev pub NoneIsReached : Type 0
+NoneIsReached =
+    (agent : Agent) (values : Values) (p : Prog)
+    → has_front_block agent p ≡ false → reached_blocks agent values p ≡ []

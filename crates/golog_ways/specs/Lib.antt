@@ -12,3 +12,4 @@ pub mod Lefts
 pub mod Precondition
 pub mod Puts
 pub mod Reach
+pub mod Searched
