@@ -13,7 +13,7 @@ use Rattle.golog_semantics.specs.declared.journal.Entry.{Entry}
 use Rattle.golog_semantics.specs.declared.journal.Entry.TheVariants.{Do, Test, Exo, Sense, Rest, Close, End}
 use Rattle.golog_semantics.specs.Values.{fluent_sort}
 use Rattle.golog_semantics.specs.Ways.{is_empty}
-use Rattle.golog_semantics.specs.Journal.{Journal, Command, command_at, commands, device_of, is_carried_by, is_held, is_open, is_outstanding, is_result_of, is_sensing, is_settled, is_waiting_for, outstanding, sensed}
+use Rattle.golog_semantics.specs.Journal.{Journal, Command, command_at, commands, device_of, is_carried_by, is_held, is_open, is_outstanding, is_result_of, is_sensing, is_settled, is_waiting_for, outstanding_commands, sensed}
 use Rattle.golog_semantics.specs.Online.{is_result, keeps_place, told_taken}
 use Rattle.golog_semantics.specs.Answer.{is_unanswered}
 use Rattle.golog_semantics.specs.OneMore.{and_then, new_command}
@@ -92,10 +92,10 @@ first-passes p c (x ∷ xs) h = go (p x) refl (first-passes p c xs)
 module _ (agent : Agent) (journal : Journal) where
   -- ---- what is waited for
 
-  none-waited : (d : ℕ) → outstanding agent d journal ≡ [] → is_waiting_for agent journal d ≡ false
+  none-waited : (d : ℕ) → outstanding_commands agent d journal ≡ [] → is_waiting_for agent journal d ≡ false
   none-waited d none = ap (λ cs. not (is_empty (filter (λ c. is_held agent c.action) cs))) none
 
-  waited : (d : ℕ) (c : Command) → outstanding agent d journal ≡ c ∷ [] → is_waiting_for agent journal d ≡ true
+  waited : (d : ℕ) (c : Command) → outstanding_commands agent d journal ≡ c ∷ [] → is_waiting_for agent journal d ≡ true
   waited d c own =
       let out = first-passes (is_outstanding agent journal) c (commands agent d journal) own in
       let senses = (and_parts (is_sensing agent c.action) _ out).0 in
@@ -112,11 +112,11 @@ module _ (agent : Agent) (journal : Journal) where
       (one-any (is_waiting_for agent journal) a.device (waited a.device one.command one.own) 0 (length agent.devices) (omega arith)
       (let k = one.is_device in omega (arith, k)))
 
-  pub none-awaited : (o : Option Awaited) → AwaitsFrom agent journal o → is_settled agent journal ≡ true → (d : ℕ) → outstanding agent d journal ≡ []
+  pub none-awaited : (o : Option Awaited) → AwaitsFrom agent journal o → is_settled agent journal ≡ true → (d : ℕ) → outstanding_commands agent d journal ≡ []
   none-awaited None none h d = none d
   none-awaited (Some a) one h d = absurd (let k = sym h ∙ settled-by (Some a) one in cc)
 
-  pub unanswered-none : ((d : ℕ) → outstanding agent d journal ≡ []) → is_unanswered agent journal ≡ false
+  pub unanswered-none : ((d : ℕ) → outstanding_commands agent d journal ≡ []) → is_unanswered agent journal ≡ false
   unanswered-none none =
       none-any (λ d. not (is_open d journal) && is_waiting_for agent journal d) _
       (λ d. ap (λ b. not (is_open d journal) && b) (none-waited d (none d)) ∙ and-false (not (is_open d journal)))
@@ -138,9 +138,9 @@ module _ (agent : Agent) (journal : Journal) where
   -- ---- a result
 
   abbrev firsts : ℕ → ℕ → ℕ → Bool
-  firsts p at f = option_map_or (is_result agent journal at f) (slice_get (outstanding agent p journal) 0) false
+  firsts p at f = option_map_or (is_result agent journal at f) (slice_get (outstanding_commands agent p journal) 0) false
 
-  place-none : (p at f : ℕ) → outstanding agent p journal ≡ [] → firsts p at f ≡ false
+  place-none : (p at f : ℕ) → outstanding_commands agent p journal ≡ [] → firsts p at f ≡ false
   place-none p at f none = ap (λ cs. option_map_or (is_result agent journal at f) (slice_get cs 0) false) none
 
   place-own : (p at f : ℕ) (a : Awaited) (one : IsAwaited agent journal a) → a.device ≡ p → firsts p at f ≡ ((a.place == at) && (a.fluent == f))
@@ -205,7 +205,7 @@ module _ (agent : Agent) (journal : Journal) where
 
   -- ---- the first commands of a device
 
-  among-none : (d n : ℕ) → outstanding agent d journal ≡ [] → list_any (is_outstanding agent journal) (take n (commands agent d journal)) ≡ false
+  among-none : (d n : ℕ) → outstanding_commands agent d journal ≡ [] → list_any (is_outstanding agent journal) (take n (commands agent d journal)) ≡ false
   among-none d n none = any-take (is_outstanding agent journal) n (commands agent d journal) (none-of-filter (is_outstanding agent journal) (commands agent d journal) none)
 
   abbrev pub among : Option Awaited → ℕ → ℕ → ℕ → Bool
@@ -257,10 +257,10 @@ module _ (agent : Agent) (journal : Journal) (e : Entry) where
   abbrev more : ℕ → List Command
   more d = filter (is_outstanding agent after) (new_command agent journal e d)
 
-  grows : (d : ℕ) → outstanding agent d after ≡ filter (λ c. not (is_result_of c.place e)) (outstanding agent d journal) ++ more d
+  grows : (d : ℕ) → outstanding_commands agent d after ≡ filter (λ c. not (is_result_of c.place e)) (outstanding_commands agent d journal) ++ more d
   grows d = (commands_grow agent journal e d).waiting
 
-  grows-not : (d : ℕ) → outstanding agent d journal ≡ [] → new_command agent journal e d ≡ [] → outstanding agent d after ≡ []
+  grows-not : (d : ℕ) → outstanding_commands agent d journal ≡ [] → new_command agent journal e d ≡ [] → outstanding_commands agent d after ≡ []
   grows-not d none unsent =
       grows d ∙ ap (λ cs. filter (λ c. not (is_result_of c.place e)) cs ++ more d) none ∙ ap (filter (is_outstanding agent after)) unsent
 
@@ -269,12 +269,12 @@ module _ (agent : Agent) (journal : Journal) (e : Entry) where
     kept [] = refl
     kept (c ∷ cs) = ap (λ b. if not b then c ∷ filter (λ c. not (is_result_of c.place e)) cs else filter (λ c. not (is_result_of c.place e)) cs) (no_result c) ∙ ap (λ ys. c ∷ ys) (kept cs)
 
-    stays : (d : ℕ) → outstanding agent d after ≡ outstanding agent d journal
+    stays : (d : ℕ) → outstanding_commands agent d after ≡ outstanding_commands agent d journal
     stays d =
         grows d
-        ∙ ap (λ cs. filter (λ c. not (is_result_of c.place e)) (outstanding agent d journal) ++ filter (is_outstanding agent after) cs) (none d)
-        ∙ append-nil (filter (λ c. not (is_result_of c.place e)) (outstanding agent d journal))
-        ∙ kept (outstanding agent d journal)
+        ∙ ap (λ cs. filter (λ c. not (is_result_of c.place e)) (outstanding_commands agent d journal) ++ filter (is_outstanding agent after) cs) (none d)
+        ∙ append-nil (filter (λ c. not (is_result_of c.place e)) (outstanding_commands agent d journal))
+        ∙ kept (outstanding_commands agent d journal)
 
     same-commands : (d : ℕ) → commands agent d after ≡ commands agent d journal
     same-commands d =
@@ -298,19 +298,19 @@ module _ (agent : Agent) (journal : Journal) (e : Entry) where
 
 -- a result is the one that is to come
 pub result-comes : (agent : Agent) (journal : Journal) (p at f v : ℕ) → ItsResult agent journal p at
-    → (d : ℕ) → outstanding agent d (and_then journal (Sense p at f v)) ≡ []
+    → (d : ℕ) → outstanding_commands agent d (and_then journal (Sense p at f v)) ≡ []
 result-comes agent journal p at f v r d =
     grows agent journal (Sense p at f v) d
-    ∙ append-nil (filter (λ c. not (at == c.place)) (outstanding agent d journal)) ∙ go (cases_eq d r.a.device)
+    ∙ append-nil (filter (λ c. not (at == c.place)) (outstanding_commands agent d journal)) ∙ go (cases_eq d r.a.device)
   where
-    go : (d ≡ r.a.device) ⊎ (d ≡ r.a.device → ⊥) → filter (λ c. not (at == c.place)) (outstanding agent d journal) ≡ []
+    go : (d ≡ r.a.device) ⊎ (d ≡ r.a.device → ⊥) → filter (λ c. not (at == c.place)) (outstanding_commands agent d journal) ≡ []
     go (inl e) =
-        ap (filter (λ (c : Command). not (at == c.place))) (ap (λ k. outstanding agent k journal) e ∙ r.is.own)
+        ap (filter (λ (c : Command). not (at == c.place))) (ap (λ k. outstanding_commands agent k journal) e ∙ r.is.own)
         ∙ filter-one (λ (c : Command). not (at == c.place)) r.is.command false (ap not (eq-eqb at r.is.command.place (sym (r.is.place_so ∙ r.place_so))))
     go (inr k) = ap (filter (λ (c : Command). not (at == c.place))) (r.is.others d k)
 
 -- an action: its result is to come where it senses and a device carries it out
-module _ (agent : Agent) (journal : Journal) (action : ℕ) (none : (d : ℕ) → outstanding agent d journal ≡ []) where
+module _ (agent : Agent) (journal : Journal) (action : ℕ) (none : (d : ℕ) → outstanding_commands agent d journal ≡ []) where
   abbrev c : Command
   c = record { place = length journal; action = action }
 
@@ -324,21 +324,21 @@ module _ (agent : Agent) (journal : Journal) (action : ℕ) (none : (d : ℕ) �
   carried : (d : ℕ) (o : Option ℕ) → device_of agent action ≡ o → is_carried_by agent d action ≡ option_map_or (λ k. k == d) o false
   carried d o h = ap (λ o. option_map_or (λ k. k == d) o false) h
 
-  pub asks-none : device_of agent action ≡ None → (d : ℕ) → outstanding agent d next ≡ []
+  pub asks-none : device_of agent action ≡ None → (d : ℕ) → outstanding_commands agent d next ≡ []
   asks-none h d = grows-not agent journal (Do action) d (none d) (new-if d false (carried d None h))
 
-  only-new : (d : ℕ) → outstanding agent d next ≡ filter (is_outstanding agent next) (new_command agent journal (Do action) d)
+  only-new : (d : ℕ) → outstanding_commands agent d next ≡ filter (is_outstanding agent next) (new_command agent journal (Do action) d)
   only-new d =
       grows agent journal (Do action) d
       ∙ ap (λ cs. filter (λ (x : Command). not false) cs ++ filter (is_outstanding agent next) (new_command agent journal (Do action) d)) (none d)
 
-  pub asks-nothing : sensed agent action ≡ None → (d : ℕ) → outstanding agent d next ≡ []
+  pub asks-nothing : sensed agent action ≡ None → (d : ℕ) → outstanding_commands agent d next ≡ []
   asks-nothing h d = go (is_carried_by agent d action) refl
     where
       out : is_outstanding agent next c ≡ false
       out = ap (λ o. is_some o && not (list_any (is_result_of (length journal)) next)) h
 
-      go : (b : Bool) → is_carried_by agent d action ≡ b → outstanding agent d next ≡ []
+      go : (b : Bool) → is_carried_by agent d action ≡ b → outstanding_commands agent d next ≡ []
       go true e = only-new d ∙ ap (filter (is_outstanding agent next)) (new-if d true e) ∙ filter-one (is_outstanding agent next) c false out
       go false e = only-new d ∙ ap (filter (is_outstanding agent next)) (new-if d false e)
 
@@ -382,7 +382,7 @@ module _ (agent : Agent) (journal : Journal) (action : ℕ) (none : (d : ℕ) �
           ∙ by-place 0 (length journal) journal (omega arith);
       come = none-later agent journal (Do action ∷ []) (commands agent device journal) (none-of-filter (is_outstanding agent journal) (commands agent device journal) (none device));
       own =
-          ap (λ k. outstanding agent k next) d ∙ only-new device ∙ ap (filter (is_outstanding agent next)) new
+          ap (λ k. outstanding_commands agent k next) d ∙ only-new device ∙ ap (filter (is_outstanding agent next)) new
           ∙ filter-one (is_outstanding agent next) c true out;
       others = λ k other.
           only-new k

@@ -10,7 +10,7 @@ use Rattle.golog_semantics.specs.Journal.{Journal}
 use Rattle.golog_semantics.specs.Progress.{left_after, values_after}
 use Rattle.golog_semantics.specs.Same.{same_run}
 use Rattle.golog_semantics.specs.Text.{Text, run_at, line_text}
-use Rattle.golog_semantics.specs.Online.{begun, fault_at, keeps_answer, keeps_close, keeps_step, label_of, same_line}
+use Rattle.golog_semantics.specs.Online.{run_begun, fault_at, keeps_answer, keeps_close, keeps_step, label_of, same_line}
 use Rattle.golog_replay.specs.declared.judged.Judged.TheVariants.{Broken, Kept}
 use Rattle.golog_replay.specs.Courses.{BreaksFirst, IsStep, JudgedIs, KeepsEarly}
 use Rattle.golog_replay.proofs.Faults.{breaks-answer, breaks-close, breaks-none, breaks-run, breaks-step, breaks-text}
@@ -25,7 +25,7 @@ module _ (agent : Agent) (journal : Journal) (runs : List PlacedRun) (e : Entry)
 
   -- a step
   module _ (step : Move) (is : IsStep agent journal V P e step) where
-    run-is : (b : Bool) → same_run (run_at runs (length journal)) step.run ≡ b → same_run (run_at runs (length journal)) (begun agent journal V P e) ≡ b
+    run-is : (b : Bool) → same_run (run_at runs (length journal)) step.run ≡ b → same_run (run_at runs (length journal)) (run_begun agent journal V P e) ≡ b
     run-is b h = ap (same_run (run_at runs (length journal))) (begins agent journal V P e step is) ∙ h
 
     pub step-keeps : same_run (run_at runs (length journal)) step.run ≡ true → JudgedIs agent journal runs e (Kept (Some step.left))
@@ -51,7 +51,7 @@ module _ (agent : Agent) (journal : Journal) (runs : List PlacedRun) (e : Entry)
 
   -- an entry that is no step
   module _ (none : label_of e ≡ None) where
-    no-run : (b : Bool) → same_run (run_at runs (length journal)) None ≡ b → same_run (run_at runs (length journal)) (begun agent journal V P e) ≡ b
+    no-run : (b : Bool) → same_run (run_at runs (length journal)) None ≡ b → same_run (run_at runs (length journal)) (run_begun agent journal V P e) ≡ b
     no-run b h = ap (same_run (run_at runs (length journal))) (begins-none agent journal V P e none) ∙ h
 
     steps-so : keeps_step agent journal V P e ≡ true

@@ -9,4 +9,3 @@ mod Ends
 mod Labels
 mod Texts
 mod Answered
-mod Runs

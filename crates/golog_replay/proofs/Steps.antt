@@ -17,7 +17,7 @@ use Rattle.golog_semantics.specs.Journal.{Journal, count, is_full, is_settled, l
 use Rattle.golog_semantics.specs.Progress.{left_after, left_at, left_by, values_after}
 use Rattle.golog_semantics.specs.Same.{same_label, same_run}
 use Rattle.golog_semantics.specs.Search.{final, nest_limit}
-use Rattle.golog_semantics.specs.Online.{begun, is_first, keeps_answer, keeps_close, keeps_run, keeps_step, label_of, may_step, run_of}
+use Rattle.golog_semantics.specs.Online.{run_begun, is_first, keeps_answer, keeps_close, keeps_run, keeps_step, label_of, may_step, run_of}
 use Rattle.golog_semantics.specs.ProgFits.{fits}
 use Rattle.golog_semantics.specs.WellFormed.{WellFormed}
 use Rattle.golog_semantics.proofs.LeftFits.{left_after-fits}
@@ -157,11 +157,11 @@ module _ (agent : Agent) (journal : Journal) (values : List ℕ) (p : Prog) wher
   close-other (Close poster reason taken) label h = absurd (cc)
   close-other (End answer) label h = absurd (cc)
 
-  pub begins : (e : Entry) (step : Move) → IsStep agent journal values p e step → begun agent journal values p e ≡ step.run
+  pub begins : (e : Entry) (step : Move) → IsStep agent journal values p e step → run_begun agent journal values p e ≡ step.run
   begins e step is =
       ap (λ o. option_map_or (λ label. run_of agent journal (moves agent values Must p)) o None) is.is_step ∙ ap (run_of agent journal) is.first
 
-  pub begins-none : (e : Entry) → label_of e ≡ None → begun agent journal values p e ≡ None
+  pub begins-none : (e : Entry) → label_of e ≡ None → run_begun agent journal values p e ≡ None
   begins-none e h = ap (λ o. option_map_or (λ label. run_of agent journal (moves agent values Must p)) o None) h
 
   pub no-step-keeps : (e : Entry) → label_of e ≡ None → keeps_step agent journal values p e ≡ true

@@ -17,7 +17,7 @@ use Rattle.golog_semantics.specs.Execution.{IsOnlineRun, status_of}
 use Rattle.golog_semantics.specs.FaultLaws.{AreItsLines}
 use Rattle.golog_semantics.specs.Journal.{Journal}
 use Rattle.golog_semantics.specs.Online.{IsOnline, fault_of, same_line}
-use Rattle.golog_semantics.specs.Reports.{IsReport, Spells}
+use Rattle.golog_semantics.specs.Reports.{IsReport, SpellsReport}
 use Rattle.golog_semantics.specs.Same.{same_values}
 use Rattle.golog_semantics.specs.Text.{Text, at_each, line_text, report_text, with_line_feed}
 use Rattle.golog_semantics.specs.Ways.{is_empty}

@@ -6,7 +6,7 @@ use Rattle.golog_semantics.specs.declared.journal.Entry.TheVariants.{End}
 use Rattle.golog_semantics.specs.declared.journal.Report.{Report}
 use Rattle.golog_semantics.specs.Execution.{IsOnlineRun, status_of}
 use Rattle.golog_semantics.specs.Online.{IsOnline}
-use Rattle.golog_semantics.specs.Reports.{Spells}
+use Rattle.golog_semantics.specs.Reports.{SpellsReport}
 use Rattle.golog_semantics.specs.Text.{Text}
 use Rattle.golog_semantics.specs.WellFormed.{WellFormed}
 use Rattle.golog_text.specs.Reads.{journal_of}
@@ -18,8 +18,8 @@ use Rattle.golog_replay.specs.Verdicts.{VerdictIs}
 pub record ReplaysOnline (agent : Agent) (bytes : Text) (report : Report) (answer : Answer) : Type 0 where
   pub run : VerdictIs agent bytes report (Online answer) → IsOnlineRun agent bytes (status_of answer)
   pub online : VerdictIs agent bytes report (Online answer) → IsOnline agent report
-  pub spelled : VerdictIs agent bytes report (Online answer) → Spells agent bytes report
-  pub verdict : Spells agent bytes report → IsOnline agent report → Contains report.entries (End answer)
+  pub spelled : VerdictIs agent bytes report (Online answer) → SpellsReport agent bytes report
+  pub verdict : SpellsReport agent bytes report → IsOnline agent report → Contains report.entries (End answer)
       → VerdictIs agent bytes report (Online answer)
 
 -- so it is for each report that was read

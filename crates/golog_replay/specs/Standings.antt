@@ -7,7 +7,7 @@ use Rattle.golog_semantics.specs.declared.journal.Entry.{Entry}
 use Rattle.golog_semantics.specs.declared.journal.Entry.TheVariants.{End, Rest, Sense}
 use Rattle.golog_semantics.specs.declared.journal.Answer.{Answer}
 use Rattle.golog_semantics.specs.Ways.{is_empty}
-use Rattle.golog_semantics.specs.Journal.{Journal, Command, commands, count, has_end, is_open, is_outstanding, is_result_of, last_of, outstanding, posted, sensed}
+use Rattle.golog_semantics.specs.Journal.{Journal, Command, commands, count, has_end, is_open, is_outstanding, is_result_of, last_of, outstanding_commands, posted, sensed}
 use Rattle.golog_semantics.specs.Online.{told_taken}
 use Rattle.golog_journal.specs.Agents.{ServesDevices}
 use Rattle.golog_journal.specs.Tallies.{rested_after}
@@ -79,13 +79,13 @@ module _ (agent : Agent) (journal : Journal) where
     pub last : commands agent a.device journal ≡ earlier ++ command ∷ []
     pub first : filter (λ c. nat_lt c.place a.place) (commands agent a.device journal) ≡ earlier
     pub come : list_any (is_outstanding agent journal) earlier ≡ false
-    pub own : outstanding agent a.device journal ≡ command ∷ []
-    pub others : (d : ℕ) → d ≢ a.device → outstanding agent d journal ≡ []
+    pub own : outstanding_commands agent a.device journal ≡ command ∷ []
+    pub others : (d : ℕ) → d ≢ a.device → outstanding_commands agent d journal ≡ []
     pub before : a.place < length journal
 
   -- the command whose result is to come, if one is
   abbrev pub AwaitsFrom : Option Awaited → Type 0
-  AwaitsFrom None = (d : ℕ) → outstanding agent d journal ≡ []
+  AwaitsFrom None = (d : ℕ) → outstanding_commands agent d journal ≡ []
   AwaitsFrom (Some a) = IsAwaited a
 
   -- all that is kept is so

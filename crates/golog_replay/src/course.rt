@@ -21,6 +21,7 @@ use golog_base::{List, NoMemory};
 use golog_progress::{State, start};
 use golog_search::{Blocked, Decision, decide_unbounded, heavy};
 use golog_semantics::{Answer, Entry, Move, PlacedRun, Why};
+use golog_text::run_here;
 use golog_tree::{Agent, Label, Prog, copy_prog};
 use std::alloc::Global;
 
@@ -80,30 +81,13 @@ fn are_same_labels(one: &[Label], other: &[Label]) -> bool
     rest.is_empty()
 }
 
-/// The run that is printed at a place, of those from the place on.
-fn run_here(runs: &[PlacedRun], place: usize) -> Option<&[Label]>
-    requires { AreFrom place runs.now }
-    ensures { option_copied result ≡ run_at runs.now place }
-{
-    match runs.first() {
-        Some(run) => {
-            if run.place as usize == place {
-                Some(run.labels.as_slice())
-            } else {
-                None
-            }
-        }
-        None => None,
-    }
-}
-
 /// Whether the run that is printed is the one that is begun, or there is neither.
-fn is_same_run(printed: Option<&[Label]>, begun: &Option<List<Label>>) -> bool
+fn is_same_run(printed: Option<&List<Label>>, begun: &Option<List<Label>>) -> bool
     ensures { result ≡ same_run (option_copied printed.entry) begun.now }
 {
     match printed {
         Some(printed) => match begun {
-            Some(begun) => are_same_labels(printed, begun.as_slice()),
+            Some(begun) => are_same_labels(printed.as_slice(), begun.as_slice()),
             None => false,
         },
         None => match begun {

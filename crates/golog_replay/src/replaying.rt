@@ -16,10 +16,10 @@ use crate::course::Course;
 use crate::judged::Judged;
 use crate::lines::Lines;
 use crate::verdict::Verdict;
-use golog_base::{Bytes, NoMemory};
+use golog_base::NoMemory;
 use golog_progress::State;
 use golog_semantics::{Entry, PlacedRun, Report, Why};
-use golog_text::{runs_behind, write_line};
+use golog_text::{Line, run_here, runs_behind};
 use golog_tree::{Agent, Prog};
 use std::alloc::Global;
 
@@ -27,7 +27,7 @@ use std::alloc::Global;
 /// those from its place on.
 fn is_text(
     line: &[u8],
-    text: &mut Bytes,
+    text: &mut Line,
     agent: &Agent,
     state: &State,
     runs: &[PlacedRun],
@@ -40,17 +40,21 @@ fn is_text(
     requires in_order { AreFrom (length before.now) runs.now }
     requires runs { AreNamed agent.now runs.now }
     requires entry { IsNamed agent.now entry }
+    requires short { length before.now < 1048576 }
     ensures { IfOk result (λ b. b ≡ same_values line.now (line_text agent.now runs.now before.now entry)) }
 {
-    text.clear();
-    write_line(text, agent, state.values(), runs, before.len(), entry)?;
-    Ok(line == text.as_slice())
+    let run = run_here(runs, before.len());
+    let filled = text.try_fill(agent, before.len() as u32, entry, state, run)?;
+    match filled.split_last() {
+        Some((_, own)) => Ok(line == own),
+        None => Ok(false),
+    }
 }
 
 /// Whether the next line is the text of an entry.
 fn is_spelled(
     lines: &mut Lines<'_>,
-    text: &mut Bytes,
+    text: &mut Line,
     agent: &Agent,
     state: &State,
     runs: &[PlacedRun],
@@ -63,6 +67,7 @@ fn is_spelled(
     requires in_order { AreFrom (length before.now) runs.now }
     requires runs { AreNamed agent.now runs.now }
     requires entry { IsNamed agent.now entry }
+    requires short { length before.now < 1048576 }
     ensures lines { IfOk result (λ _. lines.new ≡ drop 1 lines.old) }
     ensures same { IfOk result (λ b. b ≡ same_line (slice_get lines.old 0) (line_text agent.now runs.now before.now entry)) }
 {
@@ -77,7 +82,7 @@ fn is_spelled(
 fn take_kept(
     course: &mut Course,
     lines: &mut Lines<'_>,
-    text: &mut Bytes,
+    text: &mut Line,
     agent: &Agent,
     runs: &[PlacedRun],
     before: &[Entry],
@@ -114,7 +119,7 @@ fn take_kept(
 fn take(
     course: &mut Course,
     lines: &mut Lines<'_>,
-    text: &mut Bytes,
+    text: &mut Line,
     alloc: Global,
     agent: &Agent,
     runs: &[PlacedRun],
@@ -168,9 +173,9 @@ pub fn replay(
     ensures { IfOk result (VerdictIs agent.now bytes.now report.now) }
 {
     let entries = report.entries.as_slice();
+    let mut text = Line::new(alloc)?;
     let mut course = Course::new(alloc, agent)?;
     let mut lines = Lines::of(bytes);
-    let mut text = Bytes::new(alloc);
     let mut runs = report.runs.as_slice();
     for (place, entry) in entries.iter().enumerate() {
         let before = &entries[..place];

@@ -3,7 +3,7 @@ ghost use Rattle.std.specs.Prelude.{◌≡◌, ◌==◌, ◌<◌, ◌≤◌, ℕ
 ghost use Rattle.std.specs.List.{list_any};
 ghost use Rattle.std.specs.Option.{option_map_or};
 ghost use Rattle.golog_semantics.specs.declared.journal.Entry.TheVariants.{Do, End};
-ghost use Rattle.golog_semantics.specs.Journal.{Journal, commands, has_end, is_counted as counts, is_full as is_full_in, is_open as is_open_in, is_outstanding, is_quiet as is_quiet_in, is_settled as is_settled_in, posted, poster_of as posted_by};
+ghost use Rattle.golog_semantics.specs.Journal.{Journal, commands, has_end, is_full as is_full_in, is_open as is_open_in, is_outstanding, is_quiet as is_quiet_in, is_settled as is_settled_in, posted, poster_of as posted_by};
 ghost use Rattle.golog_semantics.specs.Ways.{is_empty};
 ghost use Rattle.golog_semantics.specs.Answer.{is_unanswered as is_unanswered_in};
 ghost use Rattle.golog_semantics.specs.Online.{is_declared, is_whole as is_whole_in, keeps_after as keeps_after_in, keeps_close as keeps_close_in, keeps_place as keeps_place_in, keeps_poster as keeps_poster_in, keeps_taken as keeps_taken_in, may_close as may_close_in, may_have_taken as may_have_taken_in};
@@ -14,7 +14,7 @@ ghost use Rattle.golog_replay.specs.Standings.{AreEarlier, AreTracked, AwaitsFro
 
 use crate::tracked::{Tracked, all_quiet, put, some_open, tracked_at, untouched};
 use golog_base::NoMemory;
-use golog_journal::{AgentFacts, LIMIT};
+use golog_journal::{AgentFacts, LIMIT, is_counted, poster_of};
 use golog_semantics::{Answer, Entry, Reason};
 use golog_tree::Agent;
 use std::alloc::Global;
@@ -373,13 +373,6 @@ impl Standing {
     }
 }
 
-/// Whether the entry counts.
-fn is_counted(entry: Entry) -> bool
-    ensures { result ≡ counts entry }
-{
-    !matches!(entry, Entry::Close { .. } | Entry::End { .. })
-}
-
 /// The answer of the end after one more entry.
 fn ended_after(ended: Option<Answer>, entry: Entry) -> Option<Answer>
     ensures { (journal : Journal) → EndsBy journal ended → EndsBy (journal ++ entry ∷ []) result }
@@ -387,19 +380,6 @@ fn ended_after(ended: Option<Answer>, entry: Entry) -> Option<Answer>
     match entry {
         Entry::End { answer } => Some(answer),
         _ => ended,
-    }
-}
-
-/// The device that an entry is of, if it is of one.
-fn poster_of(entry: Entry) -> Option<u8>
-    ensures { result ≡ posted_by entry }
-{
-    match entry {
-        Entry::Exo { poster, .. }
-        | Entry::Sense { poster, .. }
-        | Entry::Rest { poster, .. }
-        | Entry::Close { poster, .. } => Some(poster),
-        Entry::Do { .. } | Entry::Test | Entry::End { .. } => None,
     }
 }
 

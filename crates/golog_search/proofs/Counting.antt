@@ -13,9 +13,7 @@ use Rattle.golog_semantics.specs.Values.{after}
 use Rattle.golog_semantics.specs.Ways.{is_empty}
 use Rattle.golog_semantics.specs.Search.{Run, best, is_followed, plain_ways}
 use Rattle.golog_semantics.specs.Blocks.{State, distinct, has_path, is_cut, level, meets_cut, next_states, option_length, same_state, work}
-use Rattle.golog_search.specs.declared.level.Level.{Level}
-use Rattle.golog_search.specs.declared.reached.Reached.{Reached}
-use Rattle.golog_search.specs.Levels.{is_there, reached_by, state_of}
+use Rattle.golog_search.specs.Levels.{Level, Reached, is_there, reached_by, state_of}
 use Rattle.golog_search.proofs.Seen.{count_before, cut_before, level_at}
 use Rattle.golog_search.proofs.FirstRuns.{same_state-eq}
 use Rattle.golog_search.proofs.LevelParts.{any-append, cut_at, cuts, fresh, next_level-parts, next_level-states, or-assoc, or-false, steps_all, steps_from}

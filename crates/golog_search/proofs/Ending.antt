@@ -10,8 +10,7 @@ use Rattle.golog_semantics.specs.declared.Mode.{Mode}
 use Rattle.golog_semantics.specs.Truth.{Values}
 use Rattle.golog_semantics.specs.Search.{Run, best_from, first_of, runs}
 use Rattle.golog_ways.specs.First.{head_of}
-use Rattle.golog_search.specs.declared.reached.Reached.{Reached}
-use Rattle.golog_search.specs.Levels.{ends_at, state_of}
+use Rattle.golog_search.specs.Levels.{Reached, ends_at, state_of}
 use Rattle.golog_search.proofs.Seen.{level_at}
 use Rattle.golog_search.proofs.FirstRuns.{first_in, first_run, first-through, led_to, levels-led, run_through, to_place}
 

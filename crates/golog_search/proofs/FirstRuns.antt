@@ -16,9 +16,7 @@ use Rattle.golog_semantics.proofs.Levels.{same_values-eq}
 use Rattle.golog_semantics.proofs.SameLaws.{same_prog-eq}
 use Rattle.golog_semantics.proofs.Words.{and-left, and-right}
 use Rattle.golog_ways.specs.First.{head_of}
-use Rattle.golog_search.specs.declared.level.Level.{Level}
-use Rattle.golog_search.specs.declared.reached.Reached.{Reached}
-use Rattle.golog_search.specs.Levels.{is_there, reached_by, run_to, start_of, state_of}
+use Rattle.golog_search.specs.Levels.{Level, Reached, is_there, reached_by, run_to, start_of, state_of}
 use Rattle.golog_search.proofs.Seen.{level_at, levels_before}
 use Rattle.golog_search.proofs.LevelParts.{fresh, next_level-parts, steps_all, steps_from}
 use Rattle.golog_search.proofs.RunsTo.{run_to-some}

@@ -17,7 +17,7 @@ use Rattle.golog_semantics.proofs.BlocksFit.{each-contains}
 use Rattle.golog_semantics.proofs.StepsKeep.{OfLefts}
 use Rattle.golog_semantics.proofs.NoBlocks.{blockless, not_so}
 use Rattle.golog_search.specs.Laws.{IsBlocklessStep}
-use Rattle.golog_search.proofs.Blockless.{P, lefts_blockless}
+use Rattle.golog_ways.proofs.Blockless.{P, lefts_blockless}
 use Rattle.golog_search.proofs.Runless.{BeginsNone, steps_runless}
 
 module _ (agent : Agent) where

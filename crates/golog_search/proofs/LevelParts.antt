@@ -9,9 +9,7 @@ use Rattle.golog_semantics.specs.Truth.{Values}
 use Rattle.golog_semantics.specs.Values.{after}
 use Rattle.golog_semantics.specs.Search.{is_followed, plain_ways}
 use Rattle.golog_semantics.specs.Blocks.{State, distinct, next_states, same_state}
-use Rattle.golog_search.specs.declared.level.Level.{Level}
-use Rattle.golog_search.specs.declared.reached.Reached.{Reached}
-use Rattle.golog_search.specs.Levels.{is_there, next_level, nothing_reached, reached_by, state_of, with_state, with_steps, with_way}
+use Rattle.golog_search.specs.Levels.{Level, Reached, is_there, next_level, nothing_reached, reached_by, state_of, with_state, with_steps, with_way}
 
 append-none : {A : Type 0} (xs : List A) → xs ++ [] ≡ xs
 append-none [] = refl
@@ -37,7 +35,7 @@ pub any-append : {A : Type 0} (f : A → Bool) (xs ys : List A) → list_any f (
 any-append f [] ys = refl
 any-append f (x ∷ xs) ys = ap (λ b. f x || b) (any-append f xs ys) ∙ sym (or-assoc (f x) (list_any f xs) (list_any f ys))
 
-map-append : {A B : Type 0} (f : A → B) (xs ys : List A) → map f (xs ++ ys) ≡ map f xs ++ map f ys
+pub map-append : {A B : Type 0} (f : A → B) (xs ys : List A) → map f (xs ++ ys) ≡ map f xs ++ map f ys
 map-append f [] ys = refl
 map-append f (x ∷ xs) ys = ap (λ zs. f x ∷ zs) (map-append f xs ys)
 

@@ -11,10 +11,9 @@ use Rattle.golog_semantics.specs.SortLaws.{AreInSorts}
 use Rattle.golog_semantics.specs.WellFormed.{WellFormed}
 use Rattle.golog_semantics.proofs.ByParts.{OfEach}
 use Rattle.golog_semantics.proofs.CausesKeep.{steps_stay_in_sorts}
-use Rattle.golog_search.specs.declared.level.Level.{Level}
-use Rattle.golog_search.specs.declared.reached.Reached.{Reached}
-use Rattle.golog_search.specs.Levels.{AreSearched, IsSearched, is_there, next_level, nothing_reached, reached_by, state_of, with_state, with_steps, with_way}
-use Rattle.golog_search.proofs.SearchedWays.{WayStays, ways_stay}
+use Rattle.golog_ways.specs.Searched.{IsSearched}
+use Rattle.golog_search.specs.Levels.{AreSearched, Level, Reached, is_there, next_level, nothing_reached, reached_by, state_of, with_state, with_steps, with_way}
+use Rattle.golog_ways.proofs.SearchedWays.{WayStays, ways_stay}
 
 module _ (agent : Agent) (formed : WellFormed agent) where
   abbrev Stays : Reached → Type 0

@@ -1,19 +1,15 @@
-pub mod Blockless
 pub mod Runless
 pub mod LeftBlockless
 pub mod Answering
-pub mod SameArguments
-pub mod SamePrograms
-pub mod SearchedWays
 pub mod LevelsStay
 pub mod LevelParts
+pub mod Numbering
 pub mod RunsTo
 pub mod Seen
 pub mod FirstRuns
 pub mod Ending
 pub mod Counting
 pub mod Searching
-pub mod GoingThrough
 pub mod BlockSteps
 pub mod CertainNear
 pub mod FirstSteps
@@ -29,3 +25,4 @@ pub mod InWorlds
 pub mod FoundInWorlds
 pub mod RunsKept
 pub mod Steadies
+pub mod ToldRuns

@@ -21,7 +21,7 @@ use Rattle.golog_semantics.proofs.ByParts.{OfEach}
 use Rattle.golog_semantics.proofs.StepsFit.{each-append, each-flat}
 use Rattle.golog_semantics.proofs.StepsKeep.{InParts}
 use Rattle.golog_semantics.proofs.NoBlocks.{blockless}
-use Rattle.golog_search.proofs.Blockless.{P, blockless_parts}
+use Rattle.golog_ways.proofs.Blockless.{P, blockless_parts}
 
 abbrev pub BeginsNone : Move → Type 0
 BeginsNone move = move.run ≡ None

@@ -1,11 +1,11 @@
 -- The run that led to a state, through the levels before.
-use Rattle.std.proofs.Common.{◌≡◌, ℕ, zero, suc, ◌+◌, List, [], ◌∷◌, ◌++◌, length, take, get_or, Some, None, refl, sym, ap, ◌∙◌, arith}
+use Rattle.std.proofs.Common.{◌≡◌, ℕ, zero, suc, ◌+◌, List, [], ◌∷◌, ◌++◌, length, map, take, get_or, Some, None, refl, sym, ap, ◌∙◌, arith}
 use Rattle.std.specs.Prelude.{reverse, slice_get}
 use Rattle.std.specs.Option.{option_map_or}
 use Rattle.std.proofs.lemmas.List.{reverse-append}
 use Rattle.golog_semantics.specs.Search.{Run}
-use Rattle.golog_search.specs.declared.reached.Reached.{Reached}
-use Rattle.golog_search.specs.Levels.{run_to}
+use Rattle.golog_search.specs.Levels.{Reached, run_to}
+use Rattle.golog_search.proofs.LevelParts.{map-append}
 
 -- what a level goes on from: the run so far and its last step
 abbrev pub with_step : List (List Reached) → List Reached → Reached → Run
@@ -19,15 +19,17 @@ pub run_to-some : (earlier : List (List Reached)) (nearer states : List Reached)
     → run_to (nearer ∷ earlier) states place ≡ with_step earlier nearer r
 run_to-some earlier nearer states place r e = ap (λ o. option_map_or (with_step earlier nearer) o []) e
 
-reverse-more : {A : Type 0} (x : A) (xs : List A) → reverse (x ∷ xs) ≡ reverse xs ++ x ∷ []
-reverse-more x xs = reverse-append (x ∷ []) xs
+-- a list is its first items and then the last one
+split-last : {A : Type 0} (xs : List A) (n : ℕ) (x d : A) → length xs ≡ n + 1 → x ≡ get_or xs n d → xs ≡ take n xs ++ x ∷ []
+split-last [] n x d h e = absurd (omega arith)
+split-last (y ∷ []) zero x d h e = ap (λ z. z ∷ []) (sym e)
+split-last (y ∷ []) (suc n) x d h e = absurd (omega arith)
+split-last (y ∷ z ∷ zs) zero x d h e = absurd (omega arith)
+split-last (y ∷ z ∷ zs) (suc n) x d h e = ap (λ ws. y ∷ ws) (split-last (z ∷ zs) n x d (omega arith) e)
 
--- a list backwards is its last item and then those before it, backwards
-pub reverse-last : {A : Type 0} (xs : List A) (n : ℕ) (x d : A) → length xs ≡ n + 1 → x ≡ get_or xs n d → reverse xs ≡ x ∷ reverse (take n xs)
-reverse-last [] n x d h e = absurd (omega arith)
-reverse-last (y ∷ []) zero x d h e = ap (λ z. z ∷ []) (sym e)
-reverse-last (y ∷ []) (suc n) x d h e = absurd (omega arith)
-reverse-last (y ∷ z ∷ zs) zero x d h e = absurd (omega arith)
-reverse-last (y ∷ z ∷ zs) (suc n) x d h e =
-    reverse-more y (z ∷ zs) ∙ ap (λ ws. ws ++ y ∷ []) (reverse-last (z ∷ zs) n x d (omega arith) e)
-    ∙ ap (λ ws. x ∷ ws) (sym (reverse-more y (take n (z ∷ zs))))
+-- what stands for a list, backwards, is what stands for its last item and then for those before it, backwards
+pub mapped-last : {A B : Type 0} (f : A → B) (xs : List A) (n : ℕ) (x d : A) → length xs ≡ n + 1 → x ≡ get_or xs n d → reverse (map f xs) ≡ f x ∷ reverse (map f (take n xs))
+mapped-last f xs n x d h e =
+    ap (λ ys. reverse (map f ys)) (split-last xs n x d h e)
+    ∙ ap reverse (map-append f (take n xs) (x ∷ []))
+    ∙ reverse-append (map f (take n xs)) (f x ∷ [])

@@ -16,12 +16,11 @@ use Rattle.golog_semantics.specs.Blocks.{is_cut, option_length, work}
 use Rattle.golog_semantics.specs.RunLaws.{IsLeast, NoneUpTo}
 use Rattle.golog_semantics.proofs.BestRuns.{best_is_least}
 use Rattle.golog_ways.specs.First.{head_of}
-use Rattle.golog_search.specs.declared.search.Search.{Search}
 use Rattle.golog_search.specs.declared.found.Found.{Found}
 use Rattle.golog_search.specs.declared.found.Found.TheVariants.{Absent, Fuel, Run as Runs}
-use Rattle.golog_search.specs.declared.reached.Reached.{Reached}
 use Rattle.golog_search.specs.Finding.{found_by, run_or}
-use Rattle.golog_search.specs.Levels.{AreSearched, IsSearched, ends_at, next_level, run_to, start_of}
+use Rattle.golog_ways.specs.Searched.{IsSearched}
+use Rattle.golog_search.specs.Levels.{AreSearched, Looked, Reached, ends_at, next_level, run_to, start_of}
 use Rattle.golog_search.proofs.Seen.{HasSeen, count_before, cut_before, level_at, levels_before}
 use Rattle.golog_search.proofs.Counting.{count-grows, cut-is, worked}
 use Rattle.golog_search.proofs.Ending.{run-absent, run-found}
@@ -33,27 +32,27 @@ reverse-more before last = reverse-append before (last ∷ [])
 module _ (bounded : Bool) (agent : Agent) (m : Mode) (block : Block) (values : Values) where
   -- Such a search has seen these levels, found no run that is so short, and where it is bounded has this fuel
   -- left.
-  pub record IsSearching (n fuel : ℕ) (search : Search) : Type 0 where
+  pub record IsSearching (n fuel : ℕ) (search : Looked) : Type 0 where
     pub seen : HasSeen agent m block.body values n search
     pub searched : AreSearched agent search.last
     pub absent : (k : ℕ) → 1 ≤ k → k ≤ n → first_run agent m k (block.body, values) ≡ None
     pub fuel_left : bounded ≡ true → fuel + count_before agent m block.body values n ≡ block.fuel
 
-  pub begins : (search : Search) → IsSearched agent block.body values → search ≡ record { before = []; last = start_of block.body values ∷ []; cut = false }
+  pub begins : (search : Looked) → IsSearched agent block.body values → search ≡ record { before = []; last = start_of block.body values ∷ []; cut = false }
       → IsSearching 0 block.fuel search
   begins search h e = record {
     seen = record {
-      before = ap (λ (s : Search). reverse s.before) e;
-      last = ap (λ (s : Search). s.last) e;
-      cut = ap (λ (s : Search). s.cut) e;
+      before = ap (λ (s : Looked). reverse s.before) e;
+      last = ap (λ (s : Looked). s.last) e;
+      cut = ap (λ (s : Looked). s.cut) e;
     };
-    searched = subst (λ (s : Search). AreSearched agent s.last) (sym e)
+    searched = subst (λ (s : Looked). AreSearched agent s.last) (sym e)
         (All-cons (λ (r : Reached). IsSearched agent r.way.left r.state) (start_of block.body values) [] h (All-nil (λ (r : Reached). IsSearched agent r.way.left r.state)));
     absent = λ k low high. absurd (omega arith);
     fuel_left = λ b. omega arith;
   }
 
-  pub seen-further : (n : ℕ) (old new : Search) → HasSeen agent m block.body values n old → new.before ≡ old.before ++ old.last ∷ []
+  pub seen-further : (n : ℕ) (old new : Looked) → HasSeen agent m block.body values n old → new.before ≡ old.before ++ old.last ∷ []
       → new.last ≡ (next_level agent m old.last).states → new.cut ≡ (old.cut || (next_level agent m old.last).cut) → HasSeen agent m block.body values (n + 1) new
   seen-further n old new h before last cut =
       let same : suc n ≡ n + 1 = omega arith in
@@ -63,7 +62,7 @@ module _ (bounded : Bool) (agent : Agent) (m : Mode) (block : Block) (values : V
         cut = cut ∙ ap (λ b. b || (next_level agent m old.last).cut) h.cut ∙ ap (λ l. cut_before agent m block.body values n || (next_level agent m l).cut) h.last;
       })
 
-  pub goes-further : (n fuel rest : ℕ) (old new : Search) → IsSearching n fuel old → (bounded ≡ true → rest + length old.last ≡ fuel) → HasSeen agent m block.body values (n + 1) new → AreSearched agent new.last
+  pub goes-further : (n fuel rest : ℕ) (old new : Looked) → IsSearching n fuel old → (bounded ≡ true → rest + length old.last ≡ fuel) → HasSeen agent m block.body values (n + 1) new → AreSearched agent new.last
       → position_from (ends_at agent m) 0 new.last ≡ None → IsSearching (n + 1) rest new
   goes-further n fuel rest old new h spent seen searched none = record {
     seen = seen;
@@ -77,7 +76,7 @@ module _ (bounded : Bool) (agent : Agent) (m : Mode) (block : Block) (values : V
     fuel_left = λ b. spent-fuel n fuel rest old h b (spent b);
   }
     where
-      spent-fuel : (n fuel rest : ℕ) (old : Search) → IsSearching n fuel old → bounded ≡ true → rest + length old.last ≡ fuel
+      spent-fuel : (n fuel rest : ℕ) (old : Looked) → IsSearching n fuel old → bounded ≡ true → rest + length old.last ≡ fuel
           → rest + count_before agent m block.body values (n + 1) ≡ block.fuel
       spent-fuel n fuel rest old h b spent =
           let same : n + 1 ≡ suc n = omega arith in
@@ -120,7 +119,7 @@ module _ (bounded : Bool) (agent : Agent) (m : Mode) (block : Block) (values : V
   searched_out = run_or (is_cut agent m block.depth block.body values) (best agent m block.depth block.body values)
 
   -- where the last level has more states than fuel is left, the search wants more than its fuel
-  pub lacks-fuel : (n fuel : ℕ) (search : Search) → IsSearching n fuel search → n < block.depth → bounded ≡ true → fuel < length search.last → Fuel ≡ found_by bounded agent values m block
+  pub lacks-fuel : (n fuel : ℕ) (search : Looked) → IsSearching n fuel search → n < block.depth → bounded ≡ true → fuel < length search.last → Fuel ≡ found_by bounded agent values m block
   unfolding found_by
   lacks-fuel n fuel search h less b more =
       let count : length search.last ≡ length (level_at agent m block.body values n) = ap length h.seen.last in
@@ -162,7 +161,7 @@ module _ (bounded : Bool) (agent : Agent) (m : Mode) (block : Block) (values : V
       (ap Some (same-head (runs agent m (length other) block.body values) h.later run other h.first (ap (λ k. first_run agent m k (block.body, values)) count ∙ e)), count)
 
   -- the run to the first state of a new level in which the program may end
-  pub finds : (n fuel rest place : ℕ) (old new : Search) → IsSearching n fuel old → n < block.depth → (bounded ≡ true → rest + length old.last ≡ fuel) → HasSeen agent m block.body values (n + 1) new
+  pub finds : (n fuel rest place : ℕ) (old new : Looked) → IsSearching n fuel old → n < block.depth → (bounded ≡ true → rest + length old.last ≡ fuel) → HasSeen agent m block.body values (n + 1) new
       → position_from (ends_at agent m) 0 new.last ≡ Some place
       → Runs (run_to (reverse new.before) new.last place) ≡ found_by bounded agent values m block
   finds n fuel rest place old new h less spent seen ended =
@@ -187,7 +186,7 @@ module _ (bounded : Bool) (agent : Agent) (m : Mode) (block : Block) (values : V
   none-least n absent all (Some run) h = let long : n < length run = longer n absent run h in let within : length run ≤ block.depth = h.within in absurd (omega arith)
 
   -- a search that has looked as far as the depth
-  pub finds-none : (n fuel : ℕ) (search : Search) → IsSearching n fuel search → n ≡ block.depth → Absent (not (is_empty search.last) || search.cut) ≡ found_by bounded agent values m block
+  pub finds-none : (n fuel : ℕ) (search : Looked) → IsSearching n fuel search → n ≡ block.depth → Absent (not (is_empty search.last) || search.cut) ≡ found_by bounded agent values m block
   finds-none n fuel search h end =
       let best_of = best agent m block.depth block.body values in
       let none : best_of ≡ None = none-least n h.absent (omega arith) best_of (is-least best_of refl) in

@@ -5,9 +5,7 @@ use Rattle.golog_tree.specs.declared.agent.Agent.{Agent}
 use Rattle.golog_tree.specs.declared.prog.Prog.{Prog}
 use Rattle.golog_semantics.specs.declared.Mode.{Mode}
 use Rattle.golog_semantics.specs.Truth.{Values}
-use Rattle.golog_search.specs.declared.reached.Reached.{Reached}
-use Rattle.golog_search.specs.declared.search.Search.{Search}
-use Rattle.golog_search.specs.Levels.{next_level, start_of}
+use Rattle.golog_search.specs.Levels.{Looked, Reached, next_level, start_of}
 
 module _ (agent : Agent) (m : Mode) (p : Prog) (values : Values) where
   -- the states that so many steps lead to
@@ -31,7 +29,7 @@ module _ (agent : Agent) (m : Mode) (p : Prog) (values : Values) where
   count_before (suc n) = count_before n + length (level_at n)
 
   -- what a search has seen that looked as far as so many steps
-  pub record HasSeen (n : ℕ) (search : Search) : Type 0 where
+  pub record HasSeen (n : ℕ) (search : Looked) : Type 0 where
     pub before : reverse search.before ≡ levels_before n
     pub last : search.last ≡ level_at n
     pub cut : search.cut ≡ cut_before n

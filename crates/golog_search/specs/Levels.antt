@@ -1,6 +1,7 @@
 -- The states that a search reaches, one step further at a time, each with the step that led there. They are
--- as code keeps them; `level` of golog_semantics says which states they are. This project's own.
-use Rattle.std.specs.Prelude.{ℕ, suc, Bool, true, false, not, IsTrue, if◌then◌else◌, List, [], ◌∷◌, ◌++◌, All, fold, slice_get}
+-- in the order in which code keeps them; `level` of golog_semantics says which states they are. This project's
+-- own.
+use Rattle.std.specs.Prelude.{ℕ, suc, Bool, true, false, if◌then◌else◌, List, [], ◌∷◌, ◌++◌, All, fold, slice_get}
 use Rattle.std.specs.List.{list_any}
 use Rattle.std.specs.Option.{option_map_or}
 use Rattle.golog_tree.specs.declared.agent.Agent.{Agent}
@@ -12,11 +13,26 @@ use Rattle.golog_semantics.specs.Truth.{Values}
 use Rattle.golog_semantics.specs.Values.{after}
 use Rattle.golog_semantics.specs.Search.{Run, final, is_followed, plain_ways}
 use Rattle.golog_semantics.specs.Blocks.{State, same_state}
-use Rattle.golog_semantics.specs.BlockFree.{has_block}
-use Rattle.golog_semantics.specs.ProgFits.{fits}
-use Rattle.golog_semantics.specs.SortLaws.{AreInSorts}
-use Rattle.golog_search.specs.declared.level.Level.{Level}
-use Rattle.golog_search.specs.declared.reached.Reached.{Reached}
+use Rattle.golog_ways.specs.Searched.{IsSearched}
+
+-- a state that a search has reached: the last way, which holds the program left, the values there, and the
+-- place of the state before it among those that are one step nearer
+pub record Reached : Type 0 where
+  pub way : Way
+  pub state : Values
+  pub from : ℕ
+
+-- the distinct states that are so many steps away, and whether some way that would lead there is not followed
+pub record Level : Type 0 where
+  pub states : List Reached
+  pub cut : Bool
+
+-- what a search has seen: the states of each number of steps from none on, those of the last number by
+-- themselves, and whether some way was not followed
+pub record Looked : Type 0 where
+  pub before : List (List Reached)
+  pub last : List Reached
+  pub cut : Bool
 
 -- the program left and the values there
 abbrev pub state_of : Reached → State
@@ -55,13 +71,6 @@ with_steps agent m from l (r ∷ states) =
 -- what one step leads to from these states
 abbrev pub next_level : Agent → Mode → List Reached → Level
 next_level agent m states = with_steps agent m 0 nothing_reached states
-
--- a program that a search of an agent may reach, and the values there: it stays inside the agent, has no
--- block, and the values are in their sorts
-pub record IsSearched (agent : Agent) (p : Prog) (values : Values) : Type 0 where
-  pub program : IsTrue (fits agent p)
-  pub blockless : IsTrue (not (has_block agent p))
-  pub sorts : AreInSorts agent values
 
 -- so it is of all these states
 abbrev pub AreSearched : Agent → List Reached → Type 0

@@ -1,115 +1,55 @@
 ghost use Rattle.std.specs.Prelude.{◌≡◌, ◌≤◌, ◌&&◌, ◌||◌, false, true, IfErr, IfOk, IsTrue, Some, length, nat_le};
-ghost use Rattle.std.specs.List.{list_all, list_any};
+ghost use Rattle.std.specs.List.{list_all};
 ghost use Rattle.golog_tree.specs.declared.prog.Prog.TheVariants as prog;
 ghost use Rattle.golog_semantics.specs.declared.Mode.{Mode};
-ghost use Rattle.golog_semantics.specs.declared.Mode.TheVariants.{Must};
-ghost use Rattle.golog_semantics.specs.Blocks.{beginning, goes_through as leads_to_final, going_on};
+ghost use Rattle.golog_semantics.specs.Blocks.{beginning, going_on};
 ghost use Rattle.golog_semantics.specs.Blocks.{is_kept as keeps_run, labels_of as labels_in};
 ghost use Rattle.golog_semantics.specs.Heavy.{is_above};
-ghost use Rattle.golog_semantics.specs.Same.{same_way};
-ghost use Rattle.golog_semantics.specs.Search.{Run, is_followed, plain_ways};
+ghost use Rattle.golog_semantics.specs.Search.{Run, is_followed};
 ghost use Rattle.golog_semantics.specs.WellFormed.{WellFormed};
 ghost use Rattle.golog_ways.specs.First.{head_of};
 ghost use Rattle.golog_ways.specs.Reach.{reaches};
 ghost use Rattle.golog_search.specs.BlockSteps.{first_of_block as first_of, near_of_block as near_of};
 ghost use Rattle.golog_search.specs.BlockSteps.{AreNear, has_step, wants_more};
-ghost use Rattle.golog_search.specs.Levels.{IsSearched};
+ghost use Rattle.golog_ways.specs.Searched.{IsSearched};
+ghost use Rattle.golog_search.specs.Told.{AreTold};
 
 use crate::NEST_LIMIT;
-use crate::finding::{copy_way, search_block};
+use crate::finding::search_block;
 use crate::found::Found;
 use crate::reach::{FirstStep, NearStep};
-use crate::reached::state_after;
-use crate::same::is_same_way;
-use crate::steps::ways_of;
+use crate::told::Told;
 use golog_base::{Boxed, List, NoMemory};
 use golog_progress::State;
 use golog_semantics::{Block, Mode, Move};
 use golog_tree::{Agent, Label, Prog, Way, copy_prog, nest};
-use golog_ways::{Reach, Stop, is_final};
+use golog_ways::{Reach, Stop, copy_ways, goes_through};
 use std::alloc::Global;
 
-/// Whether the way is among these.
-fn is_among(way: &Way, ways: &[Way]) -> bool
-    ensures { result ≡ list_any (same_way way.now) ways.now }
-{
-    for other in ways {
-        if is_same_way(way, other) {
-            return true;
-        }
-    }
-    false
-}
-
-/// Whether the way is a certain step of the program.
-fn is_certain(
-    alloc: Global,
-    agent: &Agent,
-    prog: &Prog,
-    way: &Way,
-    state: &State,
-) -> Result<bool, NoMemory>
-    requires agent { WellFormed agent.now }
-    requires searched { IsSearched agent.now prog.now state.now }
-    ensures { IfOk result (λ b. b
-        ≡ list_any (same_way way.now) (plain_ways agent.now state.now Must prog.now)) }
-{
-    let ways = ways_of(alloc, agent, Mode::Must, prog, state)?;
-    Ok(is_among(way, ways.as_slice()))
-}
-
-/// Whether a run goes through from the state: each of its ways is a certain step of the program left, and
-/// where they lead the program certainly may end.
-pub fn goes_through(
-    alloc: Global,
-    agent: &Agent,
-    body: &Prog,
-    rest: &[Way],
-    state: &State,
-) -> Result<bool, NoMemory>
-    requires agent { WellFormed agent.now }
-    requires searched { IsSearched agent.now body.now state.now }
-    ensures { IfOk result (λ b. b ≡ leads_to_final agent.now body.now rest.now state.now) }
-{
-    let mut left = body;
-    let mut there = state.copy(alloc)?;
-    for way in rest {
-        if !is_certain(alloc, agent, left, way, &there)? {
-            return Ok(false);
-        }
-        there = state_after(alloc, agent, &there, way.label)?;
-        left = &way.left;
-    }
-    is_final(alloc, agent, Mode::Must, left, &there)
-}
-
-/// Whether some run is under way, and it goes through from the state.
+/// Whether some run is under way, and it goes through from the state. It is stepped again where nothing is told
+/// of it.
 pub fn is_kept(
     alloc: Global,
     agent: &Agent,
     body: &Prog,
     rest: &[Way],
     state: &State,
+    told: &[Told],
 ) -> Result<bool, NoMemory>
     requires agent { WellFormed agent.now }
     requires searched { IsSearched agent.now body.now state.now }
+    requires told { AreTold agent.now state.now told.now }
     ensures { IfOk result (λ b. b ≡ keeps_run agent.now state.now body.now rest.now) }
 {
     if rest.is_empty() {
         return Ok(false);
     }
-    goes_through(alloc, agent, body, rest, state)
-}
-
-/// A copy of the ways.
-fn copy_ways(alloc: Global, ways: &[Way]) -> Result<List<Way>, NoMemory>
-    ensures { IfOk result (λ copy. copy ≡ ways.now) }
-{
-    let mut copy = List::new(alloc);
-    for way in ways {
-        copy.push(copy_way(alloc, way)?)?;
+    for one in told {
+        if one.is_of(body, rest) {
+            return Ok(one.through);
+        }
     }
-    Ok(copy)
+    goes_through(alloc, agent, body, rest, state)
 }
 
 /// What the ways of a run do.
@@ -188,12 +128,14 @@ pub fn first_of_block(
     rest: &[Way],
     state: &State,
     bounded: bool,
+    told: &[Told],
 ) -> Result<FirstStep, NoMemory>
     requires agent { WellFormed agent.now }
     requires searched { IsSearched agent.now block.now.body state.now }
+    requires told { AreTold agent.now state.now told.now }
     ensures { IfOk result (λ step. step ≡ first_of bounded agent.now state.now block.now rest.now) }
 {
-    if is_kept(alloc, agent, &block.body, rest, state)? {
+    if is_kept(alloc, agent, &block.body, rest, state, told)? {
         return Ok(FirstStep::Step(step_along(alloc, block, rest)?));
     }
     match search_block(alloc, agent, block, state, Mode::Must, bounded)? {
@@ -339,17 +281,19 @@ pub fn reach_of_block(
     rest: &[Way],
     state: &State,
     bounded: bool,
+    told: &[Told],
 ) -> Result<Reach, Stop>
     requires agent { WellFormed agent.now }
     requires searched { IsSearched agent.now block.now.body state.now }
     requires depth { 1 ≤ block.now.depth }
+    requires told { AreTold agent.now state.now told.now }
     ensures reach { IfOk result (λ r. (m : Mode)
         → reaches m r ≡ has_step agent.now state.now m block.now rest.now) }
     ensures fuel { IfErr result (λ stop. stop ≡ Stop.Fuel
         → (wants_more bounded agent.now state.now Mode.Must block.now rest.now
         || wants_more bounded agent.now state.now Mode.Near block.now rest.now) ≡ true) }
 {
-    if is_kept(alloc, agent, &block.body, rest, state)? {
+    if is_kept(alloc, agent, &block.body, rest, state, told)? {
         reach_along(alloc, agent, block, rest, state)
     } else {
         reach_anew(alloc, agent, block, rest, state, bounded)

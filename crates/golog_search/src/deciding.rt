@@ -12,16 +12,18 @@ ghost use Rattle.golog_semantics.specs.WellFormed.{WellFormed};
 ghost use Rattle.golog_search.specs.Decided.{IsAhead, IsDecided, decision, stepping as after_step};
 ghost use Rattle.golog_search.specs.Kept.{KeepsRun};
 ghost use Rattle.golog_search.specs.Steady.{steady};
+ghost use Rattle.golog_search.specs.Told.{AreTold};
 
 use crate::searches::Searches;
 use crate::steady::steady;
+use crate::told::{Told, told_of};
 use crate::weighing::some_block_weighs;
 use crate::{Blocked, Decision};
 use golog_base::NoMemory;
 use golog_progress::State;
 use golog_semantics::{Mode, Move};
 use golog_tree::{Agent, Prog, nest};
-use golog_ways::{Reach, Stop, first_move, is_final, reach_of};
+use golog_ways::{Keep, Reach, Stop, Walk, first_move, is_final, reach_of};
 use std::alloc::Global;
 
 /// The deepest nest of what a step leaves.
@@ -55,17 +57,23 @@ fn look_ahead(
     state: &State,
     bounded: bool,
     shallow: bool,
+    told: &[Told],
 ) -> Result<Option<Decision>, NoMemory>
     requires agent { WellFormed agent.now }
     requires program { IsTrue (fits agent.now prog.now) }
     requires sorts { AreInSorts agent.now state.now }
+    requires told { AreTold agent.now state.now told.now }
     requires shallow { shallow ≡ true → nest prog.now ≤ nest_limit }
     ensures { IfOk result (IsAhead agent.now state.now prog.now bounded) }
 {
     if is_final(alloc, agent, Mode::Must, prog, state)? {
         return Ok(Some(Decision::Final));
     }
-    let blocks = Searches { state, bounded };
+    let blocks = Searches {
+        state,
+        bounded,
+        told,
+    };
     match first_move(alloc, agent, &blocks, prog, state.values()) {
         Ok(Some(step)) => Ok(Some(stepping(step, stays_shallow(prog, shallow)))),
         Ok(None) => Ok(None),
@@ -94,10 +102,12 @@ fn look_why(
     prog: &Prog,
     state: &State,
     bounded: bool,
+    told: &[Told],
 ) -> Result<Decision, NoMemory>
     requires agent { WellFormed agent.now }
     requires program { IsTrue (fits agent.now prog.now) }
     requires sorts { AreInSorts agent.now state.now }
+    requires told { AreTold agent.now state.now told.now }
     requires unended { final agent.now state.now Mode.Must prog.now ≡ false }
     requires stepless { IsTrue (is_empty (moves agent.now state.now Mode.Must prog.now)) }
     ensures { IfOk result (IsDecided agent.now state.now prog.now bounded) }
@@ -105,7 +115,11 @@ fn look_why(
     if is_final(alloc, agent, Mode::Near, prog, state)? {
         return Ok(Decision::Blocked(Blocked::Unknown));
     }
-    let blocks = Searches { state, bounded };
+    let blocks = Searches {
+        state,
+        bounded,
+        told,
+    };
     match reach_of(alloc, agent, &blocks, prog, state.values()) {
         Ok(reach) => Ok(Decision::Blocked(why(reach))),
         Err(Stop::Fuel) => Ok(Decision::Fuel),
@@ -120,15 +134,17 @@ fn look(
     prog: &Prog,
     state: &State,
     bounded: bool,
+    told: &[Told],
 ) -> Result<Decision, NoMemory>
     requires agent { WellFormed agent.now }
     requires program { IsTrue (fits agent.now prog.now) }
     requires sorts { AreInSorts agent.now state.now }
+    requires told { AreTold agent.now state.now told.now }
     ensures { IfOk result (IsDecided agent.now state.now prog.now bounded) }
 {
-    match look_ahead(alloc, agent, prog, state, bounded, false)? {
+    match look_ahead(alloc, agent, prog, state, bounded, false, told)? {
         Some(decision) => Ok(decision),
-        None => look_why(alloc, agent, prog, state, bounded),
+        None => look_why(alloc, agent, prog, state, bounded, told),
     }
 }
 
@@ -156,7 +172,33 @@ pub fn decide(
         → StuckIsCertain agent.now state.now prog.now) }
     ensures kept { IfOk result (KeepsRun agent.now state.now prog.now) }
 {
-    look(alloc, agent, prog, state, true)
+    decide_kept(alloc, agent, prog, state, &mut Walk::new())
+}
+
+/// What a program does next in a state, as `decide` tells it. Whether the runs that are under way go through is
+/// asked of the keep, all of whose earlier calls were with this agent.
+pub fn decide_kept<K: Keep>(
+    alloc: Global,
+    agent: &Agent,
+    prog: &Prog,
+    state: &State,
+    keep: &mut K,
+) -> Result<Decision, NoMemory>
+    requires agent { WellFormed agent.now }
+    requires program { IsTrue (fits agent.now prog.now) }
+    requires sorts { AreInSorts agent.now state.now }
+    requires serves { K.serves keep.old agent.now }
+    ensures decided { IfOk result (IsDecided agent.now state.now prog.now true) }
+    ensures ends { IfOk result (λ d. d ≡ Decision.Final → EndIsCertain agent.now state.now prog.now) }
+    ensures steps { IfOk result (λ d. (step : Move) → d ≡ Decision.Step step
+        → StepIsCertain agent.now state.now prog.now step.label step.left) }
+    ensures stuck { IfOk result (λ d. d ≡ Decision.Blocked Blocked.Stuck
+        → StuckIsCertain agent.now state.now prog.now) }
+    ensures kept { IfOk result (KeepsRun agent.now state.now prog.now) }
+    ensures serves { K.serves keep.new agent.now }
+{
+    let told = told_of(alloc, agent, prog, state, keep)?;
+    look(alloc, agent, prog, state, true, told.as_slice())
 }
 
 /// What `decide` tells of a program that certainly ends or steps, or whose blocks lack fuel for that. `None`
@@ -172,25 +214,30 @@ pub fn decide_step(
     requires sorts { AreInSorts agent.now state.now }
     ensures { IfOk result (IsAhead agent.now state.now prog.now true) }
 {
-    look_ahead(alloc, agent, prog, state, true, false)
+    look_ahead(alloc, agent, prog, state, true, false, &[])
 }
 
 /// What `decide_step` tells. Where the program is known to nest no deeper than 2,048, what a step leaves is
-/// measured only where it may nest deeper than the program.
-pub fn decide_step_of(
+/// measured only where it may nest deeper than the program. Whether the runs that are under way go through is
+/// asked of the keep, all of whose earlier calls were with this agent.
+pub fn decide_step_of<K: Keep>(
     alloc: Global,
     agent: &Agent,
     prog: &Prog,
     state: &State,
     shallow: bool,
+    keep: &mut K,
 ) -> Result<Option<Decision>, NoMemory>
     requires agent { WellFormed agent.now }
     requires program { IsTrue (fits agent.now prog.now) }
     requires sorts { AreInSorts agent.now state.now }
     requires shallow { shallow ≡ true → nest prog.now ≤ nest_limit }
-    ensures { IfOk result (IsAhead agent.now state.now prog.now true) }
+    requires serves { K.serves keep.old agent.now }
+    ensures ahead { IfOk result (IsAhead agent.now state.now prog.now true) }
+    ensures serves { K.serves keep.new agent.now }
 {
-    look_ahead(alloc, agent, prog, state, true, shallow)
+    let told = told_of(alloc, agent, prog, state, keep)?;
+    look_ahead(alloc, agent, prog, state, true, shallow, told.as_slice())
 }
 
 /// What `decide` tells of a program that certainly neither ends nor steps.
@@ -207,7 +254,7 @@ pub fn decide_blocked(
     requires stepless { IsTrue (is_empty (moves agent.now state.now Mode.Must prog.now)) }
     ensures { IfOk result (IsDecided agent.now state.now prog.now true) }
 {
-    look_why(alloc, agent, prog, state, true)
+    look_why(alloc, agent, prog, state, true, &[])
 }
 
 /// What a program does next in a state, whatever the fuel of its blocks. It is never `Fuel`.
@@ -222,7 +269,7 @@ pub fn decide_unbounded(
     requires sorts { AreInSorts agent.now state.now }
     ensures { IfOk result (λ d. d ≡ decision agent.now state.now prog.now) }
 {
-    look(alloc, agent, prog, state, false)
+    look(alloc, agent, prog, state, false, &[])
 }
 
 /// Whether nothing is ahead.
@@ -240,7 +287,7 @@ fn is_stepless(alloc: Global, agent: &Agent, prog: &Prog, state: &State) -> Resu
     requires unended { final agent.now state.now Mode.Must prog.now ≡ false }
     ensures { IfOk result (λ b. b ≡ is_empty (moves agent.now state.now Mode.Must prog.now)) }
 {
-    let ahead = look_ahead(alloc, agent, prog, state, false, false)?;
+    let ahead = look_ahead(alloc, agent, prog, state, false, false, &[])?;
     Ok(is_nothing(ahead))
 }
 

@@ -1,21 +1,18 @@
-ghost use Rattle.std.specs.Prelude.{◌≡◌, ◌+◌, ◌<◌, IfOk, IsTrue, MatchOption, not, reverse, true};
-ghost use Rattle.std.specs.List.{position_from};
+ghost use Rattle.std.specs.Prelude.{◌≡◌, ◌+◌, ◌<◌, IfOk, IsTrue, MatchOption, not, true};
 ghost use Rattle.golog_semantics.specs.BlockFree.{has_block};
 ghost use Rattle.golog_semantics.specs.ProgFits.{fits};
 ghost use Rattle.golog_semantics.specs.SortLaws.{AreInSorts};
 ghost use Rattle.golog_semantics.specs.WellFormed.{WellFormed};
 ghost use Rattle.golog_search.specs.Finding.{found, found_by, mode_of as mode_for};
 ghost use Rattle.golog_search.specs.InWorlds.{AbsenceIsCertain, RunIsCertain};
-ghost use Rattle.golog_search.specs.Levels.{AreSearched, IsSearched, ends_at, run_to as run_of};
+ghost use Rattle.golog_ways.specs.Searched.{IsSearched};
 
 use crate::found::Found;
-use crate::reached::Reached;
 use crate::search::Search;
-use golog_base::{List, NoMemory};
+use golog_base::NoMemory;
 use golog_progress::State;
 use golog_semantics::{Block, Mode};
-use golog_tree::{Agent, Way, copy_prog};
-use golog_ways::is_final;
+use golog_tree::Agent;
 use std::alloc::Global;
 
 /// The mode in which runs are looked for: `Must` where they are to be certain, else `Near`.
@@ -23,57 +20,6 @@ fn mode_of(certain: bool) -> Mode
     ensures { result ≡ mode_for certain }
 {
     if certain { Mode::Must } else { Mode::Near }
-}
-
-/// A copy of the step.
-pub fn copy_way(alloc: Global, way: &Way) -> Result<Way, NoMemory>
-    ensures { IfOk result (λ copy. copy ≡ way.now) }
-{
-    let left = copy_prog(alloc, &way.left)?;
-    Ok(Way {
-        label: way.label,
-        left,
-    })
-}
-
-/// The run that led to the state at a place among these, through the levels before them. A place where no
-/// state stands has the empty run.
-fn run_to(
-    alloc: Global,
-    before: &[List<Reached>],
-    states: &[Reached],
-    place: usize,
-) -> Result<List<Way>, NoMemory>
-    ensures { IfOk result (λ run. run ≡ run_of (reverse before.now) states.now place) }
-{
-    let [earlier @ .., nearer] = before else {
-        return Ok(List::new(alloc));
-    };
-    let Some(reached) = states.get(place) else {
-        return Ok(List::new(alloc));
-    };
-    let mut run = run_to(alloc, earlier, nearer.as_slice(), reached.from)?;
-    run.push(copy_way(alloc, &reached.way)?)?;
-    Ok(run)
-}
-
-/// The place of the first of these states in which the program may end.
-fn first_end(
-    alloc: Global,
-    agent: &Agent,
-    mode: Mode,
-    states: &[Reached],
-) -> Result<Option<usize>, NoMemory>
-    requires agent { WellFormed agent.now }
-    requires searched { AreSearched agent.now states.now }
-    ensures { IfOk result (λ place. place ≡ position_from (ends_at agent.now mode) 0 states.now) }
-{
-    for (place, reached) in states.iter().enumerate() {
-        if is_final(alloc, agent, mode, &reached.way.left, &reached.state)? {
-            return Ok(Some(place));
-        }
-    }
-    Ok(None)
 }
 
 /// What is left of the fuel when so many states are looked at, and `None` where it does not suffice. A search
@@ -108,14 +54,13 @@ pub fn search_block(
     let mut search = Search::new(alloc, &block.body, state)?;
     let mut fuel = block.fuel as usize;
     for _step in 0..block.depth {
-        let Some(rest) = spent(bounded, fuel, search.last.len()) else {
+        let Some(rest) = spent(bounded, fuel, search.width()) else {
             return Ok(Found::Fuel);
         };
         fuel = rest;
         search.deepen(alloc, agent, mode)?;
-        if let Some(place) = first_end(alloc, agent, mode, search.last.as_slice())? {
-            let before = search.before.as_slice();
-            let run = run_to(alloc, before, search.last.as_slice(), place)?;
+        if let Some(place) = search.first_end(alloc, agent, mode)? {
+            let run = search.run_to(alloc, place)?;
             return Ok(Found::Run(run));
         }
     }

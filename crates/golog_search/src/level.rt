@@ -1,47 +1,68 @@
-ghost use Rattle.std.specs.Prelude.{◌≡◌, IfOk, IsTrue, OnOk, fold};
+ghost use Rattle.std.specs.Prelude.{◌≡◌, ◌<◌, [], IfOk, IsTrue, OnOk, false, fold, length};
 ghost use Rattle.golog_semantics.specs.Reports.{fits_label};
 ghost use Rattle.golog_semantics.specs.Search.{plain_ways};
 ghost use Rattle.golog_semantics.specs.SortLaws.{AreInSorts};
 ghost use Rattle.golog_semantics.specs.WellFormed.{WellFormed};
-ghost use Rattle.golog_search.specs.Levels.{AreSearched, IsSearched, next_level as next_of, nothing_reached};
-ghost use Rattle.golog_search.specs.Levels.{with_state, with_way};
+ghost use Rattle.golog_ways.specs.Searched.{IsSearched};
+ghost use Rattle.golog_search.specs.Levels.{AreSearched, next_level as next_of, with_way};
+ghost use Rattle.golog_search.specs.Numbers.{GoesOn, HaveNumbers, IsLevel, Sees};
+ghost use Rattle.golog_search.specs.Numbers.{all_meant, level_of, meant, with_numbered};
 
 use crate::NEST_LIMIT;
-use crate::reached::{Reached, is_there};
-use crate::steps::ways_of;
+use crate::numbered::Numbered;
 use golog_base::{List, NoMemory};
+use golog_memo::{Nodes, Seen};
 use golog_progress::State;
 use golog_semantics::Mode;
 use golog_tree::{Agent, Way, nest};
+use golog_ways::ways_of;
 use std::alloc::Global;
 
 /// The distinct states that are so many steps away, and whether some step that would lead there is not
-/// followed, since what it leaves nests too deep.
+/// followed, since what it leaves nests too deep. The pairs that were seen are those of the states.
 #[derive(Drop)]
 pub struct Level {
-    pub states: List<Reached>,
+    pub states: List<Numbered>,
+    pub seen: Seen,
     pub cut: bool,
 }
 
 impl Level {
     /// No state yet.
-    fn new(alloc: Global) -> Level
-        ensures { result ≡ nothing_reached }
+    fn new(alloc: Global) -> Result<Level, NoMemory>
+        ensures states { IfOk result (λ level. level.states ≡ []) }
+        ensures seen { IfOk result (λ level. Sees level.seen []) }
+        ensures cut { IfOk result (λ level. level.cut ≡ false) }
     {
-        Level {
+        let seen = Seen::new(alloc)?;
+        Ok(Level {
             states: List::new(alloc),
+            seen,
             cut: false,
-        }
+        })
     }
 
     /// Adds a state, where it is not there yet.
-    fn add_state(&mut self, reached: Reached) -> Result<(), NoMemory>
-        ensures { OnOk result (self.new ≡ with_state self.old reached) }
+    fn add_state(&mut self, reached: Numbered) -> Result<(), NoMemory>
+        requires { Sees self.old.seen self.old.states }
+        ensures seen { OnOk result (Sees self.new.seen self.new.states) }
+        ensures states { OnOk result (self.new.states ≡ with_numbered self.old.states reached) }
+        ensures cut { OnOk result (self.new.cut ≡ self.old.cut) }
     {
-        if !is_there(self.states.as_slice(), &reached.way.left, &reached.state) {
-            self.states.push(reached)?;
+        match self.seen.add(reached.left, &reached.state) {
+            Ok(true) => {
+                self.states.push(reached)?;
+                Ok(())
+            }
+            Ok(false) => {
+                drop(reached);
+                Ok(())
+            }
+            Err(refused) => {
+                drop(reached);
+                Err(refused)
+            }
         }
-        Ok(())
     }
 
     /// Adds the state that a step leads to from this one, unless what the step leaves nests too deep.
@@ -49,22 +70,27 @@ impl Level {
         &mut self,
         alloc: Global,
         agent: &Agent,
+        nodes: &mut Nodes,
         from: usize,
         state: &State,
-        way: Way,
+        way: &Way,
     ) -> Result<(), NoMemory>
         requires agent { WellFormed agent.now }
         requires sorts { AreInSorts agent.now state.now }
-        requires label { IsTrue (fits_label agent.now way.label) }
-        ensures { OnOk result (self.new ≡ with_way agent.now from state.now self.old way) }
+        requires label { IsTrue (fits_label agent.now way.now.label) }
+        requires level { IsLevel nodes.old self.old }
+        ensures level { OnOk result (IsLevel nodes.new self.new) }
+        ensures goes_on { OnOk result (GoesOn nodes.old nodes.new) }
+        ensures means { OnOk result (level_of nodes.new self.new
+            ≡ with_way agent.now from state.now (level_of nodes.old self.old) way.now) }
     {
         if nest(&way.left) > NEST_LIMIT {
-            drop(way);
             self.cut = true;
             Ok(())
         } else {
-            let reached = Reached::by(alloc, agent, from, state, way)?;
-            self.add_state(reached)
+            let reached = Numbered::by(alloc, agent, nodes, from, state, way)?;
+            self.add_state(reached)?;
+            Ok(())
         }
     }
 
@@ -74,17 +100,23 @@ impl Level {
         alloc: Global,
         agent: &Agent,
         mode: Mode,
+        nodes: &mut Nodes,
         from: usize,
-        reached: &Reached,
+        reached: &Numbered,
     ) -> Result<(), NoMemory>
         requires agent { WellFormed agent.now }
-        requires searched { IsSearched agent.now reached.now.way.left reached.now.state }
-        ensures { OnOk result (self.new ≡ fold (with_way agent.now from reached.now.state) self.old
-            (plain_ways agent.now reached.now.state mode reached.now.way.left)) }
+        requires number { reached.now.left < length nodes.old }
+        requires searched { IsSearched agent.now (meant nodes.old reached.now).way.left reached.now.state }
+        requires level { IsLevel nodes.old self.old }
+        ensures level { OnOk result (IsLevel nodes.new self.new) }
+        ensures goes_on { OnOk result (GoesOn nodes.old nodes.new) }
+        ensures means { OnOk result (level_of nodes.new self.new
+            ≡ fold (with_way agent.now from reached.now.state) (level_of nodes.old self.old)
+            (plain_ways agent.now reached.now.state mode (meant nodes.old reached.now).way.left)) }
     {
-        let ways = ways_of(alloc, agent, mode, &reached.way.left, &reached.state)?;
-        for way in ways.into_vec() {
-            self.add(alloc, agent, from, &reached.state, way)?;
+        let ways = ways_of(alloc, agent, mode, nodes.prog(reached.left), &reached.state)?;
+        for way in ways.as_slice() {
+            self.add(alloc, agent, nodes, from, &reached.state, way)?;
         }
         Ok(())
     }
@@ -95,16 +127,20 @@ pub fn next_level(
     alloc: Global,
     agent: &Agent,
     mode: Mode,
-    states: &[Reached],
+    nodes: &mut Nodes,
+    states: &[Numbered],
 ) -> Result<Level, NoMemory>
     requires agent { WellFormed agent.now }
-    requires searched { AreSearched agent.now states.now }
-    ensures next { IfOk result (λ level. level ≡ next_of agent.now mode states.now) }
-    ensures searched { IfOk result (λ level. AreSearched agent.now level.states) }
+    requires numbers { HaveNumbers nodes.old states.now }
+    requires searched { AreSearched agent.now (all_meant nodes.old states.now) }
+    ensures goes_on { OnOk result (GoesOn nodes.old nodes.new) }
+    ensures level { IfOk result (λ level. IsLevel nodes.new level) }
+    ensures next { IfOk result (λ level. level_of nodes.new level
+        ≡ next_of agent.now mode (all_meant nodes.old states.now)) }
 {
-    let mut level = Level::new(alloc);
+    let mut level = Level::new(alloc)?;
     for (from, reached) in states.iter().enumerate() {
-        level.add_steps(alloc, agent, mode, from, reached)?;
+        level.add_steps(alloc, agent, mode, nodes, from, reached)?;
     }
     Ok(level)
 }

@@ -8,17 +8,17 @@ mod finding;
 mod found;
 mod laws;
 mod level;
+mod numbered;
 mod reach;
-mod reached;
-mod same;
 mod search;
 mod searches;
 mod steady;
-mod steps;
+mod told;
 mod weighing;
 
 pub use deciding::{
-    NEST_LIMIT, decide, decide_blocked, decide_step, decide_step_of, decide_unbounded, heavy,
+    NEST_LIMIT, decide, decide_blocked, decide_kept, decide_step, decide_step_of, decide_unbounded,
+    heavy,
 };
 pub use decision::{Blocked, Decision};
 pub use finding::find;

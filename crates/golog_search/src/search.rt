@@ -1,36 +1,76 @@
-ghost use Rattle.std.specs.Prelude.{◌≡◌, [], ◌∷◌, ◌++◌, ◌||◌, false, IfOk, OnOk, not};
+ghost use Rattle.std.specs.Prelude.{◌≡◌, [], ◌∷◌, ◌++◌, ◌||◌, All, IfOk, OnOk, false, length, map, not, reverse};
+ghost use Rattle.std.specs.List.{position_from};
 ghost use Rattle.golog_semantics.specs.Ways.{is_empty};
 ghost use Rattle.golog_semantics.specs.WellFormed.{WellFormed};
-ghost use Rattle.golog_search.specs.Levels.{AreSearched, next_level as next_of, start_of};
+ghost use Rattle.golog_search.specs.Levels.{AreSearched, ends_at, next_level as next_of, run_to as run_of, start_of};
+ghost use Rattle.golog_search.specs.Numbers.{HaveNumbers, IsNumbered, all_meant, looked_of};
 
-use crate::level::next_level;
-use crate::reached::Reached;
+use crate::level::{Level, next_level};
+use crate::numbered::Numbered;
 use golog_base::{List, NoMemory};
+use golog_memo::Nodes;
 use golog_progress::State;
 use golog_semantics::Mode;
-use golog_tree::{Agent, Prog};
+use golog_tree::{Agent, Prog, Way, copy_prog};
+use golog_ways::is_final;
 use std::alloc::Global;
 use std::mem;
 
-/// What a search has seen: the states of each number of steps from none on, those of the last number by
-/// themselves, and whether some step was not followed.
+/// What a search has seen: the programs by their numbers, the states of each number of steps from none on,
+/// those of the last number by themselves, and whether some step was not followed.
 #[derive(Drop)]
 pub struct Search {
-    pub before: List<List<Reached>>,
-    pub last: List<Reached>,
+    pub nodes: Nodes,
+    pub before: List<List<Numbered>>,
+    pub last: List<Numbered>,
     pub cut: bool,
+}
+
+/// The run that led to the state at a place among these, through the levels before them. A place where no
+/// state stands has the empty run.
+fn steps_to(
+    alloc: Global,
+    nodes: &Nodes,
+    before: &[List<Numbered>],
+    states: &[Numbered],
+    place: usize,
+) -> Result<List<Way>, NoMemory>
+    requires states { HaveNumbers nodes.now states.now }
+    requires before { All (HaveNumbers nodes.now) before.now }
+    ensures { IfOk result (λ run. run
+        ≡ run_of (reverse (map (all_meant nodes.now) before.now)) (all_meant nodes.now states.now) place) }
+{
+    let [earlier @ .., nearer] = before else {
+        return Ok(List::new(alloc));
+    };
+    let Some(reached) = states.get(place) else {
+        return Ok(List::new(alloc));
+    };
+    let mut run = steps_to(alloc, nodes, earlier, nearer.as_slice(), reached.from)?;
+    let left = copy_prog(alloc, nodes.prog(reached.left))?;
+    run.push(Way {
+        label: reached.label,
+        left,
+    })?;
+    Ok(run)
 }
 
 impl Search {
     /// A search that stands where it begins.
     pub fn new(alloc: Global, prog: &Prog, state: &State) -> Result<Search, NoMemory>
-        ensures { IfOk result (λ search. search
+        ensures looked { IfOk result (λ search. looked_of search
             ≡ record { before = []; last = start_of prog.now state.now ∷ []; cut = false }) }
+        ensures numbers { IfOk result IsNumbered }
     {
-        let start = Reached::start(alloc, prog, state)?;
+        let mut nodes = Nodes::new(alloc)?;
+        let start = Numbered::start(alloc, &mut nodes, prog, state)?;
+        let before = List::new(alloc);
+        let mut last = List::new(alloc);
+        last.push(start)?;
         Ok(Search {
-            before: List::new(alloc),
-            last: List::from_vec(vec![in alloc; start]?),
+            nodes,
+            before,
+            last,
             cut: false,
         })
     }
@@ -38,24 +78,73 @@ impl Search {
     /// Whether something stays unseen: what comes after the last level, or after a step that was not
     /// followed.
     pub fn is_cut(&self) -> bool
-        ensures { result ≡ (not (is_empty self.now.last) || self.now.cut) }
+        ensures { result ≡ (not (is_empty (looked_of self.now).last) || self.now.cut) }
     {
         !self.last.is_empty() || self.cut
+    }
+
+    /// How many states the last level has.
+    pub fn width(&self) -> usize
+        ensures { result ≡ length (looked_of self.now).last }
+    {
+        self.last.len()
     }
 
     /// Looks one step further. After an `Err` the search is of no more use: its last level may be lost.
     pub fn deepen(&mut self, alloc: Global, agent: &Agent, mode: Mode) -> Result<(), NoMemory>
         requires agent { WellFormed agent.now }
-        requires searched { AreSearched agent.now self.old.last }
-        ensures before { OnOk result (self.new.before ≡ self.old.before ++ self.old.last ∷ []) }
-        ensures last { OnOk result (self.new.last ≡ (next_of agent.now mode self.old.last).states) }
+        requires numbers { IsNumbered self.old }
+        requires searched { AreSearched agent.now (looked_of self.old).last }
+        ensures before { OnOk result ((looked_of self.new).before
+            ≡ (looked_of self.old).before ++ (looked_of self.old).last ∷ []) }
+        ensures last { OnOk result ((looked_of self.new).last
+            ≡ (next_of agent.now mode (looked_of self.old).last).states) }
         ensures cut { OnOk result (self.new.cut
-            ≡ (self.old.cut || (next_of agent.now mode self.old.last).cut)) }
-        ensures searched { OnOk result (AreSearched agent.now self.new.last) }
+            ≡ (self.old.cut || (next_of agent.now mode (looked_of self.old).last).cut)) }
+        ensures searched { OnOk result (AreSearched agent.now (looked_of self.new).last) }
+        ensures numbers { OnOk result (IsNumbered self.new) }
     {
-        let next = next_level(alloc, agent, mode, self.last.as_slice())?;
-        let last = mem::replace(&mut self.last, next.states);
-        self.cut = self.cut || next.cut;
-        self.before.push(last)
+        let next = next_level(alloc, agent, mode, &mut self.nodes, self.last.as_slice())?;
+        let Level { states, seen, cut } = next;
+        drop(seen);
+        let last = mem::replace(&mut self.last, states);
+        self.cut = self.cut || cut;
+        self.before.push(last)?;
+        Ok(())
+    }
+
+    /// The place of the first state of the last level in which the program may end.
+    pub fn first_end(
+        &self,
+        alloc: Global,
+        agent: &Agent,
+        mode: Mode,
+    ) -> Result<Option<usize>, NoMemory>
+        requires agent { WellFormed agent.now }
+        requires numbers { IsNumbered self.now }
+        requires searched { AreSearched agent.now (looked_of self.now).last }
+        ensures { IfOk result (λ place. place
+            ≡ position_from (ends_at agent.now mode) 0 (looked_of self.now).last) }
+    {
+        let last = self.last.as_slice();
+        for (place, reached) in last.iter().enumerate() {
+            let left = self.nodes.prog(reached.left);
+            if is_final(alloc, agent, mode, left, &reached.state)? {
+                return Ok(Some(place));
+            }
+        }
+        Ok(None)
+    }
+
+    /// The run that led to the state at a place of the last level. A place where no state stands has the empty
+    /// run.
+    pub fn run_to(&self, alloc: Global, place: usize) -> Result<List<Way>, NoMemory>
+        requires { IsNumbered self.now }
+        ensures { IfOk result (λ run. run
+            ≡ run_of (reverse (looked_of self.now).before) (looked_of self.now).last place) }
+    {
+        let before = self.before.as_slice();
+        let last = self.last.as_slice();
+        steps_to(alloc, &self.nodes, before, last, place)
     }
 }

@@ -1,24 +1,27 @@
 use crate::block_steps::{block_of, first_of_block, reach_of_block};
 use crate::reach::FirstStep;
+use crate::told::Told;
 use golog_progress::State;
 use golog_semantics::Move;
 use golog_tree::{Agent, Prog, Way};
 use golog_ways::{Blocks, Reach, Stop};
 use std::alloc::Global;
 
-/// Tells the steps of search blocks in a state by searching them, as far as their fuel suffices where the
-/// searches are bounded.
+/// Tells the steps of search blocks in a state by what is told of the runs under way and by searching, as far as
+/// the fuel of the blocks suffices where the searches are bounded.
 #[derive(Clone, Copy)]
 pub struct Searches<'a> {
     pub state: &'a State,
     pub bounded: bool,
+    pub told: &'a [Told],
 }
 
 impl<'a> Blocks for Searches<'a> {
     ghost use Rattle.golog_semantics.specs.Blocks.{block_moves};
-    ghost use Rattle.golog_search.specs.BlockSteps.{IsSearchedIn, wants_more};
+    ghost use Rattle.golog_search.specs.BlockSteps.{wants_more};
+    ghost use Rattle.golog_search.specs.Told.{IsReady};
 
-    ghost ready = { λ searches agent values. IsSearchedIn agent values searches.state.now };
+    ghost ready = { λ searches agent values. IsReady agent values searches.state.now searches.told.now };
 
     ghost moves = { λ searches agent values. block_moves agent values };
 
@@ -36,7 +39,15 @@ impl<'a> Blocks for Searches<'a> {
         rest: &[Way],
     ) -> Result<Option<Move>, Stop> {
         let block = block_of(alloc, depth, fuel, body)?;
-        match first_of_block(alloc, agent, &block, rest, self.state, self.bounded)? {
+        match first_of_block(
+            alloc,
+            agent,
+            &block,
+            rest,
+            self.state,
+            self.bounded,
+            self.told,
+        )? {
             FirstStep::Step(step) => Ok(step),
             FirstStep::Fuel => Err(Stop::Fuel),
         }
@@ -53,6 +64,14 @@ impl<'a> Blocks for Searches<'a> {
         rest: &[Way],
     ) -> Result<Reach, Stop> {
         let block = block_of(alloc, depth, fuel, body)?;
-        reach_of_block(alloc, agent, &block, rest, self.state, self.bounded)
+        reach_of_block(
+            alloc,
+            agent,
+            &block,
+            rest,
+            self.state,
+            self.bounded,
+            self.told,
+        )
     }
 }

@@ -8,7 +8,7 @@ ghost use Rattle.golog_semantics.specs.SortLaws.{AreInSorts};
 ghost use Rattle.golog_semantics.specs.WellFormed.{WellFormed};
 ghost use Rattle.golog_ways.specs.Closed.{IsClosed};
 ghost use Rattle.golog_search.specs.Finding.{mode_of};
-ghost use Rattle.golog_search.specs.Levels.{IsSearched};
+ghost use Rattle.golog_ways.specs.Searched.{IsSearched};
 ghost use Rattle.golog_search.specs.Weighing.{lacks_fuel as lacks, some_weighs as weighs_some};
 ghost use Rattle.golog_search.specs.Weighing.{weighs_by, weighs_unless_kept};
 
@@ -135,7 +135,7 @@ fn follow_weighs(
     ensures { IfOk result (λ b. b ≡ weighs_unless_kept agent.now state.now at.stepless at.higher
         (record { depth = depth; fuel = fuel; body = body.now }) rest.now) }
 {
-    if is_kept(alloc, agent, body, rest, state)? {
+    if is_kept(alloc, agent, body, rest, state, &[])? {
         Ok(false)
     } else {
         search_weighs(alloc, agent, depth, fuel, body, state, at)

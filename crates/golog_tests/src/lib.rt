@@ -20,6 +20,8 @@ mod journals;
 #[cfg(test)]
 mod limits;
 #[cfg(test)]
+mod lines;
+#[cfg(test)]
 mod modes;
 #[cfg(test)]
 mod numbered;
@@ -43,5 +45,7 @@ mod trees;
 mod truths;
 #[cfg(test)]
 mod values;
+#[cfg(test)]
+mod watched;
 #[cfg(test)]
 mod worlds;

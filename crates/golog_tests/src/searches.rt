@@ -14,10 +14,10 @@ use std::alloc::Global;
 /// What is asked of a search: how long its runs may be, how many states may be looked at, and whether its run
 /// is to be certain.
 #[derive(Clone, Copy)]
-struct Asked {
-    depth: u32,
-    fuel: u32,
-    certain: bool,
+pub struct Asked {
+    pub depth: u32,
+    pub fuel: u32,
+    pub certain: bool,
 }
 
 /// What a search is to come to: a run of these labels, none, or want of fuel.
@@ -54,7 +54,7 @@ fn is_wanted(found: &Found, wanted: Wanted<'_>) -> bool {
 }
 
 /// The agent's program as a search block.
-fn block_of(alloc: Global, agent: &Agent, asked: Asked) -> Result<Block, NoMemory>
+pub fn block_of(alloc: Global, agent: &Agent, asked: Asked) -> Result<Block, NoMemory>
     ensures { IfOk result (λ block. block.body ≡ agent.now.main) }
 {
     let body = copy_prog(alloc, &agent.main)?;
@@ -67,7 +67,7 @@ fn block_of(alloc: Global, agent: &Agent, asked: Asked) -> Result<Block, NoMemor
 
 /// What the search of that block comes to at the start.
 #[tactic(auto, using(crate::proofs::Searched::body_fits, crate::proofs::Searched::body_free))]
-fn find_at_start(
+pub fn find_at_start(
     alloc: Global,
     agent: &Agent,
     block: &Block,

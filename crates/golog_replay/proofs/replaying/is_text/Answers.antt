@@ -1,17 +1,33 @@
-use Rattle.std.proofs.Common.{◌++◌, refl, sym, ap, ◌∙◌, subst}
+use Rattle.std.proofs.Common.{◌≡◌, ◌+◌, [], ◌∷◌, ◌++◌, length, refl, sym, ap, ◌∙◌, subst, arith}
+use Rattle.std.specs.Prelude.{IfSome}
+use Rattle.std.proofs.lemmas.List.{length_push, same_from_push}
 use Rattle.golog_semantics.specs.Same.{same_values}
-use Rattle.golog_semantics.specs.SortLaws.{AreInSorts}
 use Rattle.golog_semantics.specs.Text.{line_text}
+use Rattle.golog_text.specs.Named.{AreLabels}
+use Rattle.golog_text.proofs.Things.{run_named}
 use Rattle.golog_replay.proofs.replaying.is_text.Goals as goal
 
-pub write_line-requires-clause-sorts : goal.write_line-requires-clause-sorts
-write_line-requires-clause-sorts c = subst (AreInSorts c.args.agent.now) (sym c.values.ensures) c.requires.sorts
-
-pub returns : goal.returns
-returns c =
+pub try_fill-requires-clause-labels : goal.try_fill-requires-clause-labels
+try_fill-requires-clause-labels c =
     let agent = c.args.agent.now in
+    subst (λ run. IfSome run (AreLabels agent)) (sym c.run_here-run.ensures) (run_named agent c.args.runs.now c.requires.runs (length c.args.before.now))
+
+pub returns-in-Some : goal.returns-in-Some
+returns-in-Some c =
     let before = c.args.before.now in
-    let line = line_text agent c.args.runs.now before c.args.entry in
-    c.eq.ensures
-    ∙ ap (same_values c.args.line.now)
-    (c.as_slice.ensures ∙ c.in_ok-write_line.ensures.line before refl (sym (c.values.ensures ∙ c.requires.values)) ∙ ap (λ t. t ++ line) c.clear.ensures)
+    let runs = c.args.runs.now in
+    let line = line_text c.args.agent.now runs before c.args.entry in
+    let full : c.in_ok-filled.filled.now ≡ line ++ 10 ∷ [] =
+    c.in_ok-filled.ensures.line before runs refl (sym c.requires.values) (sym c.run_here-run.ensures) in
+    let same : c.in-Some.own.now ≡ line = (same_from_push c.in-Some.own.now line _ 10 (sym c.in-Some.ensures.cases.0 ∙ full)).0 in
+    c.eq.ensures ∙ ap (same_values c.args.line.now) same
+
+pub returns-in-None : goal.returns-in-None
+returns-in-None c =
+    let before = c.args.before.now in
+    let runs = c.args.runs.now in
+    let line = line_text c.args.agent.now runs before c.args.entry in
+    let full : c.in_ok-filled.filled.now ≡ line ++ 10 ∷ [] =
+    c.in_ok-filled.ensures.line before runs refl (sym c.requires.values) (sym c.run_here-run.ensures) in
+    let long : length c.in_ok-filled.filled.now ≡ length line + 1 = ap length full ∙ length_push line 10 in
+    absurd (omega (arith, long, c.in-None.ensures.cases))

@@ -19,7 +19,7 @@ pub first_move-requires-clause-whole : goal.first_move-requires-clause-whole
 first_move-requires-clause-whole c = ap length c.values.ensures ∙ c.requires.sorts.whole
 
 pub first_move-requires-clause-ready : goal.first_move-requires-clause-ready
-first_move-requires-clause-ready c = searched-at c.args.agent.now c.args.prog.now c.values.result.now c.args.state.now c.values.ensures c.requires.agent c.requires.sorts
+first_move-requires-clause-ready c = record { searched = searched-at c.args.agent.now c.args.prog.now c.values.result.now c.args.state.now c.values.ensures c.requires.agent c.requires.sorts; told = c.requires.told }
 
 pub returns-then-branch : goal.returns-then-branch
 returns-then-branch c = ends c.args.agent.now c.args.state.now c.args.prog.now c.args.bounded (sym c.in_ok-is_final.ensures.end ∙ c.if-branch.true)

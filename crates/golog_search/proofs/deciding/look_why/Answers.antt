@@ -20,7 +20,7 @@ pub reach_of-requires-clause-whole : goal.reach_of-requires-clause-whole
 reach_of-requires-clause-whole c = ap length c.values.ensures ∙ c.requires.sorts.whole
 
 pub reach_of-requires-clause-ready : goal.reach_of-requires-clause-ready
-reach_of-requires-clause-ready c = searched-at c.args.agent.now c.args.prog.now c.values.result.now c.args.state.now c.values.ensures c.requires.agent c.requires.sorts
+reach_of-requires-clause-ready c = record { searched = searched-at c.args.agent.now c.args.prog.now c.values.result.now c.args.state.now c.values.ensures c.requires.agent c.requires.sorts; told = c.requires.told }
 
 pub returns-then-branch : goal.returns-then-branch
 returns-then-branch c =

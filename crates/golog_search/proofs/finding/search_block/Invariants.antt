@@ -1,5 +1,7 @@
+use Rattle.golog_search.specs.Numbers.{IsNumbered, looked_of}
 use Rattle.golog_search.proofs.Searching.{IsSearching}
 use Rattle.golog_search.proofs.finding.search_block.Given as goal
 
 abbrev pub invariant-loop-step : goal.invariant-loop-step
-invariant-loop-step l = IsSearching l.bounded l.agent l.mode l.block l.state l._step l.fuel l.search
+invariant-loop-step l =
+    IsNumbered l.search × IsSearching l.bounded l.agent l.mode l.block l.state l._step l.fuel (looked_of l.search)

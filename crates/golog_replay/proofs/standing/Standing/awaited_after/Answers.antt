@@ -1,6 +1,6 @@
 use Rattle.std.proofs.Common.{◌≡◌, ℕ, [], ◌∷◌, ◌++◌, length, refl, sym, ap, ◌∙◌, subst}
 use Rattle.golog_semantics.specs.declared.journal.Entry.{Entry}
-use Rattle.golog_semantics.specs.Journal.{device_of, outstanding, sensed}
+use Rattle.golog_semantics.specs.Journal.{device_of, outstanding_commands, sensed}
 use Rattle.golog_semantics.specs.Online.{keeps_place}
 use Rattle.golog_tree.specs.declared.agent.Agent.{Agent}
 use Rattle.golog_replay.specs.declared.standing.Awaited.{Awaited}
@@ -16,7 +16,7 @@ returns-in_err-device-in-Do c =
     let action = c.in-Do.action in
     let none = none-awaited agent before c.args.self.now.awaited c.requires.standing.awaits (c.requires.settled action c.in-Do.is) in
     subst (AwaitsFrom agent (before ++ c.args.entry ∷ [])) (sym c.from_residual.ensures)
-    (subst (λ (e : Entry). (d : ℕ) → outstanding agent d (before ++ e ∷ []) ≡ []) (sym c.in-Do.is)
+    (subst (λ (e : Entry). (d : ℕ) → outstanding_commands agent d (before ++ e ∷ []) ≡ []) (sym c.in-Do.is)
     (asks-none agent before action none (sym (c.in_err-device-in-Do.ensures ∙ ap (λ (a : Agent). device_of a action) c.requires.standing.facts_so))))
 
 pub returns-in_err-fluent-in-Do : goal.returns-in_err-fluent-in-Do
@@ -26,7 +26,7 @@ returns-in_err-fluent-in-Do c =
     let action = c.in-Do.action in
     let none = none-awaited agent before c.args.self.now.awaited c.requires.standing.awaits (c.requires.settled action c.in-Do.is) in
     subst (AwaitsFrom agent (before ++ c.args.entry ∷ [])) (sym c.from_residual-in_err-fluent-in-Do.ensures)
-    (subst (λ (e : Entry). (d : ℕ) → outstanding agent d (before ++ e ∷ []) ≡ []) (sym c.in-Do.is)
+    (subst (λ (e : Entry). (d : ℕ) → outstanding_commands agent d (before ++ e ∷ []) ≡ []) (sym c.in-Do.is)
     (asks-nothing agent before action none (sym (c.in_err-fluent-in-Do.ensures ∙ ap (λ (a : Agent). sensed a action) c.requires.standing.facts_so))))
 
 pub returns-in_ok-fluent-in-Do : goal.returns-in_ok-fluent-in-Do
@@ -47,7 +47,7 @@ returns-in-Sense c =
     let agent = c.args.agent.now in
     let before = c.args.before.now in
     let s = c.in-Sense in
-    subst (λ (e : Entry). (d : ℕ) → outstanding agent d (before ++ e ∷ []) ≡ []) (sym s.is)
+    subst (λ (e : Entry). (d : ℕ) → outstanding_commands agent d (before ++ e ∷ []) ≡ []) (sym s.is)
     (comes agent before c.args.self.now.awaited c.requires.standing.awaits s.poster s.place s.fluent s.value
     (sym (ap (keeps_place agent before) s.is) ∙ c.requires.place))
 

@@ -5,11 +5,14 @@ use Rattle.golog_search.proofs.ReachOfBlock.{lacks-given, reach-given}
 use Rattle.golog_search.proofs.searches.SearchesBlocks.reach.Goals as goal
 
 pub reach_of_block-requires-clause-agent : goal.reach_of_block-requires-clause-agent
-reach_of_block-requires-clause-agent c = c.requires.ready.formed
+reach_of_block-requires-clause-agent c = c.requires.ready.searched.formed
+
+pub reach_of_block-requires-clause-told : goal.reach_of_block-requires-clause-told
+reach_of_block-requires-clause-told c = c.requires.ready.told
 
 pub reach_of_block-requires-clause-searched : goal.reach_of_block-requires-clause-searched
 reach_of_block-requires-clause-searched c =
-    follow_searched c.args.agent.now c.args._values.now c.args.self.now.state.now c.requires.ready c.args.body.now c.in_ok-block.block.body (ap (λ (b : Block). b.body) c.in_ok-block.ensures)
+    follow_searched c.args.agent.now c.args._values.now c.args.self.now.state.now c.requires.ready.searched c.args.body.now c.in_ok-block.block.body (ap (λ (b : Block). b.body) c.in_ok-block.ensures)
     c.args.depth c.args.fuel c.args.rest.now c.requires.closed
 
 pub reach_of_block-requires-clause-depth : goal.reach_of_block-requires-clause-depth
@@ -18,9 +21,9 @@ reach_of_block-requires-clause-depth c =
 
 pub returns-clause-reach : goal.returns-clause-reach
 returns-clause-reach c =
-    reach-given c.args.agent.now c.args._values.now c.args.self.now.state.now c.requires.ready.same c.in_ok-block.block _ c.in_ok-block.ensures c.args.rest.now c.reach_of_block.result c.reach_of_block.ensures.reach
+    reach-given c.args.agent.now c.args._values.now c.args.self.now.state.now c.requires.ready.searched.same c.in_ok-block.block _ c.in_ok-block.ensures c.args.rest.now c.reach_of_block.result c.reach_of_block.ensures.reach
 
 pub returns-clause-fuel : goal.returns-clause-fuel
 returns-clause-fuel c =
-    lacks-given c.args.agent.now c.args._values.now c.args.self.now.state.now c.requires.ready.same c.in_ok-block.block _ c.in_ok-block.ensures c.args.rest.now c.args.self.now.bounded
+    lacks-given c.args.agent.now c.args._values.now c.args.self.now.state.now c.requires.ready.searched.same c.in_ok-block.block _ c.in_ok-block.ensures c.args.rest.now c.args.self.now.bounded
     c.reach_of_block.result c.reach_of_block.ensures.fuel

@@ -1,0 +1,6 @@
+use Rattle.std.proofs.lemmas.List.Elements.{All-nil}
+use Rattle.golog_search.specs.Told.{IsTold}
+use Rattle.golog_search.proofs.deciding.decide_step.Goals as goal
+
+pub look_ahead-requires-clause-told : goal.look_ahead-requires-clause-told
+look_ahead-requires-clause-told c = All-nil (IsTold c.args.agent.now c.args.state.now)

@@ -1,0 +1,52 @@
+use Rattle.std.proofs.Common.{◌≡◌, List, [], ◌∷◌, ◌++◌, map, sym, ap, ◌∙◌, subst}
+use Rattle.std.specs.Prelude.{All}
+use Rattle.golog_search.specs.declared.numbered.Numbered.{Numbered}
+use Rattle.golog_search.specs.Levels.{AreSearched, Level, next_level}
+use Rattle.golog_search.specs.Numbers.{HaveNumbers, all_meant, looked_of}
+use Rattle.golog_search.proofs.LevelsStay.{next_level-stays}
+use Rattle.golog_search.proofs.Numbering.{before-further, before-numbers}
+use Rattle.golog_search.proofs.search.Search.deepen.Goals as goal
+
+pub next_level-requires-clause-numbers : goal.next_level-requires-clause-numbers
+next_level-requires-clause-numbers c = subst (HaveNumbers c.args.self.now.nodes) (sym c.as_slice.ensures) c.requires.numbers.last
+
+pub next_level-requires-clause-searched : goal.next_level-requires-clause-searched
+next_level-requires-clause-searched c =
+    subst (λ (ns : List Numbered). AreSearched c.args.agent.now (all_meant c.args.self.now.nodes ns)) (sym c.as_slice.ensures) c.requires.searched
+
+pub returns-clause-before : goal.returns-clause-before
+returns-clause-before c =
+    let old = c.args.self.now in
+    let nodes = c.next_level.new.nodes in
+    let added : c.push.new.self ≡ old.before ++ old.last ∷ [] = c.in_ok-push.ensures.ok ∙ ap (λ (ns : List Numbered). old.before ++ ns ∷ []) c.replace-last.ensures.value in
+    ap (map (all_meant nodes)) added
+    ∙ before-further old.nodes nodes old.before old.last c.in_ok-next.ensures.goes_on c.requires.numbers.before c.requires.numbers.last
+
+pub returns-clause-last : goal.returns-clause-last
+returns-clause-last c =
+    let old = c.args.self.now in
+    let nodes = c.next_level.new.nodes in
+    ap (all_meant nodes) c.replace-last.ensures.after
+    ∙ ap (λ (l : Level). l.states) c.in_ok-next.ensures.next
+    ∙ ap (λ (ns : List Numbered). (next_level c.args.agent.now c.args.mode (all_meant old.nodes ns)).states) c.as_slice.ensures
+
+pub returns-clause-searched : goal.returns-clause-searched
+returns-clause-searched c =
+    let agent = c.args.agent.now in
+    let old = c.args.self.now in
+    let nodes = c.next_level.new.nodes in
+    let last : all_meant nodes c.replace-last.new.dest ≡ (next_level agent c.args.mode (looked_of old).last).states =
+    ap (all_meant nodes) c.replace-last.ensures.after
+    ∙ ap (λ (l : Level). l.states) c.in_ok-next.ensures.next
+    ∙ ap (λ (ns : List Numbered). (next_level agent c.args.mode (all_meant old.nodes ns)).states) c.as_slice.ensures in
+    subst (AreSearched agent) (sym last) (next_level-stays agent c.requires.agent c.args.mode (looked_of old).last c.requires.searched)
+
+pub returns-clause-numbers : goal.returns-clause-numbers
+returns-clause-numbers c =
+    let old = c.args.self.now in
+    let nodes = c.next_level.new.nodes in
+    let added : c.push.new.self ≡ old.before ++ old.last ∷ [] = c.in_ok-push.ensures.ok ∙ ap (λ (ns : List Numbered). old.before ++ ns ∷ []) c.replace-last.ensures.value in
+    record {
+      before = subst (All (HaveNumbers nodes)) (sym added) (before-numbers old.nodes nodes old.before old.last c.in_ok-next.ensures.goes_on c.requires.numbers.before c.requires.numbers.last);
+      last = subst (HaveNumbers nodes) (sym c.replace-last.ensures.after) c.in_ok-next.ensures.level.numbers;
+    }

@@ -1,0 +1,24 @@
+use Rattle.std.proofs.Common.{List, [], ◌∷◌, ◌++◌, sym, ap, ◌∙◌, subst}
+use Rattle.std.specs.Prelude.{All}
+use Rattle.std.proofs.lemmas.List.Elements.{All-nil}
+use Rattle.golog_search.specs.declared.numbered.Numbered.{Numbered}
+use Rattle.golog_search.specs.Levels.{start_of}
+use Rattle.golog_search.specs.Numbers.{HaveNumbers}
+use Rattle.golog_search.proofs.Numbering.{begun-looked, begun-numbers}
+use Rattle.golog_search.proofs.search.Search.new.Goals as goal
+
+pub returns-clause-looked : goal.returns-clause-looked
+returns-clause-looked c =
+    let start = c.in_ok-start.start in
+    let one = c.in_ok-push.ensures.ok ∙ ap (λ (ns : List Numbered). ns ++ start ∷ []) c.new-last.ensures in
+    begun-looked c.start.new.nodes c.new-before.result c.push.new.self start (start_of c.args.prog.now c.args.state.now) c.new-before.ensures one c.in_ok-start.ensures.means
+
+pub returns-clause-numbers : goal.returns-clause-numbers
+returns-clause-numbers c =
+    let nodes = c.start.new.nodes in
+    let start = c.in_ok-start.start in
+    let one = c.in_ok-push.ensures.ok ∙ ap (λ (ns : List Numbered). ns ++ start ∷ []) c.new-last.ensures in
+    record {
+      before = subst (All (HaveNumbers nodes)) (sym c.new-before.ensures) (All-nil (HaveNumbers nodes));
+      last = begun-numbers nodes c.push.new.self start c.args.prog.now one c.in_ok-start.ensures.program;
+    }

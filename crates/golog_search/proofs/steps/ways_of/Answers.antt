@@ -1,5 +1,0 @@
-use Rattle.golog_search.proofs.SearchedWays.{free-of}
-use Rattle.golog_search.proofs.steps.ways_of.Goals as goal
-
-pub fronts-requires-clause-free : goal.fronts-requires-clause-free
-fronts-requires-clause-free c = free-of c.args.agent.now c.args.prog.now c.args.state.now c.requires.searched
