@@ -10,7 +10,7 @@ use Rattle.golog_semantics.specs.declared.journal.Entry.{Entry}
 use Rattle.golog_semantics.specs.declared.journal.Entry.TheVariants.{Do, Test, Exo, Sense, Rest, Close, End}
 use Rattle.golog_tree.specs.Ground.{sort_size}
 use Rattle.golog_semantics.specs.Values.{fluent_sort}
-use Rattle.golog_semantics.specs.Journal.{Journal, Command, commands, device_of, is_carried_by, is_held, is_open, is_outstanding, is_result_of, is_sensing, is_settled, is_waiting_for, outstanding}
+use Rattle.golog_semantics.specs.Journal.{Journal, Command, commands, device_of, is_carried_by, is_held, is_open, is_outstanding, is_result_of, is_sensing, is_settled, is_waiting_for, outstanding_commands}
 use Rattle.golog_semantics.specs.Online.{is_result, keeps_place}
 use Rattle.golog_semantics.specs.Answer.{is_unanswered}
 use Rattle.golog_semantics.specs.OneMore.{and_then, new_command}
@@ -51,7 +51,7 @@ one-any f d h a (suc n) low high = go (cases_eq a d) (λ (k : a ≢ d). one-any 
 module _ (agent : Agent) (journal : Journal) where
   -- ---- what is waited for
 
-  none-waited : (d : ℕ) → outstanding agent d journal ≡ [] → is_waiting_for agent journal d ≡ false
+  none-waited : (d : ℕ) → outstanding_commands agent d journal ≡ [] → is_waiting_for agent journal d ≡ false
   none-waited d none = ap (λ cs. not (is_empty (filter (λ c. is_held agent c.action) cs))) none
 
   sensing-out : (c : Command) (cs : List Command) → filter (is_outstanding agent journal) cs ≡ c ∷ [] → is_sensing agent c.action ≡ true
@@ -67,15 +67,15 @@ module _ (agent : Agent) (journal : Journal) where
       go false e rest =
           rest (sym (ap (λ b. if b then x ∷ filter (is_outstanding agent journal) cs else filter (is_outstanding agent journal) cs) e) ∙ h)
 
-  waited : (d : ℕ) (c : Command) → outstanding agent d journal ≡ c ∷ [] → is_waiting_for agent journal d ≡ true
+  waited : (d : ℕ) (c : Command) → outstanding_commands agent d journal ≡ c ∷ [] → is_waiting_for agent journal d ≡ true
   waited d c own =
       ap (λ cs. not (is_empty (filter (λ x. is_held agent x.action) cs))) own
       ∙ ap (λ cs. not (is_empty cs)) (filter-if (λ (x : Command). is_held agent x.action) c true (sensing-out c (commands agent d journal) own))
 
-  pub settled-none : ((d : ℕ) → outstanding agent d journal ≡ []) → is_settled agent journal ≡ true
+  pub settled-none : ((d : ℕ) → outstanding_commands agent d journal ≡ []) → is_settled agent journal ≡ true
   settled-none none = ap not (none-any (is_waiting_for agent journal) (λ d. none-waited d (none d)) 0 (length agent.devices))
 
-  pub unanswered-none : ((d : ℕ) → outstanding agent d journal ≡ []) → is_unanswered agent journal ≡ false
+  pub unanswered-none : ((d : ℕ) → outstanding_commands agent d journal ≡ []) → is_unanswered agent journal ≡ false
   unanswered-none none =
       none-any (λ d. not (is_open d journal) && is_waiting_for agent journal d)
       (λ d. ap (λ b. not (is_open d journal) && b) (none-waited d (none d)) ∙ and-false (not (is_open d journal))) 0 (length agent.devices)
@@ -124,22 +124,22 @@ module _ (agent : Agent) (journal : Journal) where
     abbrev more : ℕ → List Command
     more d = filter (is_outstanding agent after) (new_command agent journal e d)
 
-    grows : (d : ℕ) → outstanding agent d after ≡ filter (λ c. not (is_result_of c.place e)) (outstanding agent d journal) ++ more d
+    grows : (d : ℕ) → outstanding_commands agent d after ≡ filter (λ c. not (is_result_of c.place e)) (outstanding_commands agent d journal) ++ more d
     grows d = (commands_grow agent journal e d).waiting
 
     -- an entry that is no result and no command
-    stays : ((c : Command) → is_result_of c.place e ≡ false) → ((d : ℕ) → new_command agent journal e d ≡ []) → (d : ℕ) → outstanding agent d after ≡ outstanding agent d journal
+    stays : ((c : Command) → is_result_of c.place e ≡ false) → ((d : ℕ) → new_command agent journal e d ≡ []) → (d : ℕ) → outstanding_commands agent d after ≡ outstanding_commands agent d journal
     stays no_result none d =
         grows d
-        ∙ ap (λ cs. filter (λ c. not (is_result_of c.place e)) (outstanding agent d journal) ++ filter (is_outstanding agent after) cs) (none d)
-        ∙ append-nil (filter (λ c. not (is_result_of c.place e)) (outstanding agent d journal))
-        ∙ kept (outstanding agent d journal)
+        ∙ ap (λ cs. filter (λ c. not (is_result_of c.place e)) (outstanding_commands agent d journal) ++ filter (is_outstanding agent after) cs) (none d)
+        ∙ append-nil (filter (λ c. not (is_result_of c.place e)) (outstanding_commands agent d journal))
+        ∙ kept (outstanding_commands agent d journal)
       where
         kept : (cs : List Command) → filter (λ c. not (is_result_of c.place e)) cs ≡ cs
         kept [] = refl
         kept (c ∷ cs) = rw (no_result c) (ap (λ ys. c ∷ ys) (kept cs))
 
-    stays-so : ((d : ℕ) → outstanding agent d after ≡ outstanding agent d journal) → (awaited : Option ℕ) → AwaitsFrom agent journal awaited → AwaitsFrom agent after awaited
+    stays-so : ((d : ℕ) → outstanding_commands agent d after ≡ outstanding_commands agent d journal) → (awaited : Option ℕ) → AwaitsFrom agent journal awaited → AwaitsFrom agent after awaited
     stays-so same None none = λ d. same d ∙ none d
     stays-so same (Some device) one = record {
       is_device = one.is_device;
@@ -150,19 +150,19 @@ module _ (agent : Agent) (journal : Journal) where
 
   -- a result is that of the one command
   sensed : (p at f v : ℕ) → keeps_place agent journal (Sense p at f v) ≡ true → (awaited : Option ℕ) → AwaitsFrom agent journal awaited
-      → (d : ℕ) → outstanding agent d (and_then journal (Sense p at f v)) ≡ []
+      → (d : ℕ) → outstanding_commands agent d (and_then journal (Sense p at f v)) ≡ []
   sensed p at f v keeps awaited awaits d =
       grows (Sense p at f v) d
-      ∙ append-nil (filter (λ c. not (is_result_of c.place (Sense p at f v))) (outstanding agent d journal))
+      ∙ append-nil (filter (λ c. not (is_result_of c.place (Sense p at f v))) (outstanding_commands agent d journal))
       ∙ gone awaited awaits
     where
-      first : option_map_or (is_result agent journal at f) (slice_get (outstanding agent p journal) 0) false ≡ true
-      first = (and_parts (option_map_or (is_result agent journal at f) (slice_get (outstanding agent p journal) 0) false) (nat_lt v (sort_size agent (fluent_sort agent f))) keeps).0
+      first : option_map_or (is_result agent journal at f) (slice_get (outstanding_commands agent p journal) 0) false ≡ true
+      first = (and_parts (option_map_or (is_result agent journal at f) (slice_get (outstanding_commands agent p journal) 0) false) (nat_lt v (sort_size agent (fluent_sort agent f))) keeps).0
 
-      nothing : outstanding agent p journal ≡ [] → ⊥
+      nothing : outstanding_commands agent p journal ≡ [] → ⊥
       nothing none = absurd (let k = sym (ap (λ cs. option_map_or (is_result agent journal at f) (slice_get cs 0) false) none) ∙ first in cc)
 
-      gone : (awaited : Option ℕ) → AwaitsFrom agent journal awaited → filter (λ c. not (is_result_of c.place (Sense p at f v))) (outstanding agent d journal) ≡ []
+      gone : (awaited : Option ℕ) → AwaitsFrom agent journal awaited → filter (λ c. not (is_result_of c.place (Sense p at f v))) (outstanding_commands agent d journal) ≡ []
       gone None none = ap (filter (λ c. not (is_result_of c.place (Sense p at f v)))) (none d)
       gone (Some device) one = go (cases_eq d device)
         where
@@ -172,22 +172,22 @@ module _ (agent : Agent) (journal : Journal) where
 
           here : one.command.place ≡ at
           here =
-              let own : outstanding agent p journal ≡ one.command ∷ [] = ap (λ k. outstanding agent k journal) (mine (cases_eq p device)) ∙ one.own in
+              let own : outstanding_commands agent p journal ≡ one.command ∷ [] = ap (λ k. outstanding_commands agent k journal) (mine (cases_eq p device)) ∙ one.own in
               let result : is_result agent journal at f one.command ≡ true = sym (ap (λ cs. option_map_or (is_result agent journal at f) (slice_get cs 0) false) own) ∙ first in
               eqb-true one.command.place at (and_parts (one.command.place == at) _ result).0
 
-          go : (d ≡ device) ⊎ (d ≡ device → ⊥) → filter (λ c. not (is_result_of c.place (Sense p at f v))) (outstanding agent d journal) ≡ []
+          go : (d ≡ device) ⊎ (d ≡ device → ⊥) → filter (λ c. not (is_result_of c.place (Sense p at f v))) (outstanding_commands agent d journal) ≡ []
           go (inl e) =
-              ap (filter (λ (c : Command). not (is_result_of c.place (Sense p at f v)))) (ap (λ k. outstanding agent k journal) e ∙ one.own)
+              ap (filter (λ (c : Command). not (is_result_of c.place (Sense p at f v)))) (ap (λ k. outstanding_commands agent k journal) e ∙ one.own)
               ∙ filter-if (λ (c : Command). not (is_result_of c.place (Sense p at f v))) one.command false (ap not (eq-eqb at one.command.place (sym here)))
           go (inr k) = ap (filter (λ (c : Command). not (is_result_of c.place (Sense p at f v)))) (one.others d k)
 
   -- an action: its result is awaited where it senses
-  module _ (action : ℕ) (serves : ServesDevices agent) (lawful : IsBoardList agent journal) (none : (d : ℕ) → outstanding agent d journal ≡ []) where
+  module _ (action : ℕ) (serves : ServesDevices agent) (lawful : IsBoardList agent journal) (none : (d : ℕ) → outstanding_commands agent d journal ≡ []) where
     abbrev c : Command
     c = record { place = length journal; action = action }
 
-    only-new : (d : ℕ) → outstanding agent d (and_then journal (Do action)) ≡ more (Do action) d
+    only-new : (d : ℕ) → outstanding_commands agent d (and_then journal (Do action)) ≡ more (Do action) d
     only-new d = grows (Do action) d ∙ ap (λ cs. filter (λ (x : Command). not false) cs ++ more (Do action) d) (none d)
 
     and-true : (b : Bool) → (b && true) ≡ b
@@ -205,7 +205,7 @@ module _ (agent : Agent) (journal : Journal) where
     new-if d true e = ap (λ k. option_to_list (if k then Some c else None)) e
     new-if d false e = ap (λ k. option_to_list (if k then Some c else None)) e
 
-    out-of : (d : ℕ) (b s : Bool) → is_carried_by agent d action ≡ b → is_sensing agent action ≡ s → outstanding agent d (and_then journal (Do action)) ≡ (if b && s then c ∷ [] else [])
+    out-of : (d : ℕ) (b s : Bool) → is_carried_by agent d action ≡ b → is_sensing agent action ≡ s → outstanding_commands agent d (and_then journal (Do action)) ≡ (if b && s then c ∷ [] else [])
     out-of d b s e k = only-new d ∙ ap (filter (is_outstanding agent (and_then journal (Do action)))) (new-if d b e) ∙ by b
       where
         by : (b : Bool) → filter (is_outstanding agent (and_then journal (Do action))) (if b then c ∷ [] else []) ≡ (if b && s then c ∷ [] else [])
@@ -215,7 +215,7 @@ module _ (agent : Agent) (journal : Journal) where
     pub asks : AwaitsFrom agent (and_then journal (Do action)) (asked_of agent action)
     asks = go (is_sensing agent action) refl
       where
-        by-none : (d : ℕ) (b : Bool) → is_carried_by agent d action ≡ b → is_sensing agent action ≡ false → outstanding agent d (and_then journal (Do action)) ≡ []
+        by-none : (d : ℕ) (b : Bool) → is_carried_by agent d action ≡ b → is_sensing agent action ≡ false → outstanding_commands agent d (and_then journal (Do action)) ≡ []
         by-none d true e k = out-of d true false e k
         by-none d false e k = out-of d false false e k
 
@@ -238,7 +238,7 @@ module _ (agent : Agent) (journal : Journal) where
       → AwaitsFrom agent journal awaited → AwaitsFrom agent (and_then journal e) (awaited_by agent awaited e)
   awaits-after awaited (Do action) serves lawful place settled awaits = asks action serves lawful (none awaited awaits)
     where
-      none : (awaited : Option ℕ) → AwaitsFrom agent journal awaited → (d : ℕ) → outstanding agent d journal ≡ []
+      none : (awaited : Option ℕ) → AwaitsFrom agent journal awaited → (d : ℕ) → outstanding_commands agent d journal ≡ []
       none None h = h
       none (Some device) one = absurd (let k = sym (settled action refl) ∙ settled-one device one in cc)
   awaits-after awaited (Sense p at f v) serves lawful place settled awaits = sensed p at f v place awaited awaits

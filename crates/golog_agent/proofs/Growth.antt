@@ -20,21 +20,22 @@ use Rattle.golog_semantics.specs.declared.Mode.TheVariants.{Must}
 use Rattle.golog_semantics.specs.Search.{final}
 use Rattle.golog_semantics.specs.Ways.{is_empty}
 use Rattle.golog_semantics.specs.Journal.{Journal, action_item, commands, count, has_end, is_end, is_settled, limit}
-use Rattle.golog_semantics.specs.Progress.{after_entry, values_after, left_after}
+use Rattle.golog_semantics.specs.Progress.{values_after, left_after}
 use Rattle.golog_semantics.specs.WellFormed.{WellFormed}
 use Rattle.golog_semantics.specs.Online.{IsOnlineSoFar, first_fault, is_first, is_result, keeps_step}
 use Rattle.golog_semantics.specs.OneMore.{and_then, with_runs}
 use Rattle.golog_semantics.specs.InlineText.{begun_runs, placed, report_of}
 use Rattle.golog_semantics.specs.Reports.{fits_entry, is_device, is_exogenous, is_value}
-use Rattle.golog_semantics.specs.SortLaws.{AreInSorts}
 use Rattle.golog_semantics.specs.Blocks.{moves}
 use Rattle.golog_semantics.proofs.Grown.{entries_grow, progress_grows}
+use Rattle.golog_semantics.proofs.LeftFits.{left_after-fits}
 use Rattle.golog_semantics.proofs.NoFaults.{so_far-no-fault}
 use Rattle.golog_semantics.proofs.OnlineSorts.{online_stays}
 use Rattle.golog_progress.specs.Entries.{EntryFits, EntriesFit}
-use Rattle.golog_journal.specs.Boards.{IsBoardList}
+use Rattle.golog_journal.specs.Boards.{AgentJournal, IsBoardList}
 use Rattle.golog_journal.proofs.Lawful.{lawful-last, lawful-parts}
 use Rattle.golog_journal.proofs.Serving.{well_formed_serves}
+use Rattle.golog_agent.specs.Configuration.{Configuration, IsSound, configuration_after, with_entry}
 use Rattle.golog_agent.specs.Keeping.{EndsBy, IsUnderWay, KeepsRules, KeepsUp, awaited_by, begun_by, ended_by}
 use Rattle.golog_agent.specs.Run.{is_step_entry}
 use Rattle.golog_agent.specs.Turns.{Course}
@@ -62,11 +63,33 @@ module _ (agent : Agent) (journal : Journal) where
   entry-of-agent (Close p r t) h = tt
   entry-of-agent (End a) h = tt
 
-  pub entries-fit : (e : Entry) → IsBoardList agent (journal ++ e ∷ []) → EntriesFit agent (e ∷ [])
-  entries-fit e lawful = (entry-of-agent e (lawful-parts agent journal e (lawful-last agent journal e lawful)).of_agent, tt)
+  -- ---- the configuration
 
-  pub sorted : (values : List ℕ) → values ≡ values_after agent journal → IsUnderWay agent journal → AreInSorts agent values
-  sorted values is u = subst (AreInSorts agent) (sym is) (online_stays agent u.formed (report_of agent journal) u.online)
+  module _ (known : Configuration) (so : known ≡ configuration_after agent journal) where
+    pub entries-fit : (e : Entry) → IsBoardList agent (journal ++ e ∷ []) → EntriesFit known.agent (e ∷ [])
+    entries-fit e lawful =
+        subst (λ (k : Configuration). EntriesFit k.agent (e ∷ [])) (sym so)
+        (entry-of-agent e (lawful-parts agent journal e (lawful-last agent journal e lawful)).of_agent, tt)
+
+    pub sound : IsUnderWay agent journal → IsSound known
+    sound u =
+        subst IsSound (sym so)
+        (record {
+          formed = u.formed;
+          sorted = online_stays agent u.formed (report_of agent journal) u.online;
+          fitting = left_after-fits agent u.formed journal;
+        })
+
+  abbrev known_as : List ℕ → Prog → Configuration
+  known_as values left = record { agent = agent; values = values; left = left }
+
+  known-then : (e : Entry) (known : Configuration) (new : Option Prog) → known ≡ configuration_after agent journal
+      → left_after agent (journal ++ e ∷ []) ≡ unwrap_or new (left_after agent journal)
+      → with_entry known e new ≡ configuration_after agent (journal ++ e ∷ [])
+  known-then e known new so is =
+      ap (λ k. with_entry k e new) so
+      ∙ ap (λ values. known_as values (unwrap_or new (left_after agent journal))) (sym (progress_grows agent journal e).values)
+      ∙ ap (known_as (values_after agent (journal ++ e ∷ []))) (sym is)
 
   -- ---- the end
 
@@ -95,11 +118,11 @@ module _ (agent : Agent) (journal : Journal) where
       let three = and_parts (is_settled agent journal && not (final agent values Must p)) (nat_lt (count journal) limit) four.0 in
       (and_parts (is_settled agent journal) (not (final agent values Must p)) three.0).0
 
-  pub keeps-up : (e : Entry) (values : List ℕ) (left after : Prog) (awaited : Option ℕ) (ended : Option Answer) (runs : List PlacedRun) → KeepsUp agent journal values left awaited ended runs
-      → IsBoardList agent (journal ++ e ∷ []) → KeepsRules agent journal e → left_after agent (journal ++ e ∷ []) ≡ after
-      → KeepsUp agent (journal ++ e ∷ []) (after_entry agent values e) after (awaited_by agent awaited e) (ended_by ended e)
+  pub keeps-up : (e : Entry) (known : Configuration) (new : Option Prog) (awaited : Option ℕ) (ended : Option Answer) (runs : List PlacedRun) → KeepsUp agent journal known awaited ended runs
+      → IsBoardList agent (journal ++ e ∷ []) → KeepsRules agent journal e → left_after agent (journal ++ e ∷ []) ≡ unwrap_or new (left_after agent journal)
+      → KeepsUp agent (journal ++ e ∷ []) (with_entry known e new) (awaited_by agent awaited e) (ended_by ended e)
       (runs ++ placed (length journal) (begun_by agent journal e))
-  keeps-up e values left after awaited ended runs k lawful h is =
+  keeps-up e known new awaited ended runs k lawful h is =
       let u = k.under_way in
       record {
         under_way = record {
@@ -107,8 +130,7 @@ module _ (agent : Agent) (journal : Journal) where
           lawful = lawful;
           online = online-grows agent journal e u.online h;
         };
-        values_so = ap (λ vs. after_entry agent vs e) k.values_so ∙ sym (progress_grows agent journal e).values;
-        left_so = sym is;
+        known_so = known-then e known new k.known_so is;
         awaits = awaits-after agent journal awaited e (well_formed_serves agent u.formed) u.lawful
             (lawful-parts agent journal e (lawful-last agent journal e lawful)).place
             (λ action same. settled-step (values_after agent journal) (left_after agent journal) action
@@ -118,15 +140,14 @@ module _ (agent : Agent) (journal : Journal) where
       }
 
 -- the same of equal values
-pub kept-as : (agent : Agent) (j k : Journal) (v w : List ℕ) (p q : Prog) (a b : Option ℕ) (e f : Option Answer) (r s : List PlacedRun) → k ≡ j → w ≡ v → q ≡ p → b ≡ a → f ≡ e → s ≡ r
-    → KeepsUp agent j v p a e r → KeepsUp agent k w q b f s
-kept-as agent j k v w p q a b e f r s kj wv qp ba fe sr h =
-    subst (λ x. KeepsUp agent x w q b f s) (sym kj)
-    (subst (λ x. KeepsUp agent j x q b f s) (sym wv)
-    (subst (λ x. KeepsUp agent j v x b f s) (sym qp)
-    (subst (λ x. KeepsUp agent j v p x f s) (sym ba)
-    (subst (λ x. KeepsUp agent j v p a x s) (sym fe)
-    (subst (λ x. KeepsUp agent j v p a e x) (sym sr) h)))))
+pub kept-as : (j k : AgentJournal) (c d : Configuration) (a b : Option ℕ) (e f : Option Answer) (r s : List PlacedRun) → k ≡ j → d ≡ c → b ≡ a → f ≡ e → s ≡ r
+    → KeepsUp j.agent j.entries c a e r → KeepsUp k.agent k.entries d b f s
+kept-as j k c d a b e f r s kj dc ba fe sr h =
+    subst (λ (x : AgentJournal). KeepsUp x.agent x.entries d b f s) (sym kj)
+    (subst (λ x. KeepsUp j.agent j.entries x b f s) (sym dc)
+    (subst (λ x. KeepsUp j.agent j.entries c x f s) (sym ba)
+    (subst (λ x. KeepsUp j.agent j.entries c a x s) (sym fe)
+    (subst (λ x. KeepsUp j.agent j.entries c a e x) (sym sr) h))))
 
 -- as contracts see it
 abbrev pub seen_as : Agent → Journal → Course
@@ -136,18 +157,18 @@ pub lawful-inside : (agent : Agent) (list : Journal) (value : Course) (e : Entry
 lawful-inside agent list value e is lawful = subst (λ (v : Course). IsBoardList v.agent (v.list ++ e ∷ [])) (sym is) lawful
 
 -- all that a runner keeps, after one more entry
-pub kept-then : (agent : Agent) (list after : Journal) (value : Course) (e : Entry) (state rolled : List ℕ) (left new : Prog) (given : Option Prog) (awaited next : Option ℕ) (ended last : Option Answer) (runs more : List PlacedRun)
-    → seen_as agent list ≡ value → KeepsUp agent list state left awaited ended runs → IsBoardList value.agent (value.list ++ e ∷ [])
+pub kept-then : (held after : AgentJournal) (value : Course) (e : Entry) (known later : Configuration) (given : Option Prog) (awaited next : Option ℕ) (ended last : Option Answer) (runs more : List PlacedRun)
+    → seen_as held.agent held.entries ≡ value → KeepsUp held.agent held.entries known awaited ended runs → IsBoardList value.agent (value.list ++ e ∷ [])
     → KeepsRules value.agent value.list e → left_after value.agent (value.list ++ e ∷ []) ≡ unwrap_or given (left_after value.agent value.list)
-    → after ≡ list ++ e ∷ [] → rolled ≡ after_entry agent state e → new ≡ unwrap_or given left → next ≡ awaited_by agent awaited e → last ≡ ended_by ended e
-    → more ≡ runs ++ placed (length list) (begun_by agent list e)
-    → KeepsUp agent after rolled new next last more
-kept-then agent list after value e state rolled left new given awaited next ended last runs more is k lawful online goes la ra na aa ea ma =
-    kept-as agent (list ++ e ∷ []) after (after_entry agent state e) rolled (unwrap_or given left) new (awaited_by agent awaited e) next (ended_by ended e) last
-    (runs ++ placed (length list) (begun_by agent list e)) more la ra na aa ea ma
-    (keeps-up agent list e state left (unwrap_or given left) awaited ended runs k (lawful-inside agent list value e is lawful)
+    → after ≡ record { agent = held.agent; entries = held.entries ++ e ∷ [] } → later ≡ with_entry known e given → next ≡ awaited_by held.agent awaited e → last ≡ ended_by ended e
+    → more ≡ runs ++ placed (length held.entries) (begun_by held.agent held.entries e)
+    → KeepsUp after.agent after.entries later next last more
+kept-then held after value e known later given awaited next ended last runs more is k lawful online goes ja ka aa ea ma =
+    kept-as (record { agent = held.agent; entries = held.entries ++ e ∷ [] }) after (with_entry known e given) later (awaited_by held.agent awaited e) next (ended_by ended e) last
+    (runs ++ placed (length held.entries) (begun_by held.agent held.entries e)) more ja ka aa ea ma
+    (keeps-up held.agent held.entries e known given awaited ended runs k (lawful-inside held.agent held.entries value e is lawful)
     (subst (λ (v : Course). KeepsRules v.agent v.list e) (sym is) online)
-    (subst (λ (v : Course). left_after v.agent (v.list ++ e ∷ []) ≡ unwrap_or given (left_after v.agent v.list)) (sym is) goes ∙ ap (unwrap_or given) (sym k.left_so)))
+    (subst (λ (v : Course). left_after v.agent (v.list ++ e ∷ []) ≡ unwrap_or given (left_after v.agent v.list)) (sym is) goes))
 
 -- there is room for the run that begins
 pub run-room : (agent : Agent) (list : Journal) (value : Course) (e : Entry) (runs : List PlacedRun) (run : Option (List Label)) → seen_as agent list ≡ value
@@ -160,10 +181,15 @@ run-room agent list value e runs run is runs_so room begins some =
     subst (λ (v : Course). count v.list < limit) (sym is) (room (begun-steps value.agent value.list e (subst IsSome begins some))) in
     omega (arith, few, many, below)
 
+-- the same, where the configuration is
+pub kept-same : (agent : Agent) (list : Journal) (known later : Configuration) (awaited : Option ℕ) (ended : Option Answer) (runs : List PlacedRun) → later ≡ known
+    → KeepsUp agent list known awaited ended runs → KeepsUp agent list later awaited ended runs
+kept-same agent list known later awaited ended runs same h = subst (λ k. KeepsUp agent list k awaited ended runs) (sym same) h
+
 -- ---- the report
 
-module _ (agent : Agent) (list : Journal) (value : Course) (values : List ℕ) (left : Prog) (awaited : Option ℕ) (ended : Option Answer) (runs : List PlacedRun)
-    (is : seen_as agent list ≡ value) (k : KeepsUp agent list values left awaited ended runs) (es : Journal) (rs : List PlacedRun) (same : es ≡ list) (kept : rs ≡ runs) where
+module _ (agent : Agent) (list : Journal) (value : Course) (known : Configuration) (awaited : Option ℕ) (ended : Option Answer) (runs : List PlacedRun)
+    (is : seen_as agent list ≡ value) (k : KeepsUp agent list known awaited ended runs) (es : Journal) (rs : List PlacedRun) (same : es ≡ list) (kept : rs ≡ runs) where
   pub reported : with_runs rs es ≡ report_of value.agent value.list
   reported = ap (with_runs rs) same ∙ ap (λ r. with_runs r list) (kept ∙ k.runs_so) ∙ ap (λ (v : Course). report_of v.agent v.list) is
 
@@ -180,14 +206,13 @@ first-online : (agent : Agent) → IsOnlineSoFar agent (report_of agent [])
 unfolding first_fault
 first-online agent = so_far-no-fault agent (report_of agent []) refl
 
-pub kept-first : (agent : Agent) (list : Journal) (values : List ℕ) (left : Prog) (runs : List PlacedRun) → WellFormed agent
-    → list ≡ [] → values ≡ values_after agent [] → left ≡ agent.main → runs ≡ [] → KeepsUp agent list values left None None runs
-kept-first agent list values left runs formed empty v l r =
-    kept-as agent [] list (values_after agent []) values agent.main left None None None None [] runs empty v l refl refl r
+pub kept-first : (agent : Agent) (journal : AgentJournal) (known : Configuration) (runs : List PlacedRun) → WellFormed agent
+    → journal ≡ record { agent = agent; entries = [] } → known ≡ configuration_after agent [] → runs ≡ [] → KeepsUp journal.agent journal.entries known None None runs
+kept-first agent journal known runs formed empty k r =
+    kept-as (record { agent = agent; entries = [] }) journal (configuration_after agent []) known None None None None [] runs empty k refl refl r
     (record {
       under_way = record { formed = formed; lawful = first-rules agent; online = first-online agent };
-      values_so = refl;
-      left_so = refl;
+      known_so = refl;
       awaits = λ d. refl;
       ends = refl;
       runs_so = refl;

@@ -22,3 +22,4 @@ pub mod Over
 pub mod Following
 mod Leading
 mod Stepping
+mod KeptDecision

@@ -28,7 +28,7 @@ use Rattle.golog_device.specs.Turns.{SameBoard, PostsItem, answer_item, idle_ite
 use Rattle.golog_device.specs.Dealing.{DealtSoFar, DealtAfter, DealtIf, DealtNow}
 use Rattle.golog_device.proofs.DealtTurn.{few-of, all-taken}
 use Rattle.golog_device.proofs.Asked.{done-by}
-use Rattle.golog_device.proofs.Told.{answer-plain, idle-plain, not-refused}
+use Rattle.golog_device.proofs.Commanded.{answer-plain, idle-plain, not-refused}
 use Rattle.golog_agent.specs.Rounds.{is_refusal}
 use Rattle.golog_agent.specs.Moments.{RestsAt, TurnMade}
 

@@ -2,23 +2,20 @@
 use Rattle.std.proofs.Common.{◌≡◌, ◌≢◌, ℕ, zero, suc, ◌+◌, ◌≤◌, ◌<◌, Bool, true, false, not, ◌&&◌, ◌||◌, if◌then◌else◌, List, [], ◌∷◌, length, Option, Some, None, ◌⊎◌, inl, inr, refl, sym, ap, ◌∙◌, subst, arith}
 use Rattle.std.specs.Prelude.{is_none, nat_lt, option_map}
 use Rattle.std.specs.List.{list_all, range_with_len}
-use Rattle.std.proofs.lemmas.Bool.{cases_eq, cases_lt, lt-ltb, le-leb}
+use Rattle.std.proofs.lemmas.Bool.{cases_eq, cases_lt, le-ltb, lt-ltb, le-leb}
 use Rattle.golog_tree.specs.declared.agent.Agent.{Agent}
 use Rattle.golog_tree.specs.declared.prog.Prog.{Prog}
 use Rattle.golog_tree.specs.Nest.{nest}
 use Rattle.golog_semantics.specs.declared.Mode.TheVariants.{Must, May, Near}
 use Rattle.golog_semantics.specs.declared.search.Move.{Move}
 use Rattle.golog_semantics.specs.declared.journal.Answer.{Answer}
-use Rattle.golog_semantics.specs.declared.journal.PlacedRun.{PlacedRun}
 use Rattle.golog_semantics.specs.declared.journal.Answer.TheVariants as answer
 use Rattle.golog_semantics.specs.Ways.{is_empty}
 use Rattle.golog_semantics.specs.Search.{final, nest_limit}
 use Rattle.golog_semantics.specs.Blocks.{moves}
-use Rattle.golog_semantics.specs.Journal.{Journal, count, is_at_rest, is_full, is_open, is_quiet, is_settled, limit, outstanding}
+use Rattle.golog_semantics.specs.Journal.{Journal, count, is_at_rest, is_full, is_open, is_quiet, is_settled, limit, outstanding_commands}
 use Rattle.golog_semantics.specs.Progress.{values_after, left_after}
-use Rattle.golog_semantics.specs.ProgFits.{fits}
 use Rattle.golog_semantics.specs.Answer.{answer_after, is_unanswered}
-use Rattle.golog_semantics.proofs.LeftFits.{left_after-fits}
 use Rattle.golog_ways.specs.First.{head_of}
 use Rattle.golog_search.specs.declared.decision.Blocked.{Blocked}
 use Rattle.golog_search.specs.declared.decision.Decision.{Decision}
@@ -29,8 +26,9 @@ use Rattle.golog_search.proofs.Answering.{answer_cases, decided_answered}
 use Rattle.golog_journal.specs.Boards.{IsBoardList}
 use Rattle.golog_agent.specs.declared.plan.Plan.{Plan}
 use Rattle.golog_agent.specs.declared.plan.Plan.TheVariants as plan
+use Rattle.golog_agent.specs.Configuration.{Configuration, configuration_after}
 use Rattle.golog_agent.specs.Deciding.{plan_by}
-use Rattle.golog_agent.specs.Keeping.{AwaitsFrom, AwaitsOne, IsUnderWay, KeepsUp}
+use Rattle.golog_agent.specs.Keeping.{AwaitsFrom, AwaitsOne, IsUnderWay}
 use Rattle.golog_agent.proofs.Awaiting.{settled-none, settled-one, unanswered-closed, unanswered-none, unanswered-open}
 use Rattle.golog_agent.specs.Planned.{IsNextStep, PlanIs}
 use Rattle.golog_agent.specs.Turns.{Course}
@@ -109,10 +107,6 @@ module _ (agent : Agent) (journal : Journal) where
 
   -- ---- what was decided
 
-  module _ (under : IsUnderWay agent journal) where
-    pub left-fits : (left : Prog) → left ≡ left_after agent journal → fits agent left ≡ true
-    left-fits left e = ap (fits agent) e ∙ left_after-fits agent under.formed journal
-
   step-inside : (m : Move) (b : Bool) (ms : List Move) → (if b then Final else along agent V P ms) ≡ Step m
       → (b ≡ false) × (nest m.left ≤ nest_limit) × ((others : List Move) × (ms ≡ m ∷ others))
   step-inside m true ms e = absurd (cc)
@@ -150,6 +144,16 @@ module _ (agent : Agent) (journal : Journal) where
   ahead-goes true ms x e = absurd (cc)
   ahead-goes false [] x e = absurd (cc)
   ahead-goes false (m ∷ ms) x e = stepping-goes m x (let h : Blocking x ≡ stepping m = cc in sym h)
+
+  not-deep : (m : Move) → nest m.left ≤ nest_limit → stepping m ≡ Step m
+  not-deep m h = ap (λ deep. if deep then Deep else Step m) (le-ltb nest_limit (nest m.left) h)
+
+  -- the next step is what is decided
+  pub next-ahead : (m : Move) → IsNextStep agent journal m → IsAhead agent V P true (Some (Step m))
+  unfolding ahead
+  next-ahead m next =
+      inl (sym (ap (λ b. if b then Some Final else option_map stepping (head_of (moves agent V Must P))) next.not_final
+      ∙ ap (λ ms. option_map stepping (head_of ms)) next.first ∙ ap (λ d. Some d) (not-deep m next.nests)))
 
   decided-ahead : (d : Decision) → Some d ≡ ahead agent V P → decision agent V P ≡ d
   unfolding decision ahead
@@ -238,7 +242,7 @@ module _ (agent : Agent) (journal : Journal) (awaited : Option ℕ) (awaits : Aw
   pub one-awaited : (device : ℕ) → awaited ≡ Some device → AwaitsOne agent journal device
   one-awaited device e = subst (AwaitsFrom agent journal) e awaits
 
-  pub none-awaited : awaited ≡ None → (d : ℕ) → outstanding agent d journal ≡ []
+  pub none-awaited : awaited ≡ None → (d : ℕ) → outstanding_commands agent d journal ≡ []
   none-awaited e = subst (AwaitsFrom agent journal) e awaits
 
   pub wait-plan : (device : ℕ) → IsBoardList agent journal → is_full journal ≡ false → awaited ≡ Some device → is_open device journal ≡ true → PlanIs agent journal plan.Wait
@@ -265,54 +269,10 @@ module _ (agent : Agent) (list : Journal) (value : Course) (is : seen_as agent l
     pub answered-seen : is_unanswered value.agent value.list ≡ false
     answered-seen = subst (λ (v : Course). is_unanswered v.agent v.list ≡ false) is (settled-plan agent list awaited awaits none).1
 
-  module _ (state : List ℕ) (left : Prog) (awaited : Option ℕ) (ended : Option Answer) (runs : List PlacedRun) (k : KeepsUp agent list state left awaited ended runs) where
-    ahead-so : (o : Option Decision) → IsAhead agent state left true o → IsAhead agent (values_after agent list) (left_after agent list) true o
-    ahead-so o h = subst (λ p. IsAhead agent (values_after agent list) p true o) k.left_so (subst (λ vs. IsAhead agent vs left true o) k.values_so h)
+  -- what is so of the configuration
+  module _ (known : Configuration) (so : known ≡ configuration_after agent list) where
+    pub known-seen : (Q : Configuration → Type 0) → Q known → Q (configuration_after value.agent value.list)
+    known-seen Q h = subst (λ (v : Course). Q (configuration_after v.agent v.list)) is (subst Q so h)
 
-    decided-so : (d : Decision) → IsDecided agent state left true d → IsDecided agent (values_after agent list) (left_after agent list) true d
-    decided-so d h = subst (λ p. IsDecided agent (values_after agent list) p true d) k.left_so (subst (λ vs. IsDecided agent vs left true d) k.values_so h)
-
-    -- no end and no step is certain
-    pub none-seen : IsAhead agent state left true None
-        → (final value.agent (values_after value.agent value.list) Must (left_after value.agent value.list) ≡ false)
-        × (moves value.agent (values_after value.agent value.list) Must (left_after value.agent value.list) ≡ [])
-    none-seen h =
-        subst (λ (v : Course). (final v.agent (values_after v.agent v.list) Must (left_after v.agent v.list) ≡ false)
-        × (moves v.agent (values_after v.agent v.list) Must (left_after v.agent v.list) ≡ [])) is
-        (none-ahead agent list (ahead-so None h))
-
-    pub open-inside : final value.agent (values_after value.agent value.list) Must (left_after value.agent value.list) ≡ false → final agent state Must left ≡ false
-    open-inside h =
-        ap (λ vs. final agent vs Must left) k.values_so ∙ ap (final agent (values_after agent list) Must) k.left_so
-        ∙ subst (λ (v : Course). final v.agent (values_after v.agent v.list) Must (left_after v.agent v.list) ≡ false) (sym is) h
-
-    pub stepless-inside : is_empty (moves value.agent (values_after value.agent value.list) Must (left_after value.agent value.list)) ≡ true
-        → is_empty (moves agent state Must left) ≡ true
-    stepless-inside h =
-        ap (λ vs. is_empty (moves agent vs Must left)) k.values_so ∙ ap (λ p. is_empty (moves agent (values_after agent list) Must p)) k.left_so
-        ∙ subst (λ (v : Course). is_empty (moves v.agent (values_after v.agent v.list) Must (left_after v.agent v.list)) ≡ true) (sym is) h
-
-    module _ (settled : is_settled value.agent value.list ≡ true) (answered : is_unanswered value.agent value.list ≡ false) (room : is_full value.list ≡ false) where
-      full-so : is_full list ≡ false
-      full-so = subst (λ (v : Course). is_full v.list ≡ false) (sym is) room
-
-      answered-so : is_unanswered agent list ≡ false
-      answered-so = subst (λ (v : Course). is_unanswered v.agent v.list ≡ false) (sym is) answered
-
-      settled-so : is_settled agent list ≡ true
-      settled-so = subst (λ (v : Course). is_settled v.agent v.list ≡ true) (sym is) settled
-
-      pub ahead-seen : (d : Decision) (given : Plan) → IsAhead agent state left true (Some d) → given ≡ plan_by d → PlanIs value.agent value.list given
-      ahead-seen d given h gs =
-          as-seen given (subst (PlanIs agent list) (sym gs) (ahead-plan agent list k.under_way full-so answered-so settled-so d (ahead-so (Some d) h)))
-
-      pub waits-seen : IsAhead agent state left true None → is_quiet agent list ≡ false → PlanIs value.agent value.list plan.Wait
-      waits-seen h q = as-seen plan.Wait (blocked-waits agent list k.under_way full-so answered-so settled-so (ahead-so None h) q)
-
-      pub blocked-seen : (d : Decision) (given : Plan) → IsDecided agent state left true d → is_quiet value.agent value.list ≡ true → given ≡ plan_by d
-          → PlanIs value.agent value.list given
-      blocked-seen d given h q gs =
-          as-seen given
-          (subst (PlanIs agent list) (sym gs)
-          (blocked-plan agent list k.under_way full-so answered-so settled-so d (decided-so d h)
-          (subst (λ (v : Course). is_quiet v.agent v.list ≡ true) (sym is) q)))
+    pub known-inside : (Q : Configuration → Type 0) → Q (configuration_after value.agent value.list) → Q known
+    known-inside Q h = subst Q (sym so) (subst (λ (v : Course). Q (configuration_after v.agent v.list)) (sym is) h)

@@ -8,7 +8,7 @@ use Rattle.std.proofs.lemmas.List.{append-nil, take-append-le}
 use Rattle.golog_tree.specs.declared.agent.Agent.{Agent}
 use Rattle.golog_semantics.specs.declared.journal.Entry.{Entry}
 use Rattle.golog_semantics.specs.declared.journal.Entry.TheVariants.{Do, Test, Exo, Sense, Rest, Close, End}
-use Rattle.golog_semantics.specs.Journal.{Journal, Command, commands, is_outstanding, is_posted_by, is_rest_after, is_at_rest, is_result_of, last_of, outstanding, posted}
+use Rattle.golog_semantics.specs.Journal.{Journal, Command, commands, is_outstanding, is_posted_by, is_rest_after, is_at_rest, is_result_of, last_of, outstanding_commands, posted}
 use Rattle.golog_semantics.specs.Text.{at_each}
 use Rattle.golog_semantics.specs.Online.{may_have_taken}
 use Rattle.golog_semantics.specs.OneMore.{new_command}
@@ -115,7 +115,7 @@ module _ (agent : Agent) (device : ℕ) where
       (told-from (before ++ e ∷ []) rest parts.1 (told-push before e (is_posted_by device e) refl (lawful-parts agent before e parts.0) told))
 
   by-last : (journal : Journal) (o : Option Entry) → ByLast journal o → option_map_or (is_rest_after (length (commands agent device journal))) o false ≡ true
-      → outstanding agent device journal ≡ []
+      → outstanding_commands agent device journal ≡ []
   by-last journal (Some (Rest p taken)) a h =
       filter-none (is_outstanding agent journal) (commands agent device journal)
       (ap (list_any (is_outstanding agent journal)) (sym (take-whole taken (commands agent device journal) (eqb-true taken (length (commands agent device journal)) h))) ∙ a.come)
@@ -127,5 +127,5 @@ module _ (agent : Agent) (device : ℕ) where
   by-last journal (Some (Close p r t)) a h = absurd (cc)
   by-last journal (Some (End x)) a h = absurd (cc)
 
-  pub rest-is-answered : (journal : Journal) → IsBoardList agent journal → is_at_rest agent journal device ≡ true → outstanding agent device journal ≡ []
+  pub rest-is-answered : (journal : Journal) → IsBoardList agent journal → is_at_rest agent journal device ≡ true → outstanding_commands agent device journal ≡ []
   rest-is-answered journal list h = by-last journal (last_of (posted device journal)) (told-from [] journal list.lawful tt) h

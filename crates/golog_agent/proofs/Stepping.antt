@@ -1,17 +1,19 @@
 -- What came of what was planned at all that was seen.
-use Rattle.std.proofs.Common.{◌≡◌, ◌≤◌, ◌<◌, Bool, true, false, [], ◌∷◌, ◌++◌, length, length-append, Some, inr, refl, sym, ap, ◌∙◌, subst, arith}
-use Rattle.std.specs.Prelude.{IsTrue, Contains, unwrap_or}
+use Rattle.std.proofs.Common.{◌≡◌, ◌≤◌, ◌<◌, Bool, true, false, [], ◌∷◌, ◌++◌, length, length-append, Option, Some, None, inr, refl, sym, ap, ◌∙◌, subst, arith}
+use Rattle.std.specs.Prelude.{IfSome, IsTrue, Contains, unwrap_or}
 use Rattle.std.proofs.lemmas.List.{append-nil}
 use Rattle.std.proofs.lemmas.List.Elements.{Contains-push}
 use Rattle.golog_tree.specs.declared.agent.Agent.{Agent}
 use Rattle.golog_tree.specs.declared.prog.Label.{Label}
 use Rattle.golog_tree.specs.declared.prog.Label.TheVariants.{Quiet, Do as Doing}
+use Rattle.golog_tree.specs.Nest.{nest}
 use Rattle.golog_semantics.specs.declared.search.Move.{Move}
 use Rattle.golog_semantics.specs.declared.journal.Entry.{Entry}
 use Rattle.golog_semantics.specs.declared.journal.Entry.TheVariants.{End}
 use Rattle.golog_semantics.specs.declared.journal.Answer.{Answer}
 use Rattle.golog_semantics.specs.Journal.{Journal, count, has_end, is_counted, limit}
 use Rattle.golog_semantics.specs.Progress.{left_after}
+use Rattle.golog_semantics.specs.Search.{nest_limit}
 use Rattle.golog_journal.specs.Commits.{IsOfProgram}
 use Rattle.golog_journal.specs.Growing.{Sight}
 use Rattle.golog_agent.specs.declared.plan.Plan.{Plan}
@@ -21,7 +23,7 @@ use Rattle.golog_agent.specs.Keeping.{IsUnderWay, KeepsRules, begun_by}
 use Rattle.golog_agent.specs.Planned.{IsNextStep, PlanIs}
 use Rattle.golog_agent.specs.Run.{is_step_entry}
 use Rattle.golog_agent.specs.Turns.{AttemptIs, CommitGives, Course, IsCommitted, IsCurrent, MayAnswer}
-use Rattle.golog_agent.specs.UnderWay.{entry_for}
+use Rattle.golog_agent.specs.UnderWay.{entry_for, left_of}
 use Rattle.golog_agent.specs.Waiting.{waits}
 use Rattle.golog_agent.proofs.Boarding.{no-change}
 use Rattle.golog_agent.proofs.Committing.{step-left, step-online, step-own, step-run}
@@ -52,6 +54,11 @@ module _ (agent : Agent) (list : Journal) (m : Move) (next : IsNextStep agent li
   entry-commits old new r true-so gives =
       let t : IsCommitted e old new = subst (CommitGives e old new) true-so gives in
       record { entry = e; is_step = ap is_step_entry is ∙ label-steps m.label; follows = t.follows }
+
+-- the program that a step leaves nests no deeper than it may
+pub left-nests : (agent : Agent) (list : Journal) (step : Option Move) → IfSome step (IsNextStep agent list) → IfSome (left_of step) (λ p. nest p ≤ nest_limit)
+left-nests agent list None h = tt
+left-nests agent list (Some m) next = next.nests
 
 -- ---- the end
 

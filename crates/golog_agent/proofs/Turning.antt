@@ -252,10 +252,10 @@ module _ (old new : Sight) where
 
 -- a runner as a lead
 abbrev pub mind_of : Course → Mind
-mind_of course = record { agent = course.agent; list = course.list; waits = waits course.agent }
+mind_of course = record { agent = course.agent; list = course.list; waits = waits course.agent; outlet = None }
 
 pub same-mind : (first later : Course) → later.agent ≡ first.agent → SameMind (mind_of first) (mind_of later)
-same-mind first later same = record { same_agent = same; same_waits = ap waits same }
+same-mind first later same = record { same_agent = same; same_waits = ap waits same; same_outlet = refl }
 
 pub whole-behind : (course : Course) (sight : Sight) → course.list ≡ sight.seen → IsBehind course.list sight.seen
 whole-behind course sight whole = record { since = []; front = sym whole ∙ sym (append-nil course.list); of_devices = refl }

@@ -1,32 +1,31 @@
 -- What a runner keeps of the entries so far.
 use Rattle.std.specs.Prelude.{◌≡◌, ◌≢◌, ℕ, ◌<◌, false, Option, Some, None, List, [], ◌∷◌, ◌++◌, length, Contains}
 use Rattle.golog_tree.specs.declared.agent.Agent.{Agent}
-use Rattle.golog_tree.specs.declared.prog.Prog.{Prog}
 use Rattle.golog_tree.specs.declared.prog.Label.{Label}
 use Rattle.golog_semantics.specs.declared.journal.Entry.{Entry}
 use Rattle.golog_semantics.specs.declared.journal.Entry.TheVariants.{Do, Sense, End}
 use Rattle.golog_semantics.specs.declared.journal.Answer.{Answer}
 use Rattle.golog_semantics.specs.declared.journal.PlacedRun.{PlacedRun}
-use Rattle.golog_semantics.specs.Truth.{Values}
-use Rattle.golog_semantics.specs.Journal.{Journal, Command, has_end, outstanding}
+use Rattle.golog_semantics.specs.Journal.{Journal, Command, has_end, outstanding_commands}
 use Rattle.golog_semantics.specs.Progress.{values_after, left_after}
-use Rattle.golog_semantics.specs.Online.{IsOnlineSoFar, begun, fault_at}
+use Rattle.golog_semantics.specs.Online.{IsOnlineSoFar, run_begun, fault_at}
 use Rattle.golog_semantics.specs.InlineText.{begun_runs, report_of}
 use Rattle.golog_semantics.specs.WellFormed.{WellFormed}
 use Rattle.golog_journal.specs.Boards.{IsBoardList}
 use Rattle.golog_journal.specs.Quiet.{asked_of}
+use Rattle.golog_agent.specs.Configuration.{Configuration, configuration_after}
 
 -- one result is still to come, of this device
 pub record AwaitsOne (agent : Agent) (journal : Journal) (device : ℕ) : Type 0 where
   pub is_device : device < length agent.devices
   pub command : Command
-  pub own : outstanding agent device journal ≡ command ∷ []
-  pub others : (d : ℕ) → d ≢ device → outstanding agent d journal ≡ []
+  pub own : outstanding_commands agent device journal ≡ command ∷ []
+  pub others : (d : ℕ) → d ≢ device → outstanding_commands agent d journal ≡ []
 
 -- the device whose result is still to come, if one is: the program goes on only after it, so there is one
 -- at most
 abbrev pub AwaitsFrom : Agent → Journal → Option ℕ → Type 0
-AwaitsFrom agent journal None = (d : ℕ) → outstanding agent d journal ≡ []
+AwaitsFrom agent journal None = (d : ℕ) → outstanding_commands agent d journal ≡ []
 AwaitsFrom agent journal (Some device) = AwaitsOne agent journal device
 
 -- the answer of the end, where the program has ended
@@ -48,7 +47,7 @@ ended_by ended _ = ended
 module _ (agent : Agent) (journal : Journal) where
   -- the run that begins with the entry after these
   abbrev pub begun_by : Entry → Option (List Label)
-  begun_by e = begun agent journal (values_after agent journal) (left_after agent journal) e
+  begun_by e = run_begun agent journal (values_after agent journal) (left_after agent journal) e
 
   -- the entry keeps the rules after these
   abbrev pub KeepsRules : Entry → Type 0
@@ -60,14 +59,12 @@ module _ (agent : Agent) (journal : Journal) where
     pub lawful : IsBoardList agent journal
     pub online : IsOnlineSoFar agent (report_of agent journal)
 
-  -- the values, the program left, the result that is still to come, the answer and the runs are those of the
-  -- entries
+  -- the configuration, the result that is still to come, the answer and the runs are those of the entries
   pub record KeepsUp
-      (values : Values) (left : Prog) (awaited : Option ℕ) (ended : Option Answer) (runs : List PlacedRun)
+      (known : Configuration) (awaited : Option ℕ) (ended : Option Answer) (runs : List PlacedRun)
       : Type 0 where
     pub under_way : IsUnderWay
-    pub values_so : values ≡ values_after agent journal
-    pub left_so : left ≡ left_after agent journal
+    pub known_so : known ≡ configuration_after agent journal
     pub awaits : AwaitsFrom agent journal awaited
     pub ends : EndsBy journal ended
     pub runs_so : runs ≡ begun_runs agent journal

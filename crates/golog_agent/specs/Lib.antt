@@ -10,3 +10,4 @@ pub mod Moments
 pub mod Short
 pub mod Rounds
 pub mod Leading
+pub mod Configuration

@@ -1,8 +1,8 @@
 //! The online execution of an agent's program, over a board.
 #![tactic(auto)]
 
+mod decider;
 mod laws;
-mod left;
 mod plan;
 mod rounds;
 mod runner;

@@ -7,10 +7,10 @@ ghost use Rattle.golog_semantics.specs.Answer.{is_unanswered};
 ghost use Rattle.golog_semantics.specs.InlineText.{report_of};
 ghost use Rattle.golog_semantics.specs.Online.{IsOnlineSoFar};
 ghost use Rattle.golog_semantics.specs.Progress.{values_after, left_after};
-ghost use Rattle.golog_semantics.specs.Search.{final, nest_limit};
-ghost use Rattle.golog_tree.specs.Nest.{nest};
+ghost use Rattle.golog_semantics.specs.Search.{final};
 ghost use Rattle.golog_semantics.specs.Ways.{is_empty};
 ghost use Rattle.golog_semantics.specs.WellFormed.{WellFormed};
+ghost use Rattle.golog_search.specs.Decided.{IsAhead};
 ghost use Rattle.golog_journal.specs.Boards.{IsBoardList};
 ghost use Rattle.golog_journal.specs.Commits.{IsOfProgram};
 ghost use Rattle.golog_journal.specs.Growing.{program};
@@ -18,16 +18,15 @@ ghost use Rattle.golog_journal.specs.Leading.{IsBehind, is_of_program};
 ghost use Rattle.golog_agent.specs.Keeping.{awaited_by, begun_by, ended_by, EndsBy, IsUnderWay, KeepsRules};
 ghost use Rattle.golog_agent.specs.Planned.{PlanIs, IsNextStep};
 ghost use Rattle.golog_agent.specs.Run.{is_step_entry};
-ghost use Rattle.golog_agent.specs.UnderWay.{entry_for};
+ghost use Rattle.golog_agent.specs.UnderWay.{entry_for, left_of, step_run};
 ghost use Rattle.golog_agent.specs.Turns.{AttemptIs, CommitGives, Follows, IsCurrent, IsOver, MayAnswer, TurnIs};
 
-use crate::left::Left;
+use crate::decider::Decider;
 use crate::plan::{Plan, planned};
 use crate::runs::Runs;
 use golog_base::{List, NoMemory};
 use golog_journal::{Board, Commit, Journal, Lead, Led, Report};
-use golog_progress::{State, start};
-use golog_search::decide_blocked;
+use golog_search::Decision;
 use golog_semantics::{Answer, Entry, Mode, Move};
 use golog_tree::{Agent, Label, Prog};
 use std::alloc::Global;
@@ -48,13 +47,10 @@ pub enum Stepped {
 /// that it has seen. Contracts see it as the agent and the entries so far.
 #[derive(Drop)]
 pub struct Runner<'a> {
-    agent: &'a Agent,
     alloc: Global,
     journal: Journal,
-    /// What is known after the entries.
-    state: State,
-    /// The program left after them.
-    left: Left,
+    /// What is known after the entries, and what is decided there.
+    decider: Decider<'a>,
     /// The device whose result is still to come.
     awaited: Option<u8>,
     /// How the program ended.
@@ -64,7 +60,6 @@ pub struct Runner<'a> {
 }
 
 impl<'a> Model for Runner<'a> {
-    ghost use Rattle.std.specs.Prelude.{◌≡◌};
     ghost use Rattle.golog_agent.specs.Turns.{Course};
     ghost use Rattle.golog_agent.specs.Keeping.{KeepsUp};
     ghost use Rattle.std.specs.Coded.{codes};
@@ -77,11 +72,10 @@ impl<'a> Model for Runner<'a> {
 
     ghost coded = { Prim.hlevel (codes, cond.the_row.coded, term.the_row.coded, prog.the_row.coded, way.the_row.coded) };
 
-    ghost view = { λ runner. record { agent = runner.agent.now; list = runner.journal.entries } };
+    ghost view = { λ runner. record { agent = runner.journal.agent; list = runner.journal.entries } };
 
     ghost invariant = { λ runner.
-        (runner.journal.agent ≡ runner.agent.now)
-        × KeepsUp runner.agent.now runner.journal.entries runner.state runner.left runner.awaited runner.ended runner.runs };
+        KeepsUp runner.journal.agent runner.journal.entries runner.decider runner.awaited runner.ended runner.runs };
 }
 
 /// The device whose result is still to come after one more entry.
@@ -114,6 +108,17 @@ fn ended_after(ended: Option<Answer>, entry: Entry) -> Option<Answer>
     }
 }
 
+/// The program that a step leaves and the run that it begins, where there is a step.
+fn parts_of(step: Option<Move>) -> (Option<Prog>, Option<List<Label>>)
+    ensures left { result.0 ≡ left_of step }
+    ensures run { result.1 ≡ step_run step }
+{
+    match step {
+        Some(step) => (Some(step.left), step.run),
+        None => (None, None),
+    }
+}
+
 /// The entry of a step.
 fn entry_of(label: Label) -> Entry
     ensures { result ≡ entry_for label }
@@ -130,16 +135,13 @@ impl<'a> Runner<'a> {
         requires { WellFormed agent.now }
         ensures { IfOk result (λ runner. runner ≡ record { agent = agent.now; list = [] }) }
     {
-        let journal = Journal::new(alloc, agent)?;
-        let state = start(alloc, agent)?;
-        let left = Left::new(alloc, agent)?;
         let runs = Runs::new(alloc)?;
+        let journal = Journal::new(alloc, agent)?;
+        let decider = Decider::new(alloc, agent)?;
         Ok(Runner {
-            agent,
             alloc,
             journal,
-            state,
-            left,
+            decider,
             awaited: None,
             ended: None,
             runs,
@@ -152,6 +154,8 @@ impl<'a> Runner<'a> {
         ensures entries { result ≡ report_of self.entry.agent self.entry.list }
         ensures online { IsOnlineSoFar self.entry.agent result }
     {
+        // In one call, so that what is kept of a decision makes no paths here.
+        drop(self.decider);
         Report {
             entries: self.journal.into_entries(),
             runs: self.runs.into_list(),
@@ -174,24 +178,23 @@ impl<'a> Runner<'a> {
         self.journal.len()
     }
 
-    // Takes one more entry, which keeps the rules, the program left after it, where that is another, and the
-    // run that begins with it.
-    fn take(&mut self, entry: Entry, left: Option<Prog>, run: Option<List<Label>>)
+    // Takes one more entry, which keeps the rules, and the step whose entry it is, if it is one.
+    fn take(&mut self, entry: Entry, step: Option<Move>)
         requires lawful { IsBoardList self.old.agent (self.old.list ++ entry ∷ []) }
         requires room { IsTrue (is_step_entry entry) → count self.old.list < limit }
         requires online { KeepsRules self.old.agent self.old.list entry }
         requires left { left_after self.old.agent (self.old.list ++ entry ∷ [])
-            ≡ unwrap_or left (left_after self.old.agent self.old.list) }
-        requires nests { IfSome left (λ left. nest left ≤ nest_limit) }
-        requires run { run ≡ begun_by self.old.agent self.old.list entry }
+            ≡ unwrap_or (left_of step) (left_after self.old.agent self.old.list) }
+        requires run { step_run step ≡ begun_by self.old.agent self.old.list entry }
+        requires next { IfSome step (IsNextStep self.old.agent self.old.list) }
         ensures { self.new ≡ record { agent = self.old.agent; list = self.old.list ++ entry ∷ [] } }
     {
         let awaited = awaited_after(&self.journal, self.awaited, entry);
         let ended = ended_after(self.ended, entry);
-        self.state.roll(self.agent, &[entry]);
+        let (left, run) = parts_of(step);
+        self.decider.take(entry, left);
         self.runs.keep(self.journal.len(), run);
         self.journal.add(entry);
-        self.left.replace(left);
         self.awaited = awaited;
         self.ended = ended;
     }
@@ -203,7 +206,7 @@ impl<'a> Runner<'a> {
         ensures { self.new ≡ record { agent = self.old.agent; list = self.old.list ++ entries.now } }
     {
         for entry in entries {
-            self.take(*entry, None, None);
+            self.take(*entry, None);
         }
     }
 
@@ -228,16 +231,45 @@ impl<'a> Runner<'a> {
         }
     }
 
-    // What the program is to do, where no result is awaited and there is room.
-    fn decided_plan(&self) -> Plan
-        requires settled { IsTrue (is_settled self.now.agent self.now.list) }
-        requires answered { is_unanswered self.now.agent self.now.list ≡ false }
-        requires room { is_full self.now.list ≡ false }
-        ensures { PlanIs self.now.agent self.now.list result }
+    // Whether each device is closed or at rest.
+    fn is_quiet(&self) -> bool
+        ensures { result ≡ is_quiet self.now.agent self.now.list }
     {
-        match self.left.decide_step(self.alloc, self.agent, &self.state) {
+        self.journal.is_quiet()
+    }
+
+    // What the program does next, where it certainly ends or steps. It is decided anew only where the values or the
+    // program left have changed since.
+    fn ahead(&mut self) -> Result<Option<Decision>, NoMemory>
+        ensures same { self.new ≡ self.old }
+        ensures ahead { IfOk result (IsAhead self.old.agent (values_after self.old.agent self.old.list)
+            (left_after self.old.agent self.old.list) true) }
+    {
+        self.decider.decide(self.alloc)
+    }
+
+    // Keeps this step, if there is one, which was decided and is not committed.
+    fn keep_step(&mut self, step: Option<Move>)
+        requires { IfSome step (IsNextStep self.old.agent self.old.list) }
+        ensures { self.new ≡ self.old }
+    {
+        if let Some(step) = step {
+            self.decider.keep(self.alloc, Some(Decision::Step(step)));
+        }
+    }
+
+    // What the program is to do, where no result is awaited and there is room.
+    fn decided_plan(&mut self) -> Plan
+        requires settled { IsTrue (is_settled self.old.agent self.old.list) }
+        requires answered { is_unanswered self.old.agent self.old.list ≡ false }
+        requires room { is_full self.old.list ≡ false }
+        ensures same { self.new ≡ self.old }
+        ensures plan { PlanIs self.old.agent self.old.list result }
+    {
+        self.keeps_rules();
+        match self.ahead() {
             Ok(Some(decision)) => planned(decision),
-            Ok(None) if self.journal.is_quiet() => self.blocked_plan(),
+            Ok(None) if self.is_quiet() => self.blocked_plan(),
             Ok(None) => Plan::Wait,
             Err(_) => Plan::End(Answer::Memory),
         }
@@ -255,16 +287,17 @@ impl<'a> Runner<'a> {
             Mode.Must (left_after self.now.agent self.now.list))) }
         ensures { PlanIs self.now.agent self.now.list result }
     {
-        match decide_blocked(self.alloc, self.agent, self.left.prog(), &self.state) {
+        match self.decider.why_blocked(self.alloc) {
             Ok(decision) => planned(decision),
             Err(_) => Plan::End(Answer::Memory),
         }
     }
 
     // What the program is to do next.
-    fn plan(&self) -> Plan
-        requires { has_end self.now.list ≡ false }
-        ensures { PlanIs self.now.agent self.now.list result }
+    fn plan(&mut self) -> Plan
+        requires { has_end self.old.list ≡ false }
+        ensures same { self.new ≡ self.old }
+        ensures plan { PlanIs self.old.agent self.old.list result }
     {
         if self.journal.is_full() {
             return Plan::End(Answer::Full);
@@ -277,23 +310,17 @@ impl<'a> Runner<'a> {
     }
 
     // Commits what was decided for all that it has seen, and takes it into its copy. Nothing where entries
-    // came before it.
-    fn commit<B: Board>(
-        &mut self,
-        board: &mut B,
-        entry: Entry,
-        left: Option<Prog>,
-        run: Option<List<Label>>,
-    ) -> bool
+    // came before it: then the step, if it is one, is kept.
+    fn commit<B: Board>(&mut self, board: &mut B, entry: Entry, step: Option<Move>) -> bool
         requires current { IsCurrent self.old (B.sight board.old) }
         requires goes_on { has_end self.old.list ≡ false }
         requires of_program { IsOfProgram self.old.agent self.old.list 0 entry entry }
         requires room { IsTrue (is_counted entry) → count self.old.list < limit }
         requires online { KeepsRules self.old.agent self.old.list entry }
         requires left { left_after self.old.agent (self.old.list ++ entry ∷ [])
-            ≡ unwrap_or left (left_after self.old.agent self.old.list) }
-        requires nests { IfSome left (λ left. nest left ≤ nest_limit) }
-        requires run { run ≡ begun_by self.old.agent self.old.list entry }
+            ≡ unwrap_or (left_of step) (left_after self.old.agent self.old.list) }
+        requires run { step_run step ≡ begun_by self.old.agent self.old.list entry }
+        requires next { IfSome step (IsNextStep self.old.agent self.old.list) }
         ensures same { self.new.agent ≡ self.old.agent }
         ensures commits { CommitGives entry (B.sight board.old) (B.sight board.new) result }
         ensures behind { IsOver self.new (B.sight board.new) }
@@ -302,10 +329,13 @@ impl<'a> Runner<'a> {
         let at = self.len();
         match board.commit(at, entry) {
             Commit::Taken => {
-                self.take(entry, left, run);
+                self.take(entry, step);
                 true
             }
-            Commit::Moved { .. } => false,
+            Commit::Moved { .. } => {
+                self.keep_step(step);
+                false
+            }
         }
     }
 
@@ -319,7 +349,7 @@ impl<'a> Runner<'a> {
         ensures behind { IsOver self.new (B.sight board.new) }
         ensures whole { IfSome result (λ _. self.new.list ≡ (B.sight board.new).seen) }
     {
-        if self.commit(board, Entry::End { answer }, None, None) {
+        if self.commit(board, Entry::End { answer }, None) {
             Some(Stepped::Ended(answer))
         } else {
             None
@@ -337,7 +367,7 @@ impl<'a> Runner<'a> {
         ensures whole { IfSome result (λ _. self.new.list ≡ (B.sight board.new).seen) }
     {
         self.keeps_rules();
-        if self.commit(board, entry_of(step.label), Some(step.left), step.run) {
+        if self.commit(board, entry_of(step.label), Some(step)) {
             Some(Stepped::Step)
         } else {
             None
@@ -401,13 +431,20 @@ impl<'a> Runner<'a> {
 }
 
 impl<'a> Lead for Runner<'a> {
-    ghost use Rattle.std.specs.Prelude.{◌≡◌, IsTrue, false};
+    ghost use Rattle.std.specs.Prelude.{◌≡◌, IsTrue, false, None};
     ghost use Rattle.golog_semantics.specs.Journal.{Journal, is_quiet};
     ghost use Rattle.golog_journal.specs.Leading.{Mind};
     ghost use Rattle.golog_agent.specs.Waiting.{waits};
     ghost use Rattle.golog_agent.specs.Laws.{quiet_goes_on};
 
-    ghost mind = { λ runner. record { agent = runner.agent; list = runner.list; waits = waits runner.agent } };
+    ghost mind = { λ runner. record {
+      agent = runner.agent;
+      list = runner.list;
+      waits = waits runner.agent;
+      outlet = None;
+    } };
+
+    ghost stands = { λ _. Unit {0} };
 
     fn turn<B: Board>(&mut self, board: &mut B) -> Led {
         let stepped = Runner::turn(self, board);

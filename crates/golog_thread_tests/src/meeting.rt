@@ -158,6 +158,7 @@ impl Host<'_> {
 }
 
 impl Lead for Host<'_> {
+    ghost use Rattle.std.specs.Prelude.{None};
     ghost use Rattle.golog_agent.specs.Waiting.{waits};
     ghost use Rattle.golog_agent.specs.Laws.{quiet_goes_on};
 
@@ -165,7 +166,10 @@ impl Lead for Host<'_> {
       agent = host.runner.agent;
       list = host.runner.list;
       waits = waits host.runner.agent;
+      outlet = None;
     } };
+
+    ghost stands = { λ _. Unit {0} };
 
     fn turn<B: Board>(&mut self, board: &mut B) -> Led {
         self.attend();

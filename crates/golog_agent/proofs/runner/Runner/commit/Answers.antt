@@ -1,3 +1,5 @@
+use Rattle.std.proofs.Common.{sym, subst}
+use Rattle.golog_agent.specs.Turns.{Course, IsOver}
 use Rattle.golog_agent.proofs.Placing.{may-commit, moved-over, moved-overtaken, taken-commits, taken-lawful, taken-over, taken-whole}
 use Rattle.golog_agent.proofs.BegunRuns.{step-counts}
 use Rattle.golog_agent.proofs.runner.Runner.commit.Goals as goal
@@ -17,8 +19,9 @@ take-requires-clause-room g c step = c.requires.room (step-counts c.args.self.no
 
 pub returns-in-Moved-clause-behind : goal.returns-in-Moved-clause-behind
 returns-in-Moved-clause-behind g c =
-    moved-over c.args.self.now (g.B.Board.sight c.args.board.now) c.len-at.result c.args.entry c.requires.current c.len-at.ensures.number
-    (g.B.Board.sight c.commit.new.self) c.commit.result c.commit.ensures c.in-Moved.longer c.in-Moved.is
+    subst (λ (v : Course). IsOver v (g.B.Board.sight c.commit.new.self)) (sym c.keep_step.ensures)
+    (moved-over c.args.self.now (g.B.Board.sight c.args.board.now) c.len-at.result c.args.entry c.requires.current c.len-at.ensures.number
+    (g.B.Board.sight c.commit.new.self) c.commit.result c.commit.ensures c.in-Moved.longer c.in-Moved.is)
 
 pub returns-in-Moved-clause-commits : goal.returns-in-Moved-clause-commits
 returns-in-Moved-clause-commits g c =

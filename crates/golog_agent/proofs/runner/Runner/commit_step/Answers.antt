@@ -21,5 +21,5 @@ returns-then-commit-clause-attempt g c =
 pub commit-requires-clause-run : goal.commit-requires-clause-run
 commit-requires-clause-run g c = entry-run c.args.self.now.agent c.args.self.now.list c.args.step c.requires.next c.entry_of.result c.entry_of.ensures
 
-pub commit-requires-clause-nests : goal.commit-requires-clause-nests
-commit-requires-clause-nests g c = c.requires.next.nests
+pub commit-requires-clause-next : goal.commit-requires-clause-next
+commit-requires-clause-next g c = c.requires.next

@@ -8,35 +8,34 @@ use Rattle.golog_agent.proofs.runner.Runner.plan.Goals as goal
 pub is_open-requires : goal.is_open-requires
 is_open-requires c =
     let r = c.self.inside in
-    subst (λ (agent : Agent). c.in-Some.device < length agent.devices) (sym c.self.invariant.0)
-    (one-awaited r.agent.now r.journal.entries r.awaited c.self.invariant.1.awaits c.in-Some.device c.in-Some.is).is_device
+    (one-awaited r.journal.agent r.journal.entries r.awaited c.self.invariant.awaits c.in-Some.device c.in-Some.is).is_device
 
-pub returns-then-is_full : goal.returns-then-is_full
-returns-then-is_full c =
+pub returns-then-is_full-clause-plan : goal.returns-then-is_full-clause-plan
+returns-then-is_full-clause-plan c =
     let r = c.self.inside in
-    as-seen r.agent.now r.journal.entries c.args.self.now c.self.view_is (plan.End answer.Full)
-    (full-plan r.agent.now r.journal.entries (sym c.is_full.ensures ∙ c.if-is_full.true))
+    as-seen r.journal.agent r.journal.entries c.args.self.now c.self.view_is (plan.End answer.Full)
+    (full-plan r.journal.agent r.journal.entries (sym c.is_full.ensures ∙ c.if-is_full.true))
 
 pub decided_plan-requires-clause-settled : goal.decided_plan-requires-clause-settled
 decided_plan-requires-clause-settled c =
     let r = c.self.inside in
-    settled-seen r.agent.now r.journal.entries c.args.self.now c.self.view_is r.awaited c.self.invariant.1.awaits c.in-None.is
+    settled-seen r.journal.agent r.journal.entries c.args.self.now c.self.view_is r.awaited c.self.invariant.awaits c.in-None.is
 
 pub decided_plan-requires-clause-answered : goal.decided_plan-requires-clause-answered
 decided_plan-requires-clause-answered c =
     let r = c.self.inside in
-    answered-seen r.agent.now r.journal.entries c.args.self.now c.self.view_is r.awaited c.self.invariant.1.awaits c.in-None.is
+    answered-seen r.journal.agent r.journal.entries c.args.self.now c.self.view_is r.awaited c.self.invariant.awaits c.in-None.is
 
-pub returns-in-Some : goal.returns-in-Some
-returns-in-Some c =
+pub returns-in-Some-clause-plan : goal.returns-in-Some-clause-plan
+returns-in-Some-clause-plan c =
     let r = c.self.inside in
-    as-seen r.agent.now r.journal.entries c.args.self.now c.self.view_is plan.Wait
-    (wait-plan r.agent.now r.journal.entries r.awaited c.self.invariant.1.awaits c.in-Some.device c.self.invariant.1.under_way.lawful
+    as-seen r.journal.agent r.journal.entries c.args.self.now c.self.view_is plan.Wait
+    (wait-plan r.journal.agent r.journal.entries r.awaited c.self.invariant.awaits c.in-Some.device c.self.invariant.under_way.lawful
     (sym c.is_full.ensures ∙ c.if-is_full.false) c.in-Some.is (sym c.is_open.ensures ∙ c.if-is_open.true))
 
-pub returns-in-Some-2 : goal.returns-in-Some-2
-returns-in-Some-2 c =
+pub returns-in-Some-2-clause-plan : goal.returns-in-Some-2-clause-plan
+returns-in-Some-2-clause-plan c =
     let r = c.self.inside in
-    as-seen r.agent.now r.journal.entries c.args.self.now c.self.view_is (plan.End answer.Unanswered)
-    (shut-plan r.agent.now r.journal.entries r.awaited c.self.invariant.1.awaits c.in-Some.device (sym c.is_full.ensures ∙ c.if-is_full.false) c.in-Some.is
+    as-seen r.journal.agent r.journal.entries c.args.self.now c.self.view_is (plan.End answer.Unanswered)
+    (shut-plan r.journal.agent r.journal.entries r.awaited c.self.invariant.awaits c.in-Some.device (sym c.is_full.ensures ∙ c.if-is_full.false) c.in-Some.is
     (sym c.is_open.ensures ∙ c.if-is_open.false))

@@ -1,50 +1,55 @@
-use Rattle.std.proofs.Common.{◌∷◌, [], ◌++◌, length, sym, ap, ◌∙◌, subst}
+use Rattle.std.proofs.Common.{◌≤◌, ◌∷◌, [], ◌++◌, length, sym, ap, ◌∙◌, subst}
+use Rattle.std.specs.Prelude.{IfSome, unwrap_or}
+use Rattle.golog_tree.specs.Nest.{nest}
 use Rattle.golog_semantics.specs.InlineText.{placed}
-use Rattle.golog_journal.specs.Boards.{AgentJournal, IsBoardList}
-use Rattle.golog_agent.specs.Keeping.{awaited_by, begun_by}
+use Rattle.golog_semantics.specs.Progress.{left_after}
+use Rattle.golog_semantics.specs.Search.{nest_limit}
+use Rattle.golog_journal.specs.Boards.{AgentJournal}
+use Rattle.golog_agent.specs.Keeping.{begun_by}
 use Rattle.golog_agent.specs.Turns.{Course}
-use Rattle.golog_agent.proofs.Growth.{entries-fit, kept-then, lawful-inside, run-room, seen_as, sorted}
+use Rattle.golog_agent.proofs.Growth.{entries-fit, kept-then, lawful-inside, run-room, seen_as, sound}
+use Rattle.golog_agent.proofs.Stepping.{left-nests}
 use Rattle.golog_agent.proofs.runner.Runner.take.Goals as goal
 
-pub roll-requires-clause-agent : goal.roll-requires-clause-agent
-roll-requires-clause-agent c = c.self.invariant.1.under_way.formed
-
-pub roll-requires-clause-sorts : goal.roll-requires-clause-sorts
-roll-requires-clause-sorts c =
+pub take-requires-clause-sound : goal.take-requires-clause-sound
+take-requires-clause-sound c =
     let r = c.self.inside in
-    sorted r.agent.now r.journal.entries r.state c.self.invariant.1.values_so c.self.invariant.1.under_way
+    sound r.journal.agent r.journal.entries r.decider c.self.invariant.known_so c.self.invariant.under_way
 
-pub roll-requires-clause-entries : goal.roll-requires-clause-entries
-roll-requires-clause-entries c =
+pub take-requires-clause-entry : goal.take-requires-clause-entry
+take-requires-clause-entry c =
     let r = c.self.inside in
-    entries-fit r.agent.now r.journal.entries c.args.entry (lawful-inside r.agent.now r.journal.entries c.args.self.now c.args.entry c.self.view_is c.requires.lawful)
+    entries-fit r.journal.agent r.journal.entries r.decider c.self.invariant.known_so c.args.entry
+    (lawful-inside r.journal.agent r.journal.entries c.args.self.now c.args.entry c.self.view_is c.requires.lawful)
+
+pub take-requires-clause-nests : goal.take-requires-clause-nests
+take-requires-clause-nests c =
+    subst (λ left. IfSome left (λ prog. nest prog ≤ nest_limit)) (sym c.parts_of-left.ensures.left)
+    (left-nests c.args.self.now.agent c.args.self.now.list c.args.step c.requires.next)
 
 pub add-requires : goal.add-requires
 add-requires c =
     let r = c.self.inside in
-    subst (λ agent. IsBoardList agent (r.journal.entries ++ c.args.entry ∷ [])) (sym c.self.invariant.0)
-    (lawful-inside r.agent.now r.journal.entries c.args.self.now c.args.entry c.self.view_is c.requires.lawful)
+    lawful-inside r.journal.agent r.journal.entries c.args.self.now c.args.entry c.self.view_is c.requires.lawful
 
 pub keep-requires : goal.keep-requires
 keep-requires c =
     let r = c.self.inside in
-    run-room r.agent.now r.journal.entries c.args.self.now c.args.entry r.runs c.args.run c.self.view_is c.self.invariant.1.runs_so c.requires.room c.requires.run
+    run-room r.journal.agent r.journal.entries c.args.self.now c.args.entry r.runs c.parts_of-left.result.1 c.self.view_is c.self.invariant.runs_so c.requires.room
+    (c.parts_of-left.ensures.run ∙ c.requires.run)
 
 pub invariant_of-self : goal.invariant_of-self
 invariant_of-self c =
-    let r = c.self.inside in (
-      ap (λ (j : AgentJournal). j.agent) c.add.ensures ∙ c.self.invariant.0,
-      kept-then r.agent.now r.journal.entries c.add.new.self.entries c.args.self.now c.args.entry r.state c.roll.new.self r.left c.replace.new.self c.args.left r.awaited c.awaited_after-awaited.result r.ended c.ended_after-ended.result
-          r.runs c.keep.new.self
-          c.self.view_is c.self.invariant.1 c.requires.lawful c.requires.online c.requires.left
-          (ap (λ (j : AgentJournal). j.entries) c.add.ensures) c.roll.ensures.values c.replace.ensures
-          (c.awaited_after-awaited.ensures ∙ ap (λ agent. awaited_by agent r.awaited c.args.entry) c.self.invariant.0) c.ended_after-ended.ensures
-          (c.keep.ensures ∙ ap (λ n. r.runs ++ placed n c.args.run) c.len.ensures.number ∙ ap (λ run. r.runs ++ placed (length r.journal.entries) run) c.requires.run
-          ∙ ap (λ (v : Course). r.runs ++ placed (length r.journal.entries) (begun_by v.agent v.list c.args.entry)) (sym c.self.view_is)),
-    )
+    let r = c.self.inside in
+    kept-then r.journal c.add.new.self c.args.self.now c.args.entry r.decider c.take.new.self c.parts_of-left.result.0 r.awaited c.awaited_after-awaited.result r.ended c.ended_after-ended.result
+    r.runs c.keep.new.self c.self.view_is c.self.invariant c.requires.lawful c.requires.online
+    (c.requires.left ∙ ap (λ left. unwrap_or left (left_after c.args.self.now.agent c.args.self.now.list)) (sym c.parts_of-left.ensures.left))
+    c.add.ensures c.take.ensures c.awaited_after-awaited.ensures c.ended_after-ended.ensures
+    (c.keep.ensures ∙ ap (λ n. r.runs ++ placed n c.parts_of-left.result.1) c.len.ensures.number
+    ∙ ap (λ run. r.runs ++ placed (length r.journal.entries) run) (c.parts_of-left.ensures.run ∙ c.requires.run)
+    ∙ ap (λ (v : Course). r.runs ++ placed (length r.journal.entries) (begun_by v.agent v.list c.args.entry)) (sym c.self.view_is))
 
 pub returns : goal.returns
 returns c =
-    let r = c.self.inside in
-    ap (λ (j : AgentJournal). seen_as r.agent.now j.entries) c.add.ensures
+    ap (λ (j : AgentJournal). seen_as j.agent j.entries) c.add.ensures
     ∙ ap (λ (v : Course). seen_as v.agent (v.list ++ c.args.entry ∷ [])) c.self.view_is

@@ -1,0 +1,36 @@
+use Rattle.std.proofs.Common.{true, Option, Some, sym, ap, ◌∙◌, subst}
+use Rattle.std.specs.Prelude.{IfOk, IsTrue}
+use Rattle.golog_semantics.specs.ProgFits.{fits}
+use Rattle.golog_semantics.specs.SortLaws.{AreInSorts}
+use Rattle.golog_semantics.specs.WellFormed.{WellFormed}
+use Rattle.golog_search.specs.declared.decision.Decision.{Decision}
+use Rattle.golog_search.specs.Decided.{IsAhead}
+use Rattle.golog_agent.specs.Configuration.{Configuration}
+use Rattle.golog_agent.proofs.KeptDecision.{kept-ahead}
+use Rattle.golog_agent.proofs.decider.Decider.look.Goals as goal
+
+pub decide_step_of-requires-clause-agent : goal.decide_step_of-requires-clause-agent
+decide_step_of-requires-clause-agent c = subst (λ (v : Configuration). WellFormed v.agent) (sym c.self.view_is) c.requires.formed
+
+pub decide_step_of-requires-clause-program : goal.decide_step_of-requires-clause-program
+decide_step_of-requires-clause-program c = subst (λ (v : Configuration). IsTrue (fits v.agent v.left)) (sym c.self.view_is) c.requires.fitting
+
+pub decide_step_of-requires-clause-sorts : goal.decide_step_of-requires-clause-sorts
+decide_step_of-requires-clause-sorts c = subst (λ (v : Configuration). AreInSorts v.agent v.values) (sym c.self.view_is) c.requires.sorted
+
+pub decide_step_of-requires-clause-shallow : goal.decide_step_of-requires-clause-shallow
+decide_step_of-requires-clause-shallow c = c.self.invariant.0
+
+pub decide_step_of-requires-clause-serves : goal.decide_step_of-requires-clause-serves
+decide_step_of-requires-clause-serves c = c.self.invariant.2
+
+pub returns-then-is_at-clause-ahead : goal.returns-then-is_at-clause-ahead
+returns-then-is_at-clause-ahead c =
+    let r = c.self.inside in
+    subst (λ (o : Option Decision). IsAhead c.args.self.now.agent c.args.self.now.values c.args.self.now.left true o) (sym c.take.ensures.value)
+    (subst (λ (v : Configuration). IsAhead v.agent v.values v.left true r.ahead) c.self.view_is
+    (kept-ahead r.agent.now r.left r.state r.ahead r.at (sym c.take-at.ensures.value ∙ (c.is_at.ensures c.if-is_at.true ∙ ap (λ vs. Some vs) c.values.ensures)) c.self.invariant.1))
+
+pub returns-clause-ahead : goal.returns-clause-ahead
+returns-clause-ahead c =
+    subst (λ (v : Configuration). IfOk c.decide_step_of.result (IsAhead v.agent v.values v.left true)) c.self.view_is c.decide_step_of.ensures.ahead
