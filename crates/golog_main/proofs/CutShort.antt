@@ -15,8 +15,9 @@ use Rattle.golog_main.specs.declared.outcome.Outcome.{Outcome}
 use Rattle.golog_main.specs.declared.outcome.Outcome.TheVariants.{WordsRefused, ReadFault, Refused, Ran, Checked, Judged, Asked, Demonstrated}
 use Rattle.golog_main.specs.Inputs.{scripts_for, SpellsScripts, RefusesScripts}
 use Rattle.golog_main.specs.Runs.{IsRunOf}
-use Rattle.golog_main.specs.Outcome.{Outside, OfScripts, RunOf, IsCaused, Reports, text_of, status_of}
+use Rattle.golog_main.specs.Outcome.{Outside, OfScripts, RunOf, Reports, outcome_text, outcome_status}
 use Rattle.golog_main.specs.CutShort.{AddsBeginning, CutShortBeginsOnline, GivesAgent, GivesScripts}
+use Rattle.golog_main.proofs.Causes.{IsCaused}
 use Rattle.golog_main.proofs.ExactLemmas.{agents-exclude, agents-one, scripts-exclude, scripts-one, file-spells}
 
 -- the first bytes of the text of an online execution begin one
@@ -48,11 +49,11 @@ module _ (inline : Bool) (before after : Outside) (agent : Agent) (listed : List
       (file-spells before after AgentFile name IsFirstRefusal SpellsAgent agents-exclude agents-one outcome
       (λ a. OfScripts before.held before.file_faults after.file_faults a devices (Runs a)) gives.bytes agent gives.read gives.spells cause)
 
-  adds : (outcome : Outcome) → Runs agent listed outcome → AddsPrefix before.taken after.taken (text_of outcome) → AddsBeginning agent before.taken after.taken
+  adds : (outcome : Outcome) → Runs agent listed outcome → AddsPrefix before.taken after.taken (outcome_text outcome) → AddsBeginning agent before.taken after.taken
   unfolding begins
   adds (Ran text answer) of (n, within, added) = record {
     bytes = take n text;
-    begins = begins agent text (status_of (Ran text answer)) n of.online;
+    begins = begins agent text (outcome_status (Ran text answer)) n of.online;
     so = of.so;
     added = added;
   }
@@ -65,10 +66,10 @@ module _ (inline : Bool) (before after : Outside) (agent : Agent) (listed : List
   adds (Demonstrated text) of prefix = absurd of
 
   of-report : (outcome : Outcome) → Runs agent listed outcome
-      → Reports 5 (text_of outcome) (status_of outcome) before.taken after.taken before.sink_faults after.sink_faults
+      → Reports 5 (outcome_text outcome) (outcome_status outcome) before.taken after.taken before.sink_faults after.sink_faults
       → AddsBeginning agent before.taken after.taken
   of-report outcome of (inl (is, written)) =
-      adds outcome of (length (text_of outcome), omega arith, written ∙ ap (and_then_bytes before.taken) (sym (take-length (text_of outcome))))
+      adds outcome of (length (outcome_text outcome), omega arith, written ∙ ap (and_then_bytes before.taken) (sym (take-length (outcome_text outcome))))
   of-report outcome of (inr (five, prefix, rose)) = adds outcome of prefix
 
 pub cut_short : CutShortBeginsOnline

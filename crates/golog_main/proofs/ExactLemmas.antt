@@ -23,7 +23,7 @@ use Rattle.golog_file.proofs.Answers.{without-theory}
 use Rattle.golog_file.proofs.Excluded.{excluded, one-agent, one-form, theory-same}
 use Rattle.golog_check_text.specs.Counts.{check_text}
 use Rattle.golog_replay.specs.declared.verdict.Verdict.TheVariants.{Online, Not}
-use Rattle.golog_words.specs.Commands.{Command, run, check, replay, ask, demo}
+use Rattle.golog_words.specs.Commands.{CommandLine, run, check, replay, ask, demo}
 use Rattle.golog_main.specs.declared.outcome.Input.{Input}
 use Rattle.golog_main.specs.declared.outcome.Input.TheVariants.{Agent as AgentFile, Devices as DevicesFile, Journal as JournalFile}
 use Rattle.golog_main.specs.declared.outcome.Outcome.{Outcome}
@@ -32,9 +32,10 @@ use Rattle.golog_main.specs.declared.ready.Told.{Told}
 use Rattle.golog_main.specs.Inputs.{SpellsScripts, RefusesScripts, too_long, of_row, SpellsJournal, RefusesJournal, journal_too_long, of_line, SpellsBoth, Reads, Tells, IsUnread, scripts_for}
 use Rattle.golog_main.specs.Demos.{Demonstrates, demo_text}
 use Rattle.golog_main.specs.Runs.{IsRunOf}
-use Rattle.golog_main.specs.Outcome.{ComesOf, unread, refused, holds, OfFile, OfScripts, OfJournal, OfCondition, RunOf, Judges, TruthOf, Outside, IsCaused, Reports, text_of, status_of, verdict_line, verdict_status}
+use Rattle.golog_main.specs.Outcome.{ComesOf, unread, refused, holds, OfFile, OfScripts, OfJournal, OfCondition, RunOf, Judges, TruthOf, Outside, Reports, outcome_text, outcome_status, verdict_line, verdict_status}
 use Rattle.golog_main.proofs.OneVerdict.{one-verdict}
 use Rattle.golog_main.specs.Exact.{Writes, Shows, SaysItsCause, IsStopped, Answers, Says, IsRead, FileFollows, CondFollows, ScriptsFollow, JournalFollows, RunFollows, DemoFollows, JudgedFollows, TruthFollows, FollowsItsCause, StatusesAreExact}
+use Rattle.golog_main.proofs.Causes.{IsCaused}
 
 -- ---- what is read
 
@@ -82,17 +83,17 @@ module _ {A : Type 0} (before after : Outside) (input : Input) (name : Text) (Re
   file-spells P bytes x read spells (holds y reads next) =
       subst (λ z. P z outcome) (one bytes x y spells (read_so name bytes before after read (λ b. Spells b y) reads)) next
 
-  module _ (status : ℕ) (shown : status ≡ status_of outcome) where
+  module _ (status : ℕ) (shown : status ≡ outcome_status outcome) where
     no-file : (P : A → Outcome → Type 0) → OfFile before.held before.file_faults after.file_faults input name Refuses Spells P outcome
         → HasNone before.held name → Answers status 4 before after
-    no-file P (unread is u) none = inl (shown ∙ ap status_of is)
+    no-file P (unread is u) none = inl (shown ∙ ap outcome_status is)
     no-file P (refused text is has) none = absurd (held_or_not before.held name (λ b. Tells input (Refuses b) text) none has)
     no-file P (holds y reads next) none = absurd (held_or_not before.held name (λ told. told ≡ reads.bytes) none reads.has)
 
     file-refused : (P : A → Outcome → Type 0) → OfFile before.held before.file_faults after.file_faults input name Refuses Spells P outcome
         → (bytes : Text) (code at : ℕ) → IsRead name bytes before after → Refuses bytes code at → Answers status 3 before after
     file-refused P (unread is u) bytes code at read r = absurd (no_fault name bytes before after read u)
-    file-refused P (refused text is has) bytes code at read r = inl (shown ∙ ap status_of is)
+    file-refused P (refused text is has) bytes code at read r = inl (shown ∙ ap outcome_status is)
     file-refused P (holds y reads next) bytes code at read r =
         absurd (excludes bytes y code at (read_so name bytes before after read (λ b. Spells b y) reads) r)
 
@@ -159,11 +160,11 @@ module _ (agent : Agent) where
       parts c d e h =
           subst (λ b. c ≡ record { bytes = b; report = d.report }) e (subst (λ r. c ≡ record { bytes = c.bytes; report = r }) h refl)
 
-module _ (unrefused : SpelledCondIsUnrefused) (one : OneCondIsSpelled) (status : ℕ) (before after : Outside) (outcome : Outcome) (shown : status ≡ status_of outcome)
+module _ (unrefused : SpelledCondIsUnrefused) (one : OneCondIsSpelled) (status : ℕ) (before after : Outside) (outcome : Outcome) (shown : status ≡ outcome_status outcome)
     (theory : DraftTheory) (agent : Agent) (bytes : Text) (P : Cond → Outcome → Type 0) where
   cond-refused : OfCondition theory agent bytes P outcome → (code at : ℕ) → RefusesCond theory agent bytes code at → Answers status 3 before after
   cond-refused (unread is u) code at r = absurd u
-  cond-refused (refused text is tells) code at r = inl (shown ∙ ap status_of is)
+  cond-refused (refused text is tells) code at r = inl (shown ∙ ap outcome_status is)
   cond-refused (holds cond spells next) code at r = absurd (unrefused theory agent bytes cond spells code at r)
 
   cond-spelled : OfCondition theory agent bytes P outcome → (cond : Cond) → SpellsCond theory agent bytes cond → P cond outcome
@@ -178,7 +179,7 @@ module _ (unrefused : SpelledCondIsUnrefused) (one : OneCondIsSpelled) (status :
 -- ---- what follows of the cause
 
 module _ (status : ℕ) (before after : Outside) where
-  ran-follows : (agent : Agent) (listed : List Script) (inline : Bool) (outcome : Outcome) → status ≡ status_of outcome → Writes before after (text_of outcome)
+  ran-follows : (agent : Agent) (listed : List Script) (inline : Bool) (outcome : Outcome) → status ≡ outcome_status outcome → Writes before after (outcome_text outcome)
       → RunOf agent listed inline before.devices after.devices outcome → RunFollows status before after agent listed inline
   ran-follows agent listed inline (Ran text answer) is written ran =
       inl (record {
@@ -194,10 +195,10 @@ module _ (status : ℕ) (before after : Outside) where
   ran-follows agent listed inline (Asked truth) is written ran = absurd ran
   ran-follows agent listed inline (Demonstrated text) is written ran = absurd ran
 
-  module _ (unrefused : SpelledCondIsUnrefused) (one : OneCondIsSpelled) (outcome : Outcome) (shown : status ≡ status_of outcome)
-      (written : Writes before after (text_of outcome)) where
-    said : (o : Outcome) → outcome ≡ o → Says status (status_of o) (text_of o) before after
-    said o is = inl (shown ∙ ap status_of is, written ∙ ap (λ x. and_then_bytes before.taken (text_of x)) is)
+  module _ (unrefused : SpelledCondIsUnrefused) (one : OneCondIsSpelled) (outcome : Outcome) (shown : status ≡ outcome_status outcome)
+      (written : Writes before after (outcome_text outcome)) where
+    said : (o : Outcome) → outcome ≡ o → Says status (outcome_status o) (outcome_text o) before after
+    said o is = inl (shown ∙ ap outcome_status is, written ∙ ap (λ x. and_then_bytes before.taken (outcome_text x)) is)
 
     abbrev Runs : Agent → Bool → List Script → Outcome → Type 0
     Runs agent inline listed = RunOf agent listed inline before.devices after.devices
@@ -240,16 +241,16 @@ module _ (status : ℕ) (before after : Outside) where
     demo-follows size shows =
         let text = demo_text size shows.report.entries shows.answer in
         inl (
-          shown ∙ ap status_of shows.is,
+          shown ∙ ap outcome_status shows.is,
           record {
             text = text;
             runs = subst (Demonstrates size before.devices after.devices) shows.is shows;
-            written = written ∙ ap (λ x. and_then_bytes before.taken (text_of x)) shows.is;
+            written = written ∙ ap (λ x. and_then_bytes before.taken (outcome_text x)) shows.is;
           },
         )
 
-    follows : (spelled : Option Command) → IsCaused spelled before after outcome → FollowsItsCause status before after spelled
-    follows None is = inl (shown ∙ ap status_of is)
+    follows : (spelled : Option CommandLine) → IsCaused spelled before after outcome → FollowsItsCause status before after spelled
+    follows None is = inl (shown ∙ ap outcome_status is)
     follows (Some (run name named inline)) comes =
         file-follows before after AgentFile name IsFirstRefusal SpellsAgent agents-exclude agents-one outcome status shown
         (λ a. OfScripts before.held before.file_faults after.file_faults a named (Runs a inline))
@@ -290,7 +291,7 @@ module _ (status : ℕ) (before after : Outside) where
         (λ told. CondFollows status before after u.theory u.agent condition (λ cond. TruthFollows status before after u.agent told cond)) stop
         (λ told. record { refused = λ code at r. inr stop; spelled = λ cond s. inr stop })
 
-    stopped : (spelled : Option Command) → FollowsItsCause status before after spelled
+    stopped : (spelled : Option CommandLine) → FollowsItsCause status before after spelled
     stopped None = inr stop
     stopped (Some (run name named inline)) =
         file-stopped status before after name IsFirstRefusal SpellsAgent
@@ -326,7 +327,7 @@ run_status Full = is_other (omega arith) (omega arith)
 run_status Deep = is_other (omega arith) (omega arith)
 run_status Memory = is_out refl
 
-module _ (status : ℕ) (spelled : Option Command) (before after : Outside) where
+module _ (status : ℕ) (spelled : Option CommandLine) (before after : Outside) where
   failed_says : status ≡ 5 → Rose before.sink_faults after.sink_faults → SaysItsCause status spelled before after
   failed_says is rose = record {
     words_refused = λ two. absurd (omega (arith, is, two));
@@ -438,7 +439,7 @@ module _ (before after : Outside) where
   not-scripts agent None inline comes = comes
   not-scripts agent (Some file) inline comes = not-words comes (λ listed none. none)
 
-  refused-words : (spelled : Option Command) → IsCaused spelled before after WordsRefused → spelled ≡ None
+  refused-words : (spelled : Option CommandLine) → IsCaused spelled before after WordsRefused → spelled ≡ None
   refused-words None cause = refl
   refused-words (Some (run name named inline)) cause = absurd (not-words cause (λ agent comes. not-scripts agent named inline comes))
   refused-words (Some (check name)) cause = absurd (not-words cause (λ agent is. cc))
@@ -448,11 +449,11 @@ module _ (before after : Outside) where
       absurd (not-words cause (λ u comes. not-words comes (λ told also. not-words also (λ cond is. cc))))
   refused-words (Some (demo size)) cause = let is = cause.is in absurd (cc)
 
-  some-command : (spelled : Option Command) (outcome : Outcome) → (outcome ≡ WordsRefused → ⊥) → IsCaused spelled before after outcome → IsSome spelled
+  some-command : (spelled : Option CommandLine) (outcome : Outcome) → (outcome ≡ WordsRefused → ⊥) → IsCaused spelled before after outcome → IsSome spelled
   some-command None outcome never cause = absurd (never cause)
   some-command (Some command) outcome never cause = refl
 
-module _ (status : ℕ) (spelled : Option Command) (before after : Outside) where
+module _ (status : ℕ) (spelled : Option CommandLine) (before after : Outside) where
   run-says : (text : Text) (answer : Answer) → Shows status spelled before after (Ran text answer) → RunStatus answer → SaysItsCause status spelled before after
   run-says text answer shows (is_done zero) = served_says status spelled before after (Ran text answer) (shows.shown ∙ zero) shows
   run-says text answer shows (is_out is) =
@@ -474,8 +475,8 @@ module _ (status : ℕ) (spelled : Option Command) (before after : Outside) wher
 
 -- ---- both
 
-of-report : SpelledCondIsUnrefused → OneCondIsSpelled → (status : ℕ) (spelled : Option Command) (before after : Outside) (outcome : Outcome) → IsCaused spelled before after outcome
-    → Reports status (text_of outcome) (status_of outcome) before.taken after.taken before.sink_faults after.sink_faults
+of-report : SpelledCondIsUnrefused → OneCondIsSpelled → (status : ℕ) (spelled : Option CommandLine) (before after : Outside) (outcome : Outcome) → IsCaused spelled before after outcome
+    → Reports status (outcome_text outcome) (outcome_status outcome) before.taken after.taken before.sink_faults after.sink_faults
     → SaysItsCause status spelled before after × FollowsItsCause status before after spelled
 of-report unrefused one status spelled before after outcome cause (inl (shown, written)) = (
   says status spelled before after outcome (record { cause = cause; shown = shown; written = written }),

@@ -15,7 +15,7 @@ use Rattle.golog_semantics.specs.declared.journal.Answer.{Answer}
 use Rattle.golog_semantics.specs.declared.journal.PlacedRun.{PlacedRun}
 use Rattle.golog_semantics.specs.Journal.{Journal}
 use Rattle.golog_semantics.specs.Progress.{values_after, left_after}
-use Rattle.golog_semantics.specs.Online.{begun}
+use Rattle.golog_semantics.specs.Online.{run_begun}
 use Rattle.golog_semantics.specs.Inline.{inline_journal}
 use Rattle.golog_semantics.specs.InlineText.{begun_runs, placed, report_of, run_after, scripted}
 use Rattle.golog_semantics.specs.Dealt.{Script}
@@ -60,7 +60,7 @@ module _ (agent : Agent) where
   none-later before (e ∷ ys) k h =
       find-append (λ (r : PlacedRun). r.place == k) (run_after agent before e) (runs_from (before ++ e ∷ []) ys)
       ∙ ap (λ o. option_or o (find (λ (r : PlacedRun). r.place == k) (runs_from (before ++ e ∷ []) ys)))
-      (none-there (length before) k (begun agent before (values_after agent before) (left_after agent before) e) h)
+      (none-there (length before) k (run_begun agent before (values_after agent before) (left_after agent before) e) h)
       ∙ none-later (before ++ e ∷ []) ys k (let l = length-append before (e ∷ []) in omega (arith, h, l))
 
   run-same : (xs ys : Journal) (k : ℕ) → k < length xs → run_at (begun_runs agent (xs ++ ys)) k ≡ run_at (begun_runs agent xs) k

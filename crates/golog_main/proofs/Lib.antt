@@ -1,3 +1,4 @@
+mod Causes
 pub mod InputLemmas
 pub mod OutcomeLemmas
 mod OneVerdict

@@ -16,8 +16,9 @@ use Rattle.golog_main.specs.declared.outcome.Outcome.TheVariants.{Judged}
 use Rattle.golog_main.specs.declared.ready.Told.{Told}
 use Rattle.golog_main.specs.Exact.{Writes}
 use Rattle.golog_main.specs.Inputs.{Reads, ReadsAgent, SpellsJournal}
-use Rattle.golog_main.specs.Outcome.{unread, refused, holds, IsCaused, Judges, OfJournal, Outside, Reports, status_of, text_of, verdict_line}
+use Rattle.golog_main.specs.Outcome.{unread, refused, holds, Judges, OfJournal, Outside, Reports, outcome_status, outcome_text, verdict_line}
 use Rattle.golog_main.specs.Replayed.{OnlineReplaysRun, ReplaysRun}
+use Rattle.golog_main.proofs.Causes.{IsCaused}
 
 -- neither a refusal nor a fault has the status 0
 nonzero : {P : Type 0} (n : ℕ) → 0 ≡ n → (n ≡ 0 → ⊥) → P
@@ -32,7 +33,7 @@ module _ (law : OnlineIsAnOnlineRun) (name journal : Text) (before after : Outsi
     said : (journal_of agent told.bytes).outcome ≡ Ok told.report
     said = subst (λ b. (journal_of agent b).outcome ≡ Ok told.report) (sym same) spells.so.said
 
-    of-verdict : (v : Verdict) (outcome : Outcome) → 0 ≡ status_of outcome → Writes before after (text_of outcome) → VerdictIs agent told.bytes told.report v
+    of-verdict : (v : Verdict) (outcome : Outcome) → 0 ≡ outcome_status outcome → Writes before after (outcome_text outcome) → VerdictIs agent told.bytes told.report v
         → outcome ≡ Judged v (verdict_line v) → ReplaysRun before after name journal
     of-verdict (Online answer) outcome shown written so is = record {
       agent = agent;
@@ -43,24 +44,24 @@ module _ (law : OnlineIsAnOnlineRun) (name journal : Text) (before after : Outsi
         has = spells.has;
         so = subst (λ b. IsOnlineRun agent b (answer_status answer)) same ((law agent formed told.bytes told.report said answer).run so);
       };
-      written = written ∙ ap (λ x. and_then_bytes before.taken (text_of x)) is;
+      written = written ∙ ap (λ x. and_then_bytes before.taken (outcome_text x)) is;
     }
-    of-verdict (Not place why) outcome shown written so is = nonzero 17 (shown ∙ ap status_of is) (λ e. cc)
+    of-verdict (Not place why) outcome shown written so is = nonzero 17 (shown ∙ ap outcome_status is) (λ e. cc)
 
-  module _ (outcome : Outcome) (shown : 0 ≡ status_of outcome) (written : Writes before after (text_of outcome)) where
+  module _ (outcome : Outcome) (shown : 0 ≡ outcome_status outcome) (written : Writes before after (outcome_text outcome)) where
     of-journal : (agent : Agent) → ReadsAgent before.held name agent → OfJournal before.held before.file_faults after.file_faults agent journal (Judges agent) outcome
         → ReplaysRun before after name journal
-    of-journal agent reads (unread is u) = nonzero 4 (shown ∙ ap status_of is) (λ e. cc)
-    of-journal agent reads (refused text is r) = nonzero 3 (shown ∙ ap status_of is) (λ e. cc)
+    of-journal agent reads (unread is u) = nonzero 4 (shown ∙ ap outcome_status is) (λ e. cc)
+    of-journal agent reads (refused text is r) = nonzero 3 (shown ∙ ap outcome_status is) (λ e. cc)
     of-journal agent reads (holds told spells judges) = of-verdict agent reads judges.formed told spells judges.verdict outcome shown written judges.so judges.is
 
     of-agent : IsCaused (Some (replay name journal)) before after outcome → ReplaysRun before after name journal
-    of-agent (unread is u) = nonzero 4 (shown ∙ ap status_of is) (λ e. cc)
-    of-agent (refused text is r) = nonzero 3 (shown ∙ ap status_of is) (λ e. cc)
+    of-agent (unread is u) = nonzero 4 (shown ∙ ap outcome_status is) (λ e. cc)
+    of-agent (refused text is r) = nonzero 3 (shown ∙ ap outcome_status is) (λ e. cc)
     of-agent (holds agent reads comes) = of-journal agent reads comes
 
   of-report : (outcome : Outcome) → IsCaused (Some (replay name journal)) before after outcome
-      → Reports 0 (text_of outcome) (status_of outcome) before.taken after.taken before.sink_faults after.sink_faults → ReplaysRun before after name journal
+      → Reports 0 (outcome_text outcome) (outcome_status outcome) before.taken after.taken before.sink_faults after.sink_faults → ReplaysRun before after name journal
   of-report outcome cause (inl (shown, written)) = of-agent outcome shown written cause
   of-report outcome cause (inr (five, prefix, rose)) = nonzero 5 five (λ e. cc)
 

@@ -17,7 +17,7 @@ use Rattle.golog_semantics.specs.Blocks.{moves}
 use Rattle.golog_semantics.specs.Ways.{is_empty}
 use Rattle.golog_semantics.specs.Journal.{Journal}
 use Rattle.golog_semantics.specs.Progress.{values_after, left_after}
-use Rattle.golog_semantics.specs.Online.{begun, label_of, run_of}
+use Rattle.golog_semantics.specs.Online.{run_begun, label_of, run_of}
 use Rattle.golog_semantics.specs.InlineText.{placed, run_after}
 use Rattle.golog_semantics.specs.Reports.{fits_label, fits_run, grow_from}
 use Rattle.golog_semantics.specs.WellFormed.{WellFormed}
@@ -38,7 +38,7 @@ one-grows n place (Some labels) runs h grows =
 module _ (agent : Agent) where
   -- the run that begins with an entry behind these
   abbrev begun_at : Journal → Entry → Option (List Label)
-  begun_at before e = begun agent before (values_after agent before) (left_after agent before) e
+  begun_at before e = run_begun agent before (values_after agent before) (left_after agent before) e
 
   -- ---- in order
 

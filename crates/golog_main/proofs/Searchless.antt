@@ -32,7 +32,7 @@ use Rattle.golog_semantics.proofs.NoBlocks.{blockless_steps, blockless, not_so}
 use Rattle.golog_semantics.proofs.StepsInModes.{plain_steps-ordered}
 use Rattle.golog_semantics.proofs.StepsKeep.{InParts}
 use Rattle.golog_semantics.proofs.Tests.{and_cases}
-use Rattle.golog_search.proofs.Blockless.{P, blockless_parts}
+use Rattle.golog_ways.proofs.Blockless.{P, blockless_parts}
 use Rattle.golog_search.proofs.LeftBlockless.{left_blockless}
 use Rattle.golog_main.specs.Searchless.{FuelIsHeavy}
 

@@ -9,7 +9,7 @@ use Rattle.golog_script.specs.declared.scripts.Script.{Script}
 use Rattle.golog_file.specs.Spelled.{SpellsAgent}
 use Rattle.golog_words.specs.Commands.{run}
 use Rattle.golog_main.specs.Inputs.{SpellsScripts}
-use Rattle.golog_main.specs.Outcome.{Outside, Ends}
+use Rattle.golog_main.specs.Outcome.{Outside, CallEnds}
 use Rattle.golog_main.specs.Exact.{IsRead}
 
 -- what was written is the beginning of the text of an online execution, each entry of which is so in each world
@@ -37,4 +37,4 @@ abbrev pub CutShortBeginsOnline : Type 0
 CutShortBeginsOnline =
     (name : Text) (devices : Option Text) (inline : Bool) (before after : Outside) (agent : Agent)
     (listed : List Script) → GivesAgent name before after agent → GivesScripts devices before after agent listed
-    → Ends 5 (Some (run name devices inline)) before after → AddsBeginning agent before.taken after.taken
+    → CallEnds 5 (Some (run name devices inline)) before after → AddsBeginning agent before.taken after.taken

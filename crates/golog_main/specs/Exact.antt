@@ -21,7 +21,7 @@ use Rattle.golog_check_text.specs.Counts.{check_text}
 use Rattle.golog_replay.specs.Verdicts.{VerdictIs}
 use Rattle.golog_replay.specs.declared.verdict.Verdict.{Verdict}
 use Rattle.golog_replay.specs.declared.verdict.Verdict.TheVariants.{Not}
-use Rattle.golog_words.specs.Commands.{Command, run, check, replay, ask, demo}
+use Rattle.golog_words.specs.Commands.{CommandLine, run, check, replay, ask, demo}
 use Rattle.golog_main.specs.declared.outcome.Input.{Input}
 use Rattle.golog_main.specs.declared.outcome.Outcome.{Outcome}
 use Rattle.golog_main.specs.declared.outcome.Outcome.TheVariants.{ReadFault, Refused, Ran, Judged, Demonstrated}
@@ -29,7 +29,7 @@ use Rattle.golog_main.specs.declared.ready.Told.{Told}
 use Rattle.golog_main.specs.Inputs.{SpellsScripts, RefusesScripts, SpellsJournal, RefusesJournal, SpellsBoth, scripts_for}
 use Rattle.golog_main.specs.Demos.{Demonstrates}
 use Rattle.golog_main.specs.Runs.{IsRunOf}
-use Rattle.golog_main.specs.Outcome.{Outside, Ends, IsCaused, status_of, text_of, truth_line, verdict_line, verdict_status}
+use Rattle.golog_main.specs.Outcome.{Outside, Comes, CallEnds, outcome_status, outcome_text, truth_line, verdict_line, verdict_status}
 
 -- the text was written whole
 abbrev pub Writes : Outside → Outside → Text → Type 0
@@ -44,13 +44,13 @@ pub record Wrote (before after : Outside) (Runs : Text → Type 0) : Type 0 wher
 -- ---- a status only where its cause is
 
 -- the outcome has its cause and this status, and its text was written whole
-pub record Shows (status : ℕ) (spelled : Option Command) (before after : Outside) (outcome : Outcome) : Type 0 where
-  pub cause : IsCaused spelled before after outcome
-  pub shown : status ≡ status_of outcome
-  pub written : Writes before after (text_of outcome)
+pub record Shows (status : ℕ) (spelled : Option CommandLine) (before after : Outside) (outcome : Outcome) : Type 0 where
+  pub cause : Comes before.held before.file_faults after.file_faults before.devices after.devices spelled outcome
+  pub shown : status ≡ outcome_status outcome
+  pub written : Writes before after (outcome_text outcome)
 
 -- the words are those of a run, and this is so of it
-abbrev pub IfRun : Option Command → (Text → Option Text → Bool → Type 0) → Type 0
+abbrev pub IfRun : Option CommandLine → (Text → Option Text → Bool → Type 0) → Type 0
 IfRun None P = ⊥
 IfRun (Some (run agent devices inline)) P = P agent devices inline
 IfRun (Some command) P = ⊤
@@ -60,7 +60,7 @@ abbrev pub IsRunStatus : ℕ → Type 0
 IsRunStatus status = (status ≡ 0) ⊎ ((10 ≤ status) × (status ≤ 16))
 
 -- what each status says: which outcome it is of, and so its cause
-pub record SaysItsCause (status : ℕ) (spelled : Option Command) (before after : Outside) : Type 0 where
+pub record SaysItsCause (status : ℕ) (spelled : Option CommandLine) (before after : Outside) : Type 0 where
   pub words_refused : status ≡ 2 → spelled ≡ None
   pub refused : status ≡ 3 → (input : Input) × (text : Text) × Shows status spelled before after (Refused input text)
   pub read_fault : status ≡ 4 → (input : Input) × Shows status spelled before after (ReadFault input)
@@ -152,7 +152,7 @@ module _ (status : ℕ) (before after : Outside) where
       before after
 
   -- what words come to that are no command, and what each input of a command does
-  abbrev pub FollowsItsCause : Option Command → Type 0
+  abbrev pub FollowsItsCause : Option CommandLine → Type 0
   FollowsItsCause None = Answers status 2 before after
   FollowsItsCause (Some (run agent devices inline)) =
       AgentFollows agent (λ a. ScriptsFollow a devices (λ listed. RunFollows a listed inline))
@@ -166,5 +166,5 @@ module _ (status : ℕ) (before after : Outside) where
 
 abbrev pub StatusesAreExact : Type 0
 StatusesAreExact =
-    (status : ℕ) (spelled : Option Command) (before after : Outside) → Ends status spelled before after
+    (status : ℕ) (spelled : Option CommandLine) (before after : Outside) → CallEnds status spelled before after
     → SaysItsCause status spelled before after × FollowsItsCause status before after spelled

@@ -3,9 +3,9 @@ use Rattle.std.specs.Prelude.{ℕ, Option}
 use Rattle.golog_tree.specs.declared.agent.Agent.{Agent}
 use Rattle.golog_semantics.specs.declared.journal.Report.{Report}
 use Rattle.golog_semantics.specs.Certain.{JournalIsSo}
-use Rattle.golog_semantics.specs.Reports.{Spells}
+use Rattle.golog_semantics.specs.Reports.{SpellsReport}
 use Rattle.golog_semantics.specs.Text.{Text}
-use Rattle.golog_words.specs.Commands.{Command}
+use Rattle.golog_words.specs.Commands.{CommandLine}
 use Rattle.golog_main.specs.Exact.{IfRun, IsRunStatus, Writes}
 use Rattle.golog_main.specs.Inputs.{ReadsAgent}
 use Rattle.golog_main.specs.Outcome.{Outside}
@@ -17,11 +17,11 @@ pub record PrintsWhatIsSo (before after : Outside) (name : Text) : Type 0 where
   pub reads : ReadsAgent before.held name agent
   pub text : Text
   pub report : Report
-  pub spelled : Spells agent text report
+  pub spelled : SpellsReport agent text report
   pub written : Writes before after text
   pub so : JournalIsSo agent report.entries
 
 -- where the status is that of a run, the words are a command, and of a run the journal that was written is so
-abbrev pub RunsAreSo : ℕ → Option Command → Outside → Outside → Type 0
+abbrev pub RunsAreSo : ℕ → Option CommandLine → Outside → Outside → Type 0
 RunsAreSo status spelled before after =
     IsRunStatus status → IfRun spelled (λ agent devices inline. PrintsWhatIsSo before after agent)

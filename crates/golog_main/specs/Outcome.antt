@@ -25,7 +25,7 @@ use Rattle.golog_check_text.specs.Counts.{check_text}
 use Rattle.golog_replay.specs.Verdicts.{VerdictIs}
 use Rattle.golog_replay.specs.declared.verdict.Verdict.{Verdict}
 use Rattle.golog_replay.specs.declared.verdict.Verdict.TheVariants.{Online, Not}
-use Rattle.golog_words.specs.Commands.{Command, run, check, replay, ask, demo}
+use Rattle.golog_words.specs.Commands.{CommandLine, run, check, replay, ask, demo}
 use Rattle.golog_main.specs.declared.outcome.Input.{Input}
 use Rattle.golog_main.specs.declared.outcome.Input.TheVariants.{Agent as AgentFile, Devices as DevicesFile, Journal as JournalFile, Condition}
 use Rattle.golog_main.specs.declared.outcome.Outcome.{Outcome}
@@ -56,25 +56,25 @@ abbrev pub verdict_status : Verdict → ℕ
 verdict_status (Online answer) = 0
 verdict_status (Not place why) = 17
 
-abbrev pub text_of : Outcome → Text
-text_of WordsRefused = line (codes "words refused")
-text_of (ReadFault input) = fault_text input
-text_of (Refused input text) = text
-text_of (Ran text answer) = text
-text_of (Checked text) = text
-text_of (Judged verdict text) = text
-text_of (Asked truth) = truth_line truth
-text_of (Demonstrated text) = text
+abbrev pub outcome_text : Outcome → Text
+outcome_text WordsRefused = line (codes "words refused")
+outcome_text (ReadFault input) = fault_text input
+outcome_text (Refused input text) = text
+outcome_text (Ran text answer) = text
+outcome_text (Checked text) = text
+outcome_text (Judged verdict text) = text
+outcome_text (Asked truth) = truth_line truth
+outcome_text (Demonstrated text) = text
 
-abbrev pub status_of : Outcome → ℕ
-status_of WordsRefused = 2
-status_of (ReadFault input) = 4
-status_of (Refused input text) = 3
-status_of (Ran text answer) = answer_status answer
-status_of (Checked text) = 0
-status_of (Judged verdict text) = verdict_status verdict
-status_of (Asked truth) = 0
-status_of (Demonstrated text) = 0
+abbrev pub outcome_status : Outcome → ℕ
+outcome_status WordsRefused = 2
+outcome_status (ReadFault input) = 4
+outcome_status (Refused input text) = 3
+outcome_status (Ran text answer) = answer_status answer
+outcome_status (Checked text) = 0
+outcome_status (Judged verdict text) = verdict_status verdict
+outcome_status (Asked truth) = 0
+outcome_status (Demonstrated text) = 0
 
 -- ---- the causes
 
@@ -139,7 +139,7 @@ OfCondition theory agent bytes =
 -- The cause of each outcome of a command, its inputs in the order in which they are read. The standings are those of
 -- the devices before and after the call.
 module _ (held : Option (List HeldFile)) (faults_before faults_after : ℕ) (olds news : List Standing) where
-  abbrev pub Comes : Option Command → Outcome → Type 0
+  abbrev pub Comes : Option CommandLine → Outcome → Type 0
   Comes None = λ outcome. outcome ≡ WordsRefused
   Comes (Some (run agent devices inline)) =
       OfAgent held faults_before faults_after agent (λ a.
@@ -176,11 +176,6 @@ outside held file_faults taken sink_faults devices = record {
   devices = devices;
 }
 
--- the outcome has its cause
-abbrev pub IsCaused : Option Command → Outside → Outside → Outcome → Type 0
-IsCaused spelled before after =
-    Comes before.held before.file_faults after.file_faults before.devices after.devices spelled
-
 -- whether the devices had a part in an outcome
 abbrev pub uses_devices : Outcome → Bool
 uses_devices (Ran text answer) = true
@@ -198,27 +193,27 @@ Reports answered text status old new faults_before faults_after =
     ⊎ ((answered ≡ 5) × AddsPrefix old new text × Rose faults_before faults_after)
 
 -- the outcome has its cause, and was reported
-pub record Reported (status : ℕ) (spelled : Option Command) (before after : Outside) : Type 0 where
+pub record IsReported (status : ℕ) (spelled : Option CommandLine) (before after : Outside) : Type 0 where
   pub outcome : Outcome
-  pub cause : IsCaused spelled before after outcome
+  pub cause : Comes before.held before.file_faults after.file_faults before.devices after.devices spelled outcome
   pub untouched : IsUntouched before.devices after.devices outcome
-  pub report : Reports status (text_of outcome) (status_of outcome)
+  pub report : Reports status (outcome_text outcome) (outcome_status outcome)
       before.taken after.taken before.sink_faults after.sink_faults
 
 -- memory ran out while a command was done, and nothing was written
-pub record Starved (status : ℕ) (spelled : Option Command) (before after : Outside) : Type 0 where
+pub record LacksMemory (status : ℕ) (spelled : Option CommandLine) (before after : Outside) : Type 0 where
   pub answered : status ≡ 6
   pub command : IsSome spelled
   pub nothing : after.taken ≡ before.taken
 
 -- how a call ends whose words spell this command, or none: with an outcome that has its cause, or for want of memory
-abbrev pub Ends : ℕ → Option Command → Outside → Outside → Type 0
-Ends status spelled before after = Reported status spelled before after ⊎ Starved status spelled before after
+abbrev pub CallEnds : ℕ → Option CommandLine → Outside → Outside → Type 0
+CallEnds status spelled before after = IsReported status spelled before after ⊎ LacksMemory status spelled before after
 
 -- ---- what the parts of a call come to
 
 -- whether the command is a run over threads
-abbrev pub is_threaded : Command → Bool
+abbrev pub is_threaded : CommandLine → Bool
 is_threaded (run agent devices inline) = not inline
 is_threaded command = false
 

@@ -8,7 +8,7 @@ use Rattle.golog_replay.specs.declared.verdict.Verdict.TheVariants.{Online}
 use Rattle.golog_words.specs.Commands.{replay}
 use Rattle.golog_main.specs.Exact.{Writes}
 use Rattle.golog_main.specs.Inputs.{Reads, ReadsAgent}
-use Rattle.golog_main.specs.Outcome.{Ends, Outside, verdict_line}
+use Rattle.golog_main.specs.Outcome.{CallEnds, Outside, verdict_line}
 
 -- the agent file spells an agent, the journal file has the text of an online execution of it, and what was written
 -- tells how that ends
@@ -22,5 +22,5 @@ pub record ReplaysRun (before after : Outside) (name journal : Text) : Type 0 wh
 -- so it is of each replay that ends with 0
 abbrev pub OnlineReplaysRun : Type 0
 OnlineReplaysRun =
-    (name journal : Text) (before after : Outside) → Ends 0 (Some (replay name journal)) before after
+    (name journal : Text) (before after : Outside) → CallEnds 0 (Some (replay name journal)) before after
     → ReplaysRun before after name journal

@@ -2,7 +2,7 @@
 ghost use Rattle.std.specs.Prelude.{◌≡◌};
 ghost use Rattle.golog_semantics.specs.Execution.{status_of as answer_status};
 ghost use Rattle.golog_main.specs.Inputs.{input_name, input_limit, fault_text};
-ghost use Rattle.golog_main.specs.Outcome.{status_of, text_of, truth_line, verdict_status};
+ghost use Rattle.golog_main.specs.Outcome.{outcome_status, outcome_text, truth_line, verdict_status};
 
 use golog_base::Bytes;
 use golog_replay::Verdict;
@@ -82,7 +82,7 @@ pub enum Outcome {
 impl Outcome {
     /// What is written.
     pub fn text(&self) -> &[u8]
-        ensures { result.now ≡ text_of self.now }
+        ensures { result.now ≡ outcome_text self.now }
     {
         match self {
             Outcome::WordsRefused => b"words refused\n",
@@ -97,7 +97,7 @@ impl Outcome {
     /// The exit status: 2, 3 or 4 for a refusal, that of the answer for a run, 17 for a journal that is not online,
     /// and else 0.
     pub fn status(&self) -> u8
-        ensures { result ≡ status_of self.now }
+        ensures { result ≡ outcome_status self.now }
     {
         match self {
             Outcome::WordsRefused => 2,

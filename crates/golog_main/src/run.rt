@@ -179,7 +179,10 @@ fn report_in_rounds<D: Device>(
     let runner = Runner::new(alloc, agent)?;
     match begun(alloc, agent, texts, devices) {
         Ok(journal) => Ok(in_rounds(agent, runner, journal, devices)),
-        Err(fault) => Err(fault),
+        Err(fault) => {
+            drop(runner);
+            Err(fault)
+        }
     }
 }
 
@@ -202,7 +205,10 @@ fn report_on_threads<R: Threads + Wait + Sync, D: Device + Send>(
     let runner = Runner::new(alloc, agent)?;
     match begun(alloc, agent, texts, devices) {
         Ok(journal) => on_threads(rt, alloc, agent, runner, journal, devices),
-        Err(fault) => Err(fault),
+        Err(fault) => {
+            drop(runner);
+            Err(fault)
+        }
     }
 }
 
@@ -270,7 +276,10 @@ fn served_on_threads<R: Threads + Wait + Sync, D: Device + Send>(
 {
     match run_threads(rt, alloc, &mut runner, devices, agent, journal) {
         Ok(()) => Ok(runner.report()),
-        Err(fault) => Err(fault),
+        Err(fault) => {
+            drop(runner);
+            Err(fault)
+        }
     }
 }
 

@@ -4,7 +4,7 @@ ghost use Rattle.golog_device.specs.Slots.{standings, FreshBelow};
 ghost use Rattle.golog_words.specs.Answers.{command_of};
 ghost use Rattle.golog_words.specs.Commands.{command_in};
 ghost use Rattle.golog_main.specs.InWorlds.{RunsAreSo};
-ghost use Rattle.golog_main.specs.Outcome.{Comes, Ends, IsUntouched, Reports, is_threaded, outside, text_of, status_of};
+ghost use Rattle.golog_main.specs.Outcome.{Comes, CallEnds, IsUntouched, Reports, is_threaded, outside, outcome_text, outcome_status};
 
 use crate::commands::{over_threads, served};
 use crate::outcome::Outcome;
@@ -76,7 +76,7 @@ pub fn golog<R: Threads + Wait + Sync, F: Files, K: Sink, D: Device + Send>(
 ) -> u8
     requires boxes { 16 ≤ length devices.old }
     requires fresh { FreshBelow 16 (standings D.fresh D.meaning devices.old) }
-    ensures ends { Ends result (command_in (map string_bytes words.now))
+    ensures ends { CallEnds result (command_in (map string_bytes words.now))
         (outside (F.held files.old) (F.faults files.old) (K.taken out.old) (K.faults out.old)
         (standings D.fresh D.meaning devices.old))
         (outside (F.held files.new) (F.faults files.new) (K.taken out.new) (K.faults out.new)
@@ -104,7 +104,7 @@ pub fn serve_inline<F: Files, K: Sink, D: Device>(
     requires way { is_threaded (command_of order) ≡ false }
     requires boxes { 16 ≤ length devices.old }
     requires fresh { FreshBelow 16 (standings D.fresh D.meaning devices.old) }
-    ensures ends { Ends result (Some (command_of order.entry))
+    ensures ends { CallEnds result (Some (command_of order.entry))
         (outside (F.held files.old) (F.faults files.old) (K.taken out.old) (K.faults out.old)
         (standings D.fresh D.meaning devices.old))
         (outside (F.held files.new) (F.faults files.new) (K.taken out.new) (K.faults out.new)
@@ -179,7 +179,7 @@ fn done<R: Threads + Wait + Sync, F: Files, D: Device + Send>(
 
 // Writes what an outcome says and answers its status, or that of a fault.
 fn report<K: Sink>(out: &mut K, outcome: Outcome) -> u8
-    ensures { Reports result (text_of outcome) (status_of outcome)
+    ensures { Reports result (outcome_text outcome) (outcome_status outcome)
         (K.taken out.old) (K.taken out.new) (K.faults out.old) (K.faults out.new) }
 {
     match write_all(out, outcome.text()) {
