@@ -4,7 +4,7 @@ use std::alloc::Global;
 use std::test::Fail;
 
 /// A lift of four floors, and the panel with its buttons.
-const LIFT: &str = "
+pub const LIFT: &str = "
   (sort level 1 4)
   (device panel) (device lift)
   (fluent floor () level 1)

@@ -9,6 +9,40 @@ const ONE: &[u8] = b"(agent (fluent p () bool false) (action a ()) (causes (a) (
 const LIFT: &[u8] = b"(agent (sort level 1 4) (device panel) (device lift)
     (exo push (level) panel) (main nil))";
 
+/// A button that is pushed is served.
+const BUTTON_FILES: [(&str, &[u8]); 2] = [
+    (
+        "x.agent",
+        b"(agent (sort level 1 4) (device panel) (device lift)
+            (fluent on (level) bool false) (action off (level) lift) (exo push (level) panel)
+            (causes (off f) (on f) false) (causes (push f) (on f) true)
+            (main (interrupts (interrupt (on 1) (act off 1)))))",
+    ),
+    (
+        "x.devices",
+        br#"[{"name":"panel","idle":["push(1)"]},{"name":"lift","idle":["rest"]}]"#,
+    ),
+];
+
+/// The journal of its run.
+const BUTTON_JOURNAL: &str =
+    "0 exo panel push(1)\n1 rest lift 0\n2 do start_interrupts\n3 close panel ended 0\n\
+    4 do off(1) @lift\n5 do stop_interrupts\n6 close lift ended 1\n7 end done\n";
+
+/// A search for a way up.
+const FLOORS_FILES: [(&str, &[u8]); 2] = [
+    (
+        "x.agent",
+        b"(agent (sort level 1 4) (fluent floor () level 1) (action up ())
+            (poss (up) (< (floor) 4)) (causes (up) (floor) (+ (floor) 1))
+            (main (search 8 1000 (seq (star (act up)) (test (= (floor) 2))))))",
+    ),
+    ("x.devices", b"[]"),
+];
+
+/// The journal of its run.
+const FLOORS_JOURNAL: &str = "0 do up run up; -\n1 test\n2 end done\n";
+
 #[test]
 fn a_file_that_is_not_there_is_a_read_fault(rt: HostRuntime) -> Result<(), Fail> {
     let files = files_of(rt.alloc(), &[("x.agent", ONE)], &[])?;
@@ -25,15 +59,27 @@ fn a_read_that_fails_in_mid_stream_is_a_read_fault(rt: HostRuntime) -> Result<()
     Ok(())
 }
 
-// The agent file is selected, read to its end and found to end; then the devices file is selected.
+// Each file is selected, read to its end and found to end; the agent file is the first. Behind the last of these
+// calls none is made.
 #[test]
-fn a_read_of_either_file_may_fail(rt: HostRuntime) -> Result<(), Fail> {
-    for (number, said) in [(0, "read fault agent\n"), (3, "read fault devices\n")] {
-        let both: [(&str, &[u8]); 2] = [("x.agent", LIFT), ("x.devices", b"[]")];
-        let files = files_of(rt.alloc(), &both, &[number])?;
+fn each_read_may_fail(rt: HostRuntime) -> Result<(), Fail> {
+    let (agent, devices) = ("read fault agent\n", "read fault devices\n");
+    let reads = [
+        (0, agent),
+        (1, agent),
+        (2, agent),
+        (3, devices),
+        (4, devices),
+        (5, devices),
+    ];
+    for (number, said) in reads {
+        let files = files_of(rt.alloc(), &BUTTON_FILES, &[number])?;
         let call = called(rt.alloc(), &RUN_BOTH, files)?;
         assert_eq!(rt; call.said(), (4, said));
     }
+    let files = files_of(rt.alloc(), &BUTTON_FILES, &[6])?;
+    let call = called(rt.alloc(), &RUN_BOTH, files)?;
+    assert_eq!(rt; call.said(), (0, BUTTON_JOURNAL));
     Ok(())
 }
 
@@ -87,5 +133,50 @@ fn a_write_that_fails_in_mid_stream_leaves_a_prefix(rt: HostRuntime) -> Result<(
 fn a_write_that_fails_leaves_the_first_lines(rt: HostRuntime) -> Result<(), Fail> {
     let call = ran_into(rt.alloc(), LIFT, 26, &[])?;
     assert_eq!(rt; call.said(), (5, "0 close panel ended 0\n1 cl"));
+    Ok(())
+}
+
+/// Runs these files over a sink with room for so many bytes. The calls of these numbers fail.
+fn written_into(
+    alloc: Global,
+    both: &[(&str, &[u8])],
+    room: u32,
+    fails: &[u32],
+) -> Result<Call, NoMemory> {
+    let out = MemSink::new(alloc, room, List::copy_of(alloc, fails)?)?;
+    called_over(alloc, &RUN_BOTH, files_of(alloc, both, &[])?, out)
+}
+
+/// Whether the call wrote the journal, or tells of a write that failed and wrote some of its first bytes.
+fn is_so_or_told(call: &Call, journal: &str) -> bool {
+    let (status, text) = call.said();
+    if status == 0 {
+        text == journal
+    } else {
+        status == 5 && journal.starts_with(text)
+    }
+}
+
+// Each call of the sink fails in turn, and it has room for each number of bytes.
+#[test]
+fn each_write_may_fail(rt: HostRuntime) -> Result<(), Fail> {
+    let runs = [
+        (FLOORS_FILES, FLOORS_JOURNAL),
+        (BUTTON_FILES, BUTTON_JOURNAL),
+    ];
+    for (both, journal) in runs {
+        for number in 0..10u32 {
+            let call = written_into(rt.alloc(), &both, 1000, &[number])?;
+            assert!(rt; is_so_or_told(&call, journal), "{number}");
+            assert!(rt; number > 0 || call.status == 5);
+        }
+        for room in 0..200u32 {
+            let call = written_into(rt.alloc(), &both, room, &[])?;
+            assert!(rt; is_so_or_told(&call, journal), "{room}");
+            let written = journal.len().min(room as usize);
+            assert_eq!(rt; call.out.bytes().len(), written);
+            assert_eq!(rt; call.status == 0, written == journal.len(), "{room}");
+        }
+    }
     Ok(())
 }

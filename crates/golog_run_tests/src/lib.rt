@@ -2,6 +2,8 @@
 #![tactic(auto)]
 
 #[cfg(test)]
+mod bad_devices;
+#[cfg(test)]
 mod calls;
 #[cfg(test)]
 mod commands;
@@ -11,6 +13,8 @@ mod constructs;
 mod devices;
 #[cfg(test)]
 mod faults;
+#[cfg(test)]
+mod forged;
 #[cfg(test)]
 mod own_devices;
 #[cfg(test)]
@@ -23,6 +27,8 @@ mod runs;
 mod searches;
 #[cfg(test)]
 mod sleepers;
+#[cfg(test)]
+mod tables;
 #[cfg(test)]
 mod threads;
 #[cfg(test)]

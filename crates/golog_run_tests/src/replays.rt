@@ -79,17 +79,28 @@ fn parts_of(line: &str) -> (&str, &str) {
     line.split_once(' ').unwrap_or((line, ""))
 }
 
-/// What the clock has posted, a line for each.
-fn posts_in(alloc: Global, journal: &str) -> Result<String, NoMemory> {
+/// What a device has posted, a line for each, where the lines that tell it begin so.
+pub fn posts_in(alloc: Global, journal: &str, start: &str) -> Result<String, NoMemory> {
     let mut posts = String::new(alloc);
     for line in journal.lines() {
         let (_number, said) = parts_of(line);
-        if let Some(post) = said.strip_prefix("exo clock ") {
+        if let Some(post) = said.strip_prefix(start) {
             posts.push_str(post)?;
             posts.push_str("\n")?;
         }
     }
     Ok(posts)
+}
+
+/// What the first line that says so much says behind it, or `nothing`.
+pub fn said_behind<'a>(journal: &'a str, start: &str) -> &'a str {
+    for line in journal.lines() {
+        let (_number, said) = parts_of(line);
+        if let Some(rest) = said.strip_prefix(start) {
+            return rest;
+        }
+    }
+    "nothing"
 }
 
 /// The number of the line that says this.
@@ -135,7 +146,7 @@ fn ran_with_ticks<R: Threads + Wait + Sync>(rt: &R, alloc: Global) -> Result<Cal
 
 /// Whether what the clock has posted is all that it is to post, in order.
 fn has_all_posts(alloc: Global, journal: &str) -> Result<bool, NoMemory> {
-    let posts = posts_in(alloc, journal)?;
+    let posts = posts_in(alloc, journal, "exo clock ")?;
     let wanted = posts_wanted(alloc)?;
     Ok(posts.as_str() == wanted.as_str())
 }

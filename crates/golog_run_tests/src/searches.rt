@@ -193,3 +193,45 @@ fn runs_are_kept_where_they_go_through(rt: HostRuntime) -> Result<(), Fail> {
     assert_eq!(rt; broken.said(), (0, anew));
     Ok(())
 }
+
+/// Sixteen switches that a search is to set, with so much fuel, and a clock that posts nothing. The search goes
+/// through 65,536 states.
+fn switches(alloc: Global, fuel: &str) -> Result<Bytes, NoMemory> {
+    let mut agent = Bytes::copy_of(
+        alloc,
+        b"(agent (device clock) (sort idx 1 16)
+            (fluent set_on (idx) bool false) (fluent beat () bool false)
+            (action set (idx)) (exo tick () clock)
+            (poss (set i) (not (set_on i))) (causes (set i) (set_on i) true)
+            (causes (tick) (beat) true (not (beat))) (causes (tick) (beat) false (beat))
+            (main (search 17 ",
+    )?;
+    agent.extend(fuel.as_bytes())?;
+    agent.extend(b" (seq (star (pick (i idx) (act set i))) (test (all (i idx) (set_on i)))))))")?;
+    Ok(agent)
+}
+
+/// The journal of that run.
+const ALL_SET: &str =
+    "0 close clock ended 0\n1 do set(1) run set(1); set(2); set(3); set(4); set(5); set(6); \
+    set(7); set(8); set(9); set(10); set(11); set(12); set(13); set(14); set(15); set(16); -\n\
+    2 do set(2)\n3 do set(3)\n4 do set(4)\n5 do set(5)\n6 do set(6)\n7 do set(7)\n8 do set(8)\n\
+    9 do set(9)\n10 do set(10)\n11 do set(11)\n12 do set(12)\n13 do set(13)\n14 do set(14)\n\
+    15 do set(15)\n16 do set(16)\n17 test\n18 end done\n";
+
+// Many states are gone through, and counted to the last.
+#[test]
+fn sixteen_switches_are_set(rt: HostRuntime) -> Result<(), Fail> {
+    let agent = switches(rt.alloc(), "70000")?;
+    let call = ran(rt.alloc(), agent.as_slice())?;
+    assert_eq!(rt; call.said(), (0, ALL_SET));
+    Ok(())
+}
+
+#[test]
+fn sixteen_switches_want_their_fuel(rt: HostRuntime) -> Result<(), Fail> {
+    let agent = switches(rt.alloc(), "65535")?;
+    let call = ran(rt.alloc(), agent.as_slice())?;
+    assert_eq!(rt; call.said(), (13, "0 close clock ended 0\n1 end fuel\n"));
+    Ok(())
+}
