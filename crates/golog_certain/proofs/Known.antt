@@ -12,7 +12,7 @@ use Rattle.golog_tree.specs.declared.cond.Cond.TheOpen.{Cond-F, Truth as Plain, 
 use Rattle.golog_tree.specs.declared.cond.Cond.TheOpen.{Term-F, Arg as ArgTerm, Fluent, Shift, Ite}
 use Rattle.golog_tree.specs.declared.cond.Cond.TheViews.{roll-Cond, roll-Term}
 use Rattle.golog_tree.specs.declared.cond.Cond.TheFolds.{ind-Cond, ind-Term, map-Cond, map-Term}
-use Rattle.golog_semantics.specs.Truth.{Env, Values, unknown, is_known, truth, not_of, both, either, and_of, or_of, compared, moved, shifted, chosen, constants, fluent_value, truth_of, value_of, cond_step, term_step, arg_value}
+use Rattle.golog_semantics.specs.Truth.{Env, Values, unknown, is_known, truth, not_of, both, either, and_of, or_of, comparison_of, value_moved, value_shifted, chosen, constants, fluent_value, truth_of, value_of, cond_step, term_step, arg_value}
 use Rattle.golog_semantics.specs.World.{Refines}
 use Rattle.golog_semantics.specs.Certain.{KnownIsSo}
 use Rattle.golog_semantics.proofs.Computed.{truth_roll, value_roll}
@@ -60,23 +60,23 @@ module _ {A : Type 0} (f g : A → Truth) (h : (a : A) → So (f a) (g a)) where
   so-or [] = refl
   so-or (x ∷ xs) = so-either (f x) (g x) (or_of (map f xs)) (or_of (map g xs)) (h x) (so-or xs)
 
-compared-known : (test : ℕ → ℕ → Bool) (a b : ℕ) (p q : Bool) → is_known a ≡ p → is_known b ≡ q → compared test a b ≡ (if p && q then truth (test a b) else Unknown)
+compared-known : (test : ℕ → ℕ → Bool) (a b : ℕ) (p q : Bool) → is_known a ≡ p → is_known b ≡ q → comparison_of test a b ≡ (if p && q then truth (test a b) else Unknown)
 compared-known test a b p q e k = ap (λ (x : Bool × Bool). if x.0 && x.1 then truth (test a b) else Unknown) (λ i. (e i, k i))
 
-so-compared : (test : ℕ → ℕ → Bool) (a a' b b' : ℕ) → SoValue a a' → SoValue b b' → So (compared test a b) (compared test a' b')
+so-compared : (test : ℕ → ℕ → Bool) (a a' b b' : ℕ) → SoValue a a' → SoValue b b' → So (comparison_of test a b) (comparison_of test a' b')
 so-compared test a a' b b' h k = go (is_known a) (is_known b) refl refl
   where
-    go : (p q : Bool) → is_known a ≡ p → is_known b ≡ q → So (compared test a b) (compared test a' b')
-    go true true e f = subst (λ x. So (compared test a b) (compared test x b')) (sym (h e)) (subst (λ x. So (compared test a b) (compared test a x)) (sym (k f)) (so-same (compared test a b)))
-    go true false e f = subst (λ x. So x (compared test a' b')) (sym (compared-known test a b true false e f)) tt
-    go false q e f = subst (λ x. So x (compared test a' b')) (sym (compared-known test a b false q e f)) tt
+    go : (p q : Bool) → is_known a ≡ p → is_known b ≡ q → So (comparison_of test a b) (comparison_of test a' b')
+    go true true e f = subst (λ x. So (comparison_of test a b) (comparison_of test x b')) (sym (h e)) (subst (λ x. So (comparison_of test a b) (comparison_of test a x)) (sym (k f)) (so-same (comparison_of test a b)))
+    go true false e f = subst (λ x. So x (comparison_of test a' b')) (sym (compared-known test a b true false e f)) tt
+    go false q e f = subst (λ x. So x (comparison_of test a' b')) (sym (compared-known test a b false q e f)) tt
 
-so-shifted : (size v w : ℕ) (by : ℤ) → SoValue v w → SoValue (shifted size v by) (shifted size w by)
+so-shifted : (size v w : ℕ) (by : ℤ) → SoValue v w → SoValue (value_shifted size v by) (value_shifted size w by)
 so-shifted size v w by h = go (is_known v) refl
   where
-    go : (p : Bool) → is_known v ≡ p → SoValue (shifted size v by) (shifted size w by)
-    go true e = λ _. ap (λ x. shifted size x by) (h e)
-    go false e = λ k. absurd (cc (subst (λ b. IsTrue (is_known (if b then moved size v by else unknown))) e k))
+    go : (p : Bool) → is_known v ≡ p → SoValue (value_shifted size v by) (value_shifted size w by)
+    go true e = λ _. ap (λ x. value_shifted size x by) (h e)
+    go false e = λ k. absurd (cc (subst (λ b. IsTrue (is_known (if b then value_moved size v by else unknown))) e k))
 
 pub so-chosen : (t u : Truth) (a a' b b' : ℕ) → So t u → SoValue a a' → SoValue b b' → SoValue (chosen t a b) (chosen u a' b')
 so-chosen Yes u a a' b b' s h k = λ known. subst (λ x. chosen x a' b' ≡ a) (sym s) (h known)

@@ -9,7 +9,7 @@ use Rattle.golog_tree.specs.declared.prog.Label.{Label}
 use Rattle.golog_tree.specs.declared.prog.Label.TheVariants.{Quiet, Do}
 use Rattle.golog_tree.specs.Ground.{Ground, ground_fluents, ground_actions}
 use Rattle.golog_semantics.specs.Truth.{Values, env_of}
-use Rattle.golog_semantics.specs.Values.{cause_for, caused, ruled, after_if, after_do, after}
+use Rattle.golog_semantics.specs.Values.{cause_for, value_caused, value_by_causes, after_if, after_do, after}
 use Rattle.golog_semantics.specs.World.{Refines}
 use Rattle.golog_certain.proofs.Known.{SoValue, so-chosen, truth_stays, value_stays}
 
@@ -20,15 +20,15 @@ so-mapped f g h (x ∷ xs) zero = h x
 so-mapped f g h (x ∷ xs) (suc k) = so-mapped f g h xs k
 
 module _ (agent : Agent) (old new : Values) (more : Refines old new) where
-  caused-stays : (cause : CauseItem) (found : Option (List ℕ)) (v w : ℕ) → SoValue v w → SoValue (caused agent old cause found v) (caused agent new cause found w)
+  caused-stays : (cause : CauseItem) (found : Option (List ℕ)) (v w : ℕ) → SoValue v w → SoValue (value_caused agent old cause found v) (value_caused agent new cause found w)
   caused-stays cause None v w h = h
   caused-stays cause (Some found) v w h =
       so-chosen _ _ _ _ _ _ (truth_stays agent old new more cause.cond (env_of found)) (value_stays agent old new more cause.term (env_of found)) h
 
-  ruled-stays : (causes : List CauseItem) (action fluent : Ground) (v w : ℕ) → SoValue v w → SoValue (ruled agent old causes action fluent v) (ruled agent new causes action fluent w)
+  ruled-stays : (causes : List CauseItem) (action fluent : Ground) (v w : ℕ) → SoValue v w → SoValue (value_by_causes agent old causes action fluent v) (value_by_causes agent new causes action fluent w)
   ruled-stays [] action fluent v w h = h
   ruled-stays (cause ∷ causes) action fluent v w h =
-      caused-stays cause (cause_for cause action fluent) (ruled agent old causes action fluent v) (ruled agent new causes action fluent w) (ruled-stays causes action fluent v w h)
+      caused-stays cause (cause_for cause action fluent) (value_by_causes agent old causes action fluent v) (value_by_causes agent new causes action fluent w) (ruled-stays causes action fluent v w h)
 
   after_if-stays : (o : Option Ground) → Refines (after_if agent old o) (after_if agent new o)
   after_if-stays None = more

@@ -15,12 +15,12 @@ use Rattle.golog_check.specs.declared.fronts.Nesting.{Nesting}
 use Rattle.golog_check.specs.DraftNest.{draft_nest}
 use Rattle.golog_rows.specs.Least.{CodeAt, IsLeastOf}
 use Rattle.golog_check.specs.Settled.{rounds_of, same_of}
-use Rattle.golog_check.specs.Shapes.{shape, shape_of, shapes, calls_in}
+use Rattle.golog_check.specs.Shapes.{shape, shape_of, shapes}
 use Rattle.golog_check.specs.Unguarded.{said, reaching, is_unguarded, has_no_nest, is_deep, refused_where, front_refusals}
 use Rattle.golog_check.specs.Fronts.{reach_round, nest_of_calls, nest_round}
 use Rattle.golog_check.specs.Told.{nesting, calls_told, nesting_in, nestings_in, reached_by, reached_each, reaches_itself, is_endless}
 use Rattle.golog_check.proofs.Fores.{nest-same}
-use Rattle.golog_check.proofs.RoundLaws.{map-alike, map-long, map-same, map-two, reaching-rounds}
+use Rattle.golog_check.proofs.RoundLaws.{calls_in, map-alike, map-long, map-same, map-two, reaching-rounds}
 
 -- one more that is numbered
 pub enumerate-more : {A : Type 0} (n : ℕ) (xs : List A) (i : ℕ) (x : A) → i < length xs → x ≡ get_or xs i x

@@ -5,11 +5,15 @@ use Rattle.golog_tree.specs.declared.agent.ProcItem.{ProcItem}
 use Rattle.golog_tree.specs.declared.draft.DraftProc.{DraftProc}
 use Rattle.golog_semantics.specs.BlockFree.{has_block_by, proc_blocks, proc_blocks_to}
 use Rattle.golog_semantics.specs.FrontCalls.{front_calls}
-use Rattle.golog_check.specs.Shapes.{shape, shape_of, shapes, calls_in}
+use Rattle.golog_check.specs.Shapes.{shape, shape_of, shapes}
 use Rattle.golog_check.specs.Unguarded.{leads_to, reaching, reaching_to}
 use Rattle.golog_check.specs.Settled.{rounds_of, same_of}
 use Rattle.golog_check.specs.Fronts.{draft_has, block_round, reach_round}
 use Rattle.golog_check.proofs.Fores.{has-same}
+
+-- the procedures that each may call without a step
+abbrev pub calls_in : List DraftProc → List (List ℕ)
+calls_in procs = map (λ (item : DraftProc). front_calls (shapes procs) (shape item.body)) procs
 
 pub map-same : {A B : Type 0} (b : B) (xs : List A) → map (λ x. b) xs ≡ same_of (length xs) b
 map-same b [] = refl

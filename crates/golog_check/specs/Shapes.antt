@@ -1,6 +1,6 @@
 -- Programs of a draft without their conditions and arguments. What a program may call without a step, how deep
 -- it nests and where its search blocks stand is told by these alone, also where a term in it is refused.
-use Rattle.std.specs.Prelude.{ℕ, true, List, [], map}
+use Rattle.std.specs.Prelude.{true, List, [], map}
 use Rattle.golog_tree.specs.declared.agent.Agent.{Agent}
 use Rattle.golog_tree.specs.declared.agent.ProcItem.{ProcItem}
 use Rattle.golog_tree.specs.declared.cond.Cond.{Cond}
@@ -13,7 +13,6 @@ use Rattle.golog_tree.specs.declared.prog.Prog.{Prog}
 use Rattle.golog_tree.specs.declared.prog.Prog.TheVariants as prog
 use Rattle.golog_tree.specs.Ground.{to_count}
 use Rattle.golog_check.specs.declared.programs.Join.TheVariants.{Seq as InSeq, Choice as InChoice, Conc as InConc, Prio as InPrio}
-use Rattle.golog_semantics.specs.FrontCalls.{front_calls}
 use Rattle.golog_check.specs.DeclaredItems.{param_sorts}
 use Rattle.golog_check.specs.Programs.{nested}
 
@@ -61,7 +60,3 @@ with_procs procs = record {
 
 abbrev pub shapes : List DraftProc → Agent
 shapes procs = with_procs (map shape_of procs)
-
--- the procedures that each may call without a step
-abbrev pub calls_in : List DraftProc → List (List ℕ)
-calls_in procs = map (λ (item : DraftProc). front_calls (shapes procs) (shape item.body)) procs

@@ -22,9 +22,6 @@ text_step (Group items at end) = 40 ∷ spaced items ++ 41 ∷ []
 abbrev pub text_of : Form → List ℕ
 text_of = fold-Form (List ℕ) text_step
 
-abbrev pub after_space : Form → List ℕ
-after_space f = 32 ∷ text_of f
-
 abbrev pub spaced_texts : List Form → List ℕ
 spaced_texts forms = spaced (map text_of forms)
 

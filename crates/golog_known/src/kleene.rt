@@ -1,5 +1,5 @@
 ghost use Rattle.std.specs.Prelude.{◌≡◌, ◌==◌, ◌&&◌, nat_lt, nat_le};
-ghost use Rattle.golog_semantics.specs.Truth.{truth as truth_of_bool, both as both_of, either as either_of, not_of, is_known, chosen as chosen_of, compared as compared_by};
+ghost use Rattle.golog_semantics.specs.Truth.{truth as truth_of_bool, both as both_of, either as either_of, not_of, is_known, chosen as chosen_of, comparison_of};
 
 use golog_tree::Truth;
 
@@ -68,7 +68,7 @@ fn are_known(one: u8, other: u8) -> bool
 
 /// Whether the values are equal: unknown where one of them is.
 pub fn equal(one: u8, other: u8) -> Truth
-    ensures { result ≡ compared_by (λ a b. a == b) one other }
+    ensures { result ≡ comparison_of (λ a b. a == b) one other }
 {
     if are_known(one, other) {
         truth(one == other)
@@ -79,7 +79,7 @@ pub fn equal(one: u8, other: u8) -> Truth
 
 /// Whether the one value is below the other: unknown where one of them is.
 pub fn less(one: u8, other: u8) -> Truth
-    ensures { result ≡ compared_by nat_lt one other }
+    ensures { result ≡ comparison_of nat_lt one other }
 {
     if are_known(one, other) {
         truth(one < other)
@@ -90,7 +90,7 @@ pub fn less(one: u8, other: u8) -> Truth
 
 /// Whether the one value is at most the other: unknown where one of them is.
 pub fn at_most(one: u8, other: u8) -> Truth
-    ensures { result ≡ compared_by nat_le one other }
+    ensures { result ≡ comparison_of nat_le one other }
 {
     if are_known(one, other) {
         truth(one <= other)

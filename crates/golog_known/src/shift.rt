@@ -1,5 +1,5 @@
 ghost use Rattle.std.specs.Prelude.{◌≡◌, ◌+◌, ◌-◌, ◌≤◌, min};
-ghost use Rattle.golog_semantics.specs.Truth.{shifted as shifted_of};
+ghost use Rattle.golog_semantics.specs.Truth.{value_shifted};
 
 use crate::kleene::UNKNOWN;
 
@@ -7,7 +7,7 @@ use crate::kleene::UNKNOWN;
 /// an unknown value, unknown.
 pub fn shifted(size: u32, value: u8, by: i32) -> u8
     requires { size ≤ 255 }
-    ensures { result ≡ shifted_of size value by }
+    ensures { result ≡ value_shifted size value by }
 {
     if value == UNKNOWN {
         UNKNOWN

@@ -13,7 +13,7 @@ use Rattle.golog_semantics.specs.declared.journal.Reason.{Reason}
 use Rattle.golog_semantics.specs.declared.journal.Answer.{Answer}
 use Rattle.golog_semantics.specs.Truth.{Values, is_known}
 use Rattle.golog_semantics.specs.Values.{fluent_sort}
-use Rattle.golog_semantics.specs.Journal.{Journal, device_of, sensed, commands}
+use Rattle.golog_semantics.specs.Journal.{Journal, device_of, fluent_sensed, commands}
 use Rattle.golog_semantics.specs.Text.{Text, reason_text, action_text, device_text, value_text, at_device, against_text, run_text, body_text}
 use Rattle.golog_semantics.specs.Online.{is_result}
 use Rattle.golog_semantics.specs.Reports.{fits_entry, is_exogenous, is_device, is_value, place_limit}
@@ -181,7 +181,7 @@ module _ (agent : Agent) (apart : TellsApart agent) (before : Journal) (small : 
       let at : a.at ≡ b.at = (let k : p ≡ 0 + a.at = a.place_is in let l : q ≡ 0 + b.at = b.place_is in omega arith) in
       let actions : Do a.action ≡ Do b.action = some-same (Do a.action) (Do b.action) (sym a.is ∙ ap (slice_get before) at ∙ b.is) in
       let action : a.action ≡ b.action = cc in
-      some-same f g (sym a.senses ∙ ap (sensed agent) action ∙ b.senses)
+      some-same f g (sym a.senses ∙ ap (fluent_sensed agent) action ∙ b.senses)
 
   sense_regroup : (x y z w s : Text) → (((((x ++ codes " ") ++ y) ++ codes " ") ++ z) ++ w) ++ s ≡ x ++ 32 ∷ (y ++ 32 ∷ (z ++ (w ++ s)))
   sense_regroup x y z w s = append_assoc ((((x ++ codes " ") ++ y) ++ codes " ") ++ z) w s ∙ gaps x y z (w ++ s)

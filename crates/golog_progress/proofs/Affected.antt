@@ -16,7 +16,7 @@ use Rattle.golog_tree.proofs.Decoded.{args_at-get_or}
 use Rattle.golog_tree.proofs.Numbers.{get-at-place}
 use Rattle.golog_tree.proofs.Places.{place-below, args_of-place_of}
 use Rattle.golog_semantics.specs.Truth.{Values}
-use Rattle.golog_semantics.specs.Values.{matched, cause_for, caused}
+use Rattle.golog_semantics.specs.Values.{matched_values, cause_for, value_caused}
 use Rattle.golog_semantics.specs.Fits.{bound_from, cond_fits, term_fits}
 use Rattle.golog_semantics.specs.Written.{is_written_term, is_written_cond}
 use Rattle.golog_semantics.specs.WellFormed.{WellFormed, head_sorts, effect_fits, cause_fits_for, cause_fits}
@@ -136,7 +136,7 @@ module _ (agent : Agent) where
     pub given_few : length given ≤ 3
     given_few = omega (arith, even, within-length agent is.action.args args within_action, is.few_given)
 
-    pub head_after : (found : List ℕ) → matched given args [] ≡ Some found → HeadFits agent cause is.fluent.args free found
+    pub head_after : (found : List ℕ) → matched_values given args [] ≡ Some found → HeadFits agent cause is.fluent.args free found
     head_after found m =
         bind agent cause is.fluent.args free is.action.args given args [] found (even ∙ sym (within-length agent is.action.args args within_action)) within_action m
         (subst (λ xs. HeadFits agent cause (is.action.args ++ is.fluent.args) xs []) (sym split) is.head)
@@ -148,24 +148,24 @@ module _ (agent : Agent) where
     same-test : (fluent : ℕ) → (cause.action == cause.action && cause.fluent == fluent) ≡ (cause.fluent == fluent)
     same-test fluent = ap (λ b. b && cause.fluent == fluent) (eq-eqb cause.action cause.action refl)
 
-    says : (fluent : ℕ) (at : List ℕ) → cause_for cause (cause.action, args) (fluent, at) ≡ (if cause.fluent == fluent then option_and_then (λ f. matched free at f) (matched given args []) else None)
+    says : (fluent : ℕ) (at : List ℕ) → cause_for cause (cause.action, args) (fluent, at) ≡ (if cause.fluent == fluent then option_and_then (λ f. matched_values free at f) (matched_values given args []) else None)
     says fluent at =
-        ap (λ b. if b then matched (cause.action_args ++ cause.fluent_args) (args ++ at) [] else None) (same-test fluent)
+        ap (λ b. if b then matched_values (cause.action_args ++ cause.fluent_args) (args ++ at) [] else None) (same-test fluent)
         ∙ ap (λ o. if cause.fluent == fluent then o else None)
-        (ap (λ xs. matched xs (args ++ at) []) (sym split) ∙ matched-split given free args at [] even)
+        (ap (λ xs. matched_values xs (args ++ at) []) (sym split) ∙ matched-split given free args at [] even)
 
     module _ (values old : Values) where
-      pub unaffected : matched given args [] ≡ None → IsAffected agent values cause (cause.action, args) old old
-      unaffected m = record { changed = λ f fluent e. sym (ap (λ o. caused agent values cause o (slice_index old f)) (none fluent.0 fluent.1)) }
+      pub unaffected : matched_values given args [] ≡ None → IsAffected agent values cause (cause.action, args) old old
+      unaffected m = record { changed = λ f fluent e. sym (ap (λ o. value_caused agent values cause o (slice_index old f)) (none fluent.0 fluent.1)) }
         where
           none : (fluent : ℕ) (at : List ℕ) → cause_for cause (cause.action, args) (fluent, at) ≡ None
-          none fluent at = says fluent at ∙ ap (λ o. if cause.fluent == fluent then option_and_then (λ f. matched free at f) o else None) m ∙ both (cause.fluent == fluent) None refl
+          none fluent at = says fluent at ∙ ap (λ o. if cause.fluent == fluent then option_and_then (λ f. matched_values free at f) o else None) m ∙ both (cause.fluent == fluent) None refl
             where
               both : (b : Bool) (o : Option (List ℕ)) → o ≡ None → (if b then o else None) ≡ None
               both true o e = e
               both false o e = refl
 
-      module _ (new : Values) (found : List ℕ) (m : matched given args [] ≡ Some found) (first count : ℕ) (places : ArePlaces agent cause.fluent first count)
+      module _ (new : Values) (found : List ℕ) (m : matched_values given args [] ≡ Some found) (first count : ℕ) (places : ArePlaces agent cause.fluent first count)
           (spread : IsSpread agent values cause (sizes agent is.fluent.args) free found first old new) where
         abbrev ns : List ℕ
         ns = sizes agent is.fluent.args
@@ -174,10 +174,10 @@ module _ (agent : Agent) where
         sorts-are = args-of-item agent.fluents cause.fluent is.fluent is.fluent_is
 
         abbrev Goal : ℕ → Ground → Type 0
-        Goal f fluent = slice_index new f ≡ caused agent values cause (cause_for cause (cause.action, args) fluent) (slice_index old f)
+        Goal f fluent = slice_index new f ≡ value_caused agent values cause (cause_for cause (cause.action, args) fluent) (slice_index old f)
 
-        said : (fluent : ℕ) (at : List ℕ) (b : Bool) → (cause.fluent == fluent) ≡ b → cause_for cause (cause.action, args) (fluent, at) ≡ (if b then matched free at found else None)
-        said fluent at b e = says fluent at ∙ ap (λ o. if cause.fluent == fluent then option_and_then (λ f. matched free at f) o else None) m ∙ ap (λ t. if t then matched free at found else None) e
+        said : (fluent : ℕ) (at : List ℕ) (b : Bool) → (cause.fluent == fluent) ≡ b → cause_for cause (cause.action, args) (fluent, at) ≡ (if b then matched_values free at found else None)
+        said fluent at b e = says fluent at ∙ ap (λ o. if cause.fluent == fluent then option_and_then (λ f. matched_values free at f) o else None) m ∙ ap (λ t. if t then matched_values free at found else None) e
 
         -- a ground fluent of the cause's fluent
         here : (f fluent : ℕ) (at : List ℕ) → slice_get (ground_fluents agent) f ≡ Some (fluent, at) → (cause.fluent == fluent) ≡ true → Goal f (fluent, at)
@@ -190,10 +190,10 @@ module _ (agent : Agent) where
             ∙ ap (λ i. sum_by (λ ss. product (sizes agent ss)) (take i (fluent_args agent)) + place_of ns at) (sym same)
             ∙ ap (λ ss. sum_by (λ ss. product (sizes agent ss)) (take s.at (fluent_args agent)) + place_of (sizes agent ss) at) (sym (ap (args_at (fluent_args agent)) same ∙ sorts-are))
             ∙ s.number in
-            let put : slice_index new f ≡ caused agent values cause (matched free (args_of ns (place_of ns at)) found) (slice_index old f) =
-            subst (λ n. slice_index new n ≡ caused agent values cause (matched free (args_of ns (place_of ns at)) found) (slice_index old n)) number (spread.inside (place_of ns at) (place-below ns at w)) in
-            put ∙ ap (λ xs. caused agent values cause (matched free xs found) (slice_index old f)) (args_of-place_of ns at w)
-            ∙ ap (λ o. caused agent values cause o (slice_index old f)) (sym (said fluent at true t))
+            let put : slice_index new f ≡ value_caused agent values cause (matched_values free (args_of ns (place_of ns at)) found) (slice_index old f) =
+            subst (λ n. slice_index new n ≡ value_caused agent values cause (matched_values free (args_of ns (place_of ns at)) found) (slice_index old n)) number (spread.inside (place_of ns at) (place-below ns at w)) in
+            put ∙ ap (λ xs. value_caused agent values cause (matched_values free xs found) (slice_index old f)) (args_of-place_of ns at w)
+            ∙ ap (λ o. value_caused agent values cause o (slice_index old f)) (sym (said fluent at true t))
 
         -- a number of the cause's fluent names it
         ours : (f fluent : ℕ) (at : List ℕ) → slice_get (ground_fluents agent) f ≡ Some (fluent, at) → first ≤ f → f < first + count → cause.fluent ≡ fluent
@@ -216,7 +216,7 @@ module _ (agent : Agent) where
         away : (f fluent : ℕ) (at : List ℕ) → slice_get (ground_fluents agent) f ≡ Some (fluent, at) → (cause.fluent == fluent) ≡ false → Goal f (fluent, at)
         away f fluent at e t =
             spread.outside f (beside f fluent at e (eqb-false cause.fluent fluent t))
-            ∙ ap (λ o. caused agent values cause o (slice_index old f)) (sym (said fluent at false t))
+            ∙ ap (λ o. value_caused agent values cause o (slice_index old f)) (sym (said fluent at false t))
 
         at-each : (f fluent : ℕ) (at : List ℕ) → slice_get (ground_fluents agent) f ≡ Some (fluent, at) → (b : Bool) → (cause.fluent == fluent) ≡ b → Goal f (fluent, at)
         at-each f fluent at e true t = here f fluent at e t

@@ -10,7 +10,7 @@ use Rattle.golog_tree.specs.Ground.{Ground, action_args, args_at, ground_actions
 use Rattle.golog_tree.proofs.Numbers.{length-all_from}
 use Rattle.golog_tree.proofs.Decoded.{args_at-get_or}
 use Rattle.golog_semantics.specs.Truth.{Values}
-use Rattle.golog_semantics.specs.Values.{matched, cause_for, caused, ruled, after_if, after_do, after_ground}
+use Rattle.golog_semantics.specs.Values.{matched_values, cause_for, value_caused, value_by_causes, after_if, after_do, after_ground}
 use Rattle.golog_semantics.specs.WellFormed.{WellFormed}
 use Rattle.golog_semantics.proofs.SortsStay.{has_at, mapped-at}
 use Rattle.golog_progress.specs.Effects.{IsAffected, AreRuled}
@@ -45,8 +45,8 @@ module _ (agent : Agent) where
     ruled-one cause later old mid new r same a = record {
       changed = λ f fluent e.
           a.changed f fluent e
-          ∙ ap (λ n. caused agent values cause (cause_for cause (n, args) fluent) (slice_index mid f)) same
-          ∙ ap (caused agent values cause (cause_for cause (action, args) fluent)) (r.changed f fluent e);
+          ∙ ap (λ n. value_caused agent values cause (cause_for cause (n, args) fluent) (slice_index mid f)) same
+          ∙ ap (value_caused agent values cause (cause_for cause (action, args) fluent)) (r.changed f fluent e);
     }
 
     -- a cause of another action
@@ -55,11 +55,11 @@ module _ (agent : Agent) where
     ruled-other cause later old new r other = record {
       changed = λ f fluent e.
           r.changed f fluent e
-          ∙ ap (λ o. caused agent values cause o (ruled agent values later (action, args) fluent (slice_index old f))) (sym (none fluent));
+          ∙ ap (λ o. value_caused agent values cause o (value_by_causes agent values later (action, args) fluent (slice_index old f))) (sym (none fluent));
     }
       where
         none : (fluent : Ground) → cause_for cause (action, args) fluent ≡ None
-        none fluent = ap (λ b. if b && cause.fluent == fluent.0 then matched (cause.action_args ++ cause.fluent_args) (args ++ fluent.1) [] else None) other
+        none fluent = ap (λ b. if b && cause.fluent == fluent.0 then matched_values (cause.action_args ++ cause.fluent_args) (args ++ fluent.1) [] else None) other
 
     pub ruled-all : (number : ℕ) (new : Values) → slice_get (ground_actions agent) number ≡ Some (action, args) → length new ≡ length (ground_fluents agent)
         → AreRuled agent values agent.causes (action, args) values new → new ≡ after_do agent values number
@@ -72,5 +72,5 @@ module _ (agent : Agent) where
         at k below =
             let s = has_at (ground_fluents agent) k (subst (λ n. k < n) whole below) in
             r.changed k s.item s.is
-            ∙ ap (λ n. ruled agent values agent.causes (action, args) s.item (slice_index values n)) (sym (zero-add k))
-            ∙ sym (mapped-at (λ g. ruled agent values agent.causes (action, args) g.1 (slice_index values g.0)) 0 (ground_fluents agent) k s.item s.is)
+            ∙ ap (λ n. value_by_causes agent values agent.causes (action, args) s.item (slice_index values n)) (sym (zero-add k))
+            ∙ sym (mapped-at (λ g. value_by_causes agent values agent.causes (action, args) g.1 (slice_index values g.0)) 0 (ground_fluents agent) k s.item s.is)

@@ -10,7 +10,7 @@ use Rattle.golog_tree.specs.declared.cond.Arg.{Arg}
 use Rattle.golog_tree.specs.declared.cond.Arg.TheVariants.{Const, Var}
 use Rattle.golog_tree.specs.Ground.{args_of, product}
 use Rattle.golog_semantics.specs.Truth.{Values, arg_value}
-use Rattle.golog_semantics.specs.Values.{matched, caused}
+use Rattle.golog_semantics.specs.Values.{matched_values, value_caused}
 use Rattle.golog_semantics.proofs.NumbersStand.{args-shift}
 use Rattle.golog_progress.specs.Effects.{is_next, IsSpread, IsRanged}
 
@@ -42,28 +42,28 @@ part_of n w p h k = record {
 }
 
 pub matched-fixed : (arg : Arg) (args : List Arg) (a : ℕ) (at found : List ℕ) → is_next found arg ≡ false
-    → matched (arg ∷ args) (a ∷ at) found ≡ (if arg_value found arg == a then matched args at found else None)
+    → matched_values (arg ∷ args) (a ∷ at) found ≡ (if arg_value found arg == a then matched_values args at found else None)
 matched-fixed (Const c) args a at found h = refl
 matched-fixed (Var x) args a at found h =
-    ap (λ b. if b then matched args at (found ++ a ∷ []) else (if slice_index found x == a then matched args at found else None)) h
+    ap (λ b. if b then matched_values args at (found ++ a ∷ []) else (if slice_index found x == a then matched_values args at found else None)) h
 
 pub matched-free : (arg : Arg) (args : List Arg) (a : ℕ) (at found : List ℕ) → is_next found arg ≡ true
-    → matched (arg ∷ args) (a ∷ at) found ≡ matched args at (found ++ a ∷ [])
+    → matched_values (arg ∷ args) (a ∷ at) found ≡ matched_values args at (found ++ a ∷ [])
 matched-free (Const c) args a at found h = absurd (cc)
 matched-free (Var x) args a at found h =
-    ap (λ b. if b then matched args at (found ++ a ∷ []) else (if slice_index found x == a then matched args at found else None)) h
+    ap (λ b. if b then matched_values args at (found ++ a ∷ []) else (if slice_index found x == a then matched_values args at found else None)) h
 
 module _ (agent : Agent) (values : Values) (cause : CauseItem) where
   abbrev Spread : List ℕ → List Arg → List ℕ → ℕ → Values → Values → Type 0
   Spread = IsSpread agent values cause
 
   abbrev Caused : Option (List ℕ) → ℕ → ℕ
-  Caused = caused agent values cause
+  Caused = value_caused agent values cause
 
   -- what is to hold at a place
   abbrev Holds : List ℕ → List Arg → List ℕ → ℕ → Values → Values → ℕ → Type 0
   Holds ns args found start old new place =
-      slice_index new (start + place) ≡ Caused (matched args (args_of ns place) found) (slice_index old (start + place))
+      slice_index new (start + place) ≡ Caused (matched_values args (args_of ns place) found) (slice_index old (start + place))
 
   -- the head is bound: one value is changed
   pub one : (found : List ℕ) (start : ℕ) (old : Values) (v : ℕ) → start < length old → v ≡ Caused (Some found) (slice_index old start)
@@ -90,15 +90,15 @@ module _ (agent : Agent) (values : Values) (cause : CauseItem) where
         let same : v ≡ a = is ∙ eqb-true (arg_value found arg) a e in
         let there : start + v * product ns + q ≡ start + (a * product ns + q) =
         add_assoc start (v * product ns) q ∙ ap (λ x. start + (x * product ns + q)) same in
-        let hit : matched (arg ∷ args) (args_of (n ∷ ns) (a * product ns + q)) found ≡ matched args (args_of ns q) found =
-        ap (λ at. matched (arg ∷ args) at found) (args-at n ns a q h k) ∙ matched-fixed arg args a (args_of ns q) found fixed
-        ∙ ap (λ (t : Bool). if t then matched args (args_of ns q) found else None) e in
+        let hit : matched_values (arg ∷ args) (args_of (n ∷ ns) (a * product ns + q)) found ≡ matched_values args (args_of ns q) found =
+        ap (λ at. matched_values (arg ∷ args) at found) (args-at n ns a q h k) ∙ matched-fixed arg args a (args_of ns q) found fixed
+        ∙ ap (λ (t : Bool). if t then matched_values args (args_of ns q) found else None) e in
         subst (λ o. slice_index new (start + (a * product ns + q)) ≡ Caused o (slice_index old (start + (a * product ns + q)))) (sym hit)
-        (subst (λ f. slice_index new f ≡ Caused (matched args (args_of ns q) found) (slice_index old f)) there (part.inside q k))
+        (subst (λ f. slice_index new f ≡ Caused (matched_values args (args_of ns q) found) (slice_index old f)) there (part.inside q k))
     fixed-at a q h k false e =
-        let miss : matched (arg ∷ args) (args_of (n ∷ ns) (a * product ns + q)) found ≡ None =
-        ap (λ at. matched (arg ∷ args) at found) (args-at n ns a q h k) ∙ matched-fixed arg args a (args_of ns q) found fixed
-        ∙ ap (λ (t : Bool). if t then matched args (args_of ns q) found else None) e in
+        let miss : matched_values (arg ∷ args) (args_of (n ∷ ns) (a * product ns + q)) found ≡ None =
+        ap (λ at. matched_values (arg ∷ args) at found) (args-at n ns a q h k) ∙ matched-fixed arg args a (args_of ns q) found fixed
+        ∙ ap (λ (t : Bool). if t then matched_values args (args_of ns q) found else None) e in
         subst (λ o. slice_index new (start + (a * product ns + q)) ≡ Caused o (slice_index old (start + (a * product ns + q)))) (sym miss)
         (part.outside (start + (a * product ns + q)) (beside (v < a) (a < v) (away (λ same. eqb-false (arg_value found arg) a e (sym is ∙ same)))))
       where
@@ -134,14 +134,14 @@ module _ (agent : Agent) (values : Values) (cause : CauseItem) where
     module _ (some : 0 < product ns) (k : ℕ) (now new : Values) (before : Ranged ns args found start old k now)
         (part : Spread ns args (found ++ k ∷ []) (start + k * product ns) now new) where
       more-at : (a q : ℕ) → (a < k) ⊎ (a ≡ k) → q < product ns
-          → slice_index new (start + (a * product ns + q)) ≡ Caused (matched args (args_of ns q) (found ++ a ∷ [])) (slice_index old (start + (a * product ns + q)))
+          → slice_index new (start + (a * product ns + q)) ≡ Caused (matched_values args (args_of ns q) (found ++ a ∷ [])) (slice_index old (start + (a * product ns + q)))
       more-at a q (inl h) l =
           let r : a * product ns + q < k * product ns = digits_lt h l in
           part.outside (start + (a * product ns + q)) (inl (omega arith)) ∙ before.inside a q h l
       more-at a q (inr e) l =
-          subst (λ b. slice_index new (start + (b * product ns + q)) ≡ Caused (matched args (args_of ns q) (found ++ b ∷ [])) (slice_index old (start + (b * product ns + q)))) (sym e)
-          (subst (λ f. slice_index new f ≡ Caused (matched args (args_of ns q) (found ++ k ∷ [])) (slice_index old f)) (add_assoc start (k * product ns) q)
-          (part.inside q l ∙ ap (Caused (matched args (args_of ns q) (found ++ k ∷ []))) (before.outside (start + k * product ns + q) (inr (omega arith)))))
+          subst (λ b. slice_index new (start + (b * product ns + q)) ≡ Caused (matched_values args (args_of ns q) (found ++ b ∷ [])) (slice_index old (start + (b * product ns + q)))) (sym e)
+          (subst (λ f. slice_index new f ≡ Caused (matched_values args (args_of ns q) (found ++ k ∷ [])) (slice_index old f)) (add_assoc start (k * product ns) q)
+          (part.inside q l ∙ ap (Caused (matched_values args (args_of ns q) (found ++ k ∷ []))) (before.outside (start + k * product ns + q) (inr (omega arith)))))
 
       pub ranged-more : Ranged ns args found start old (k + 1) new
       ranged-more = record {
@@ -169,7 +169,7 @@ module _ (agent : Agent) (values : Values) (cause : CauseItem) where
           let p = part_of n (product ns) place h some in
           subst (Holds (n ∷ ns) (arg ∷ args) found start old new) p.is
           (subst (λ o. slice_index new (start + (p.part * product ns + p.place)) ≡ Caused o (slice_index old (start + (p.part * product ns + p.place))))
-          (sym (ap (λ at. matched (arg ∷ args) at found) (args-at n ns p.part p.place p.part_below p.place_below) ∙ matched-free arg args p.part (args_of ns p.place) found free))
+          (sym (ap (λ at. matched_values (arg ∷ args) at found) (args-at n ns p.part p.place p.part_below p.place_below) ∙ matched-free arg args p.part (args_of ns p.place) found free))
           (r.inside p.part p.place p.part_below p.place_below));
       outside = λ f h. r.outside f h;
     }

@@ -6,7 +6,7 @@ use Rattle.golog_tree.specs.declared.cond.Arg.{Arg}
 use Rattle.golog_tree.specs.declared.cond.Arg.TheVariants.{Const, Var}
 use Rattle.golog_tree.specs.Ground.{Ground, AreWithin, args_of, ground_fluents, args_at, fluent_args, product, sizes}
 use Rattle.golog_semantics.specs.Truth.{Values}
-use Rattle.golog_semantics.specs.Values.{matched, cause_for, caused, ruled}
+use Rattle.golog_semantics.specs.Values.{matched_values, cause_for, value_caused, value_by_causes}
 use Rattle.golog_semantics.specs.Fits.{bound_from, cond_fits, term_fits}
 use Rattle.golog_semantics.specs.WellFormed.{head_sorts}
 
@@ -36,7 +36,7 @@ pub record IsSpread
     (start : ℕ) (old new : Values) : Type 0 where
   pub inside : (place : ℕ) → place < product ns
       → slice_index new (start + place)
-      ≡ caused agent values cause (matched args (args_of ns place) found) (slice_index old (start + place))
+      ≡ value_caused agent values cause (matched_values args (args_of ns place) found) (slice_index old (start + place))
   pub outside : (f : ℕ) → (f < start) ⊎ (start + product ns ≤ f) → slice_index new f ≡ slice_index old f
 
 -- The next variable of the cause has been given its first values, so many of them: for each, a part of the
@@ -46,7 +46,7 @@ pub record IsRanged
     (start : ℕ) (old : Values) (given : ℕ) (new : Values) : Type 0 where
   pub inside : (c place : ℕ) → c < given → place < product ns
       → slice_index new (start + (c * product ns + place))
-      ≡ caused agent values cause (matched args (args_of ns place) (found ++ c ∷ []))
+      ≡ value_caused agent values cause (matched_values args (args_of ns place) (found ++ c ∷ []))
       (slice_index old (start + (c * product ns + place)))
   pub outside : (f : ℕ) → (f < start) ⊎ (start + given * product ns ≤ f)
       → slice_index new f ≡ slice_index old f
@@ -62,10 +62,10 @@ pub record ArePlaces (agent : Agent) (fluent first count : ℕ) : Type 0 where
 pub record IsAffected
     (agent : Agent) (values : Values) (cause : CauseItem) (action : Ground) (old new : Values) : Type 0 where
   pub changed : (f : ℕ) (fluent : Ground) → slice_get (ground_fluents agent) f ≡ Some fluent
-      → slice_index new f ≡ caused agent values cause (cause_for cause action fluent) (slice_index old f)
+      → slice_index new f ≡ value_caused agent values cause (cause_for cause action fluent) (slice_index old f)
 
 -- the rule of these causes has been put into the value of each ground fluent
 pub record AreRuled
     (agent : Agent) (values : Values) (causes : List CauseItem) (action : Ground) (old new : Values) : Type 0 where
   pub changed : (f : ℕ) (fluent : Ground) → slice_get (ground_fluents agent) f ≡ Some fluent
-      → slice_index new f ≡ ruled agent values causes action fluent (slice_index old f)
+      → slice_index new f ≡ value_by_causes agent values causes action fluent (slice_index old f)

@@ -1,6 +1,6 @@
 ghost use Rattle.std.specs.Prelude.{◌≡◌, ◌+◌, ◌<◌, ◌≤◌, [], ◌∷◌, ◌++◌, length};
 ghost use Rattle.golog_semantics.specs.Truth.{arg_value};
-ghost use Rattle.golog_semantics.specs.Values.{matched};
+ghost use Rattle.golog_semantics.specs.Values.{matched_values};
 ghost use Rattle.golog_progress.specs.Effects.{is_next};
 
 use golog_tree::Arg;
@@ -83,7 +83,7 @@ impl Bindings {
 /// constant, or a variable that is bound, has another value.
 pub fn bound_by(args: &[Arg], values: &[u8], found: Bindings) -> Option<Bindings>
     requires { length found + length args.now ≤ 6 }
-    ensures { result ≡ matched args.now values.now found }
+    ensures { result ≡ matched_values args.now values.now found }
 {
     match (args.split_first(), values.split_first()) {
         (None, _) => Some(found),

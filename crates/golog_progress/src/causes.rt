@@ -2,7 +2,7 @@ ghost use Rattle.std.specs.Prelude.{◌≡◌, ℕ, ◌+◌, ◌*◌, ◌<◌, �
 ghost use Rattle.std.specs.List.{list_all};
 ghost use Rattle.golog_tree.specs.Ground.{AreWithin, IsCountable, action_args, args_at, ground_fluents, product, sizes};
 ghost use Rattle.golog_semantics.specs.Truth.{env_of};
-ghost use Rattle.golog_semantics.specs.Values.{caused, after_do, ground_actions};
+ghost use Rattle.golog_semantics.specs.Values.{value_caused, after_do, ground_actions};
 ghost use Rattle.golog_semantics.specs.WellFormed.{WellFormed, cause_fits};
 ghost use Rattle.golog_known.specs.Fits.{CondFitsAt, TermFitsAt};
 ghost use Rattle.golog_progress.specs.Effects.{HeadFits, IsSpread, IsRanged, ArePlaces, IsAffected, AreRuled};
@@ -19,7 +19,7 @@ fn effect(agent: &Agent, cause: &CauseItem, found: &Bindings, values: &[u8], lat
     requires cond { CondFitsAt agent.now cause.now.cond (env_of found.now) }
     requires term { TermFitsAt agent.now cause.now.term (env_of found.now) }
     requires whole { length values.now ≡ length (ground_fluents agent.now) }
-    ensures { result ≡ caused agent.now values.now cause.now (Some found.now) later }
+    ensures { result ≡ value_caused agent.now values.now cause.now (Some found.now) later }
 {
     let env = Env::of(found.as_slice());
     chosen(

@@ -18,8 +18,8 @@ use Rattle.golog_tree.specs.declared.cond.Term.TheVariants as term
 use Rattle.golog_tree.specs.declared.cond.Cond.TheVariants as cond
 use Rattle.golog_tree.specs.Ground.{Ground, IsCountable, fluent_no, ground_fluents, size_at, sort_size}
 use Rattle.golog_tree.proofs.Decoded.{sort_size-small}
-use Rattle.golog_semantics.specs.Truth.{Env, Values, is_known, truth, not_of, compared, arg_value, fluent_value, truth_of, value_of}
-use Rattle.golog_semantics.specs.Values.{ruled}
+use Rattle.golog_semantics.specs.Truth.{Env, Values, is_known, truth, not_of, comparison_of, arg_value, fluent_value, truth_of, value_of}
+use Rattle.golog_semantics.specs.Values.{value_by_causes}
 use Rattle.golog_semantics.specs.Fits.{Scope, bound, bool_sort, args_fit, fluent_fits, is_sort, binder_fits, cond_fits, term_fits}
 use Rattle.golog_semantics.specs.BuiltIn.{bool_item}
 use Rattle.golog_semantics.specs.WellFormed.{WellFormed, fluent_item_fits}
@@ -56,7 +56,7 @@ positive v = go (suc v == 0) refl
     go false e = e
 
 -- a value is not the first one where it is above it
-not-first : (v : ℕ) → not_of (compared (λ a b. a == b) v 0) ≡ compared nat_lt 0 v
+not-first : (v : ℕ) → not_of (comparison_of (λ a b. a == b) v 0) ≡ comparison_of nat_lt 0 v
 not-first v = go (is_known v)
   where
     other : (v : ℕ) → not_of (truth (v == 0)) ≡ truth (nat_lt 0 v)
@@ -72,20 +72,20 @@ module _ (agent : Agent) (scope : Scope) where
   abbrev BecomesTrue : Term → Type 0
   BecomesTrue t =
       IsCountable agent → is_sort agent bool_sort ≡ true → 0 < sort_size agent bool_sort → term_fits agent t scope bool_sort ≡ true
-      → (cond_fits agent (is_true t) scope ≡ true) × ((vs : Values) (env : Env) → truth_of agent vs (is_true t) env ≡ compared nat_lt 0 (value_of agent vs t env))
+      → (cond_fits agent (is_true t) scope ≡ true) × ((vs : Values) (env : Env) → truth_of agent vs (is_true t) env ≡ comparison_of nat_lt 0 (value_of agent vs t env))
 
   abbrev zero_term : Term
   zero_term = term.Arg (Const 0)
 
   unequal-goes : (t : Term) → is_sort agent bool_sort ≡ true → 0 < sort_size agent bool_sort → term_fits agent t scope bool_sort ≡ true
       → (cond_fits agent (cond.Not (cond.Equal bool_sort t zero_term)) scope ≡ true)
-      × ((vs : Values) (env : Env) → truth_of agent vs (cond.Not (cond.Equal bool_sort t zero_term)) env ≡ compared nat_lt 0 (value_of agent vs t env))
+      × ((vs : Values) (env : Env) → truth_of agent vs (cond.Not (cond.Equal bool_sort t zero_term)) env ≡ comparison_of nat_lt 0 (value_of agent vs t env))
   unequal-goes t sorted some e = (
     by.fits-not agent (cond.Equal bool_sort t zero_term) scope ∙ by.fits-equal agent bool_sort t zero_term scope
         ∙ and_both (is_sort agent bool_sort && term_fits agent t scope bool_sort) (term_fits agent zero_term scope bool_sort) (and_both (is_sort agent bool_sort) (term_fits agent t scope bool_sort) sorted e)
         (by.fits-arg agent (Const 0) scope bool_sort ∙ lt-ltb 0 (sort_size agent bool_sort) some),
     λ vs env. by.truth-not agent vs (cond.Equal bool_sort t zero_term) env
-        ∙ ap not_of (by.truth-equal agent vs bool_sort t zero_term env ∙ ap (compared (λ a b. a == b) (value_of agent vs t env)) (by.value-arg agent vs (Const 0) env))
+        ∙ ap not_of (by.truth-equal agent vs bool_sort t zero_term env ∙ ap (comparison_of (λ a b. a == b) (value_of agent vs t env)) (by.value-arg agent vs (Const 0) env))
         ∙ not-first (value_of agent vs t env),
   )
 
@@ -95,7 +95,7 @@ module _ (agent : Agent) (scope : Scope) where
     fluent_case = λ fluent args countable sorted some e.
         let is : is_true (term.Fluent fluent args) ≡ cond.Is fluent args = ap (λ l. layer_is_true l (term.Fluent fluent args)) (term.outs-Fluent fluent args) in (
           ap (λ c. cond_fits agent c scope) is ∙ by.fits-is agent fluent args scope ∙ sym (by.fits-fluent agent fluent args scope bool_sort) ∙ e,
-          λ vs env. ap (λ c. truth_of agent vs c env) is ∙ by.truth-is agent vs fluent args env ∙ ap (compared nat_lt 0) (sym (by.value-fluent agent vs fluent args env)),
+          λ vs env. ap (λ c. truth_of agent vs c env) is ∙ by.truth-is agent vs fluent args env ∙ ap (comparison_of nat_lt 0) (sym (by.value-fluent agent vs fluent args env)),
         );
     shift_case = λ sort t amount h countable sorted some e.
         let u = term.Shift sort t amount in
@@ -126,7 +126,7 @@ module _ (agent : Agent) (scope : Scope) where
           let small : sort_size agent bool_sort ≤ 255 = sort_size-small agent bool_sort countable in (
             ap (λ c. cond_fits agent c scope) is ∙ by.fits-truth agent (nat_lt 0 c) scope,
             λ vs env. ap (λ c. truth_of agent vs c env) is ∙ by.truth-truth agent vs (nat_lt 0 c) env
-                ∙ sym (ap (λ b. if b then truth (nat_lt 0 c) else Unknown) (lt-ltb c 255 (omega arith))) ∙ ap (compared nat_lt 0) (sym (by.value-arg agent vs (Const c) env)),
+                ∙ sym (ap (λ b. if b then truth (nat_lt 0 c) else Unknown) (lt-ltb c 255 (omega arith))) ∙ ap (comparison_of nat_lt 0) (sym (by.value-arg agent vs (Const c) env)),
           )
       arg-true (Var x) countable sorted some e =
           let u = term.Arg (Var x) in
@@ -152,7 +152,7 @@ sets-more agent scope env set x sort c inside below = record { value = λ y s e.
 module _ (agent : Agent) (fits : WellFormed agent) (happened : Happened) (causes : List CauseItem) (vals : List ℕ) (happens : HappensIn agent happened vals) (effects : Effects agent happened causes) where
   -- the values after the action, each by the rule of the causes
   pub record Rules (vs ws : Values) : Type 0 where
-    pub rule : (f : ℕ) (fluent : Ground) → slice_get (ground_fluents agent) f ≡ Some fluent → slice_index ws f ≡ ruled agent vs causes (happened.action, vals) fluent (slice_index vs f)
+    pub rule : (f : ℕ) (fluent : Ground) → slice_get (ground_fluents agent) f ≡ Some fluent → slice_index ws f ≡ value_by_causes agent vs causes (happened.action, vals) fluent (slice_index vs f)
 
   abbrev pub Before : Scope → At
   Before scope vs ws env to = Rules vs ws × (to ≡ env) × (length env ≡ 32) × Sets agent scope env
@@ -177,7 +177,7 @@ module _ (agent : Agent) (fits : WellFormed agent) (happened : Happened) (causes
             let at = map (arg_value env) args in
             let stands = fluent-stands agent fluent i.item at i.is (args-within agent scope env h.3 i.item.args args k.1) in
             g.1 vs env h.2 h.3
-            ∙ ap (ruled agent vs causes (happened.action, vals) (fluent, at)) (by.value-fluent agent vs fluent args env)
+            ∙ ap (value_by_causes agent vs causes (happened.action, vals) (fluent, at)) (by.value-fluent agent vs fluent args env)
             ∙ sym (h.0.rule (fluent_no agent fluent at) (fluent, at) stands.stands)
             ∙ ap (λ v. fluent_value agent ws fluent (map (arg_value v) args)) (sym h.1),
       )
@@ -192,7 +192,7 @@ module _ (agent : Agent) (fits : WellFormed agent) (happened : Happened) (causes
   is-goes scope fluent args e =
       let g = fluent-goes scope fluent args bool_sort (sym (by.fits-is agent fluent args scope) ∙ e) in
       let t = becomes_true agent scope (chain agent happened causes fluent args) fits.countable bool_sorted bool_some g.0 in
-      (t.0, λ vs ws env to h. t.1 vs env ∙ ap (compared nat_lt 0) (g.1 vs ws env to h) ∙ sym (by.truth-is agent ws fluent args to))
+      (t.0, λ vs ws env to h. t.1 vs env ∙ ap (comparison_of nat_lt 0) (g.1 vs ws env to h) ∙ sym (by.truth-is agent ws fluent args to))
 
   body-goes : (scope : Scope) (x sort : ℕ) (c : Cond) → BackCond c → binder_fits agent x sort ≡ true → GoesBody agent scope scope (Before scope) x x sort c (cond_back agent happened causes c)
   body-goes scope x sort c h e = record {

@@ -10,7 +10,7 @@ use Rattle.golog_tree.specs.declared.cond.Cond.{Cond}
 use Rattle.golog_tree.specs.declared.cond.Term.TheVariants as term
 use Rattle.golog_tree.specs.declared.cond.Cond.TheVariants as cond
 use Rattle.golog_tree.specs.Ground.{sort_size}
-use Rattle.golog_semantics.specs.Truth.{Env, Values, truth, not_of, and_of, or_of, compared, shifted, chosen, arg_value, fluent_value, for_each, cond_step, term_step, truth_of, value_of}
+use Rattle.golog_semantics.specs.Truth.{Env, Values, truth, not_of, and_of, or_of, comparison_of, value_shifted, chosen, arg_value, fluent_value, for_each, cond_step, term_step, truth_of, value_of}
 use Rattle.golog_semantics.specs.Fits.{Scope, bound, bool_sort, arg_fits, fluent_fits, is_sort, is_range, binder_fits, cond_fits, term_fits}
 use Rattle.golog_semantics.specs.Fits as fits
 use Rattle.golog_semantics.proofs.CondByParts as conds
@@ -77,7 +77,7 @@ module _ (agent : Agent) where
     pub value-fluent : (fluent : ℕ) (args : List Arg) (env : Env) → value_of agent values (term.Fluent fluent args) env ≡ fluent_value agent values fluent (map (arg_value env) args)
     value-fluent fluent args env = ap (λ (f : V). f env) (conds.fold-fluent E V (cond_step agent values) (term_step agent values) fluent args)
 
-    pub value-shift : (sort : ℕ) (t : Term) (by : ℤ) (env : Env) → value_of agent values (term.Shift sort t by) env ≡ shifted (sort_size agent sort) (value_of agent values t env) by
+    pub value-shift : (sort : ℕ) (t : Term) (by : ℤ) (env : Env) → value_of agent values (term.Shift sort t by) env ≡ value_shifted (sort_size agent sort) (value_of agent values t env) by
     value-shift sort t by env = ap (λ (f : V). f env) (conds.fold-shift E V (cond_step agent values) (term_step agent values) sort t by)
 
     pub value-ite : (c : Cond) (t u : Term) (env : Env) → value_of agent values (term.Ite c t u) env ≡ chosen (truth_of agent values c env) (value_of agent values t env) (value_of agent values u env)
@@ -86,16 +86,16 @@ module _ (agent : Agent) where
     pub truth-truth : (b : Bool) (env : Env) → truth_of agent values (cond.Truth b) env ≡ truth b
     truth-truth b env = ap (λ (f : E). f env) (conds.fold-truth E V (cond_step agent values) (term_step agent values) b)
 
-    pub truth-is : (fluent : ℕ) (args : List Arg) (env : Env) → truth_of agent values (cond.Is fluent args) env ≡ compared nat_lt 0 (fluent_value agent values fluent (map (arg_value env) args))
+    pub truth-is : (fluent : ℕ) (args : List Arg) (env : Env) → truth_of agent values (cond.Is fluent args) env ≡ comparison_of nat_lt 0 (fluent_value agent values fluent (map (arg_value env) args))
     truth-is fluent args env = ap (λ (f : E). f env) (conds.fold-is E V (cond_step agent values) (term_step agent values) fluent args)
 
-    pub truth-equal : (sort : ℕ) (t u : Term) (env : Env) → truth_of agent values (cond.Equal sort t u) env ≡ compared (λ a b. a == b) (value_of agent values t env) (value_of agent values u env)
+    pub truth-equal : (sort : ℕ) (t u : Term) (env : Env) → truth_of agent values (cond.Equal sort t u) env ≡ comparison_of (λ a b. a == b) (value_of agent values t env) (value_of agent values u env)
     truth-equal sort t u env = ap (λ (f : E). f env) (conds.fold-equal E V (cond_step agent values) (term_step agent values) sort t u)
 
-    pub truth-less : (sort : ℕ) (t u : Term) (env : Env) → truth_of agent values (cond.Less sort t u) env ≡ compared nat_lt (value_of agent values t env) (value_of agent values u env)
+    pub truth-less : (sort : ℕ) (t u : Term) (env : Env) → truth_of agent values (cond.Less sort t u) env ≡ comparison_of nat_lt (value_of agent values t env) (value_of agent values u env)
     truth-less sort t u env = ap (λ (f : E). f env) (conds.fold-less E V (cond_step agent values) (term_step agent values) sort t u)
 
-    pub truth-at_most : (sort : ℕ) (t u : Term) (env : Env) → truth_of agent values (cond.AtMost sort t u) env ≡ compared nat_le (value_of agent values t env) (value_of agent values u env)
+    pub truth-at_most : (sort : ℕ) (t u : Term) (env : Env) → truth_of agent values (cond.AtMost sort t u) env ≡ comparison_of nat_le (value_of agent values t env) (value_of agent values u env)
     truth-at_most sort t u env = ap (λ (f : E). f env) (conds.fold-at_most E V (cond_step agent values) (term_step agent values) sort t u)
 
     pub truth-not : (c : Cond) (env : Env) → truth_of agent values (cond.Not c) env ≡ not_of (truth_of agent values c env)

@@ -20,7 +20,7 @@ use Rattle.golog_tree.specs.Ground.{AreWithin, Ground, action_args, args_at, flu
 use Rattle.golog_tree.proofs.Decoded.{args_at-get_or}
 use Rattle.golog_tree.proofs.Numbers.{length-all_from}
 use Rattle.golog_semantics.specs.Truth.{Values, chosen, env_of, truth_of}
-use Rattle.golog_semantics.specs.Values.{after_if, cause_for, caused, fluent_sort, matched, ruled}
+use Rattle.golog_semantics.specs.Values.{after_if, cause_for, value_caused, fluent_sort, matched_values, value_by_causes}
 use Rattle.golog_semantics.specs.Fits.{bound_from, is_sort}
 use Rattle.golog_semantics.specs.Written.{Wording, written_cond_step, written_term_step}
 use Rattle.golog_semantics.specs.WellFormed.{WellFormed, action_item_fits, are_sorts, is_device_no, cause_fits, cause_fits_for, effect_fits, head_sorts}
@@ -89,8 +89,8 @@ module _ (agent : Agent) (fits : WellFormed agent) where
       (λ values whole. record {
         rule = λ f fluent e.
             ap (λ o. slice_index (after_if agent values o) f) named
-            ∙ mapped-at (λ g. ruled agent values agent.causes (happened.action, vals) g.1 (slice_index values g.0)) 0 (ground_fluents agent) f fluent e
-            ∙ ap (λ n. ruled agent values agent.causes (happened.action, vals) fluent (slice_index values n)) (zero-add f);
+            ∙ mapped-at (λ g. value_by_causes agent values agent.causes (happened.action, vals) g.1 (slice_index values g.0)) 0 (ground_fluents agent) f fluent e
+            ∙ ap (λ n. value_by_causes agent values agent.causes (happened.action, vals) fluent (slice_index values n)) (zero-add f);
       })
     where
       happens : HappensIn agent happened vals
@@ -114,20 +114,20 @@ module _ (agent : Agent) (fits : WellFormed agent) where
   abbrev pub result_happened : Happened
   result_happened = record { action = 0; sorts = []; args = [] }
 
-  consts-matched : (vals at : List ℕ) → length vals ≡ length at → (matched (map Const vals) at [] ≡ None) ⊎ (vals ≡ at)
+  consts-matched : (vals at : List ℕ) → length vals ≡ length at → (matched_values (map Const vals) at [] ≡ None) ⊎ (vals ≡ at)
   consts-matched [] [] l = inr refl
   consts-matched [] (a ∷ at) l = absurd (omega arith)
   consts-matched (v ∷ vals) [] l = absurd (omega arith)
   consts-matched (v ∷ vals) (a ∷ at) l = go (v == a) refl (consts-matched vals at (omega arith))
     where
-      go : (b : Bool) → (v == a) ≡ b → (matched (map Const vals) at [] ≡ None) ⊎ (vals ≡ at) → ((if v == a then matched (map Const vals) at [] else None) ≡ None) ⊎ (v ∷ vals ≡ a ∷ at)
-      go true e (inl k) = inl (ap (λ b. if b then matched (map Const vals) at [] else None) e ∙ k)
+      go : (b : Bool) → (v == a) ≡ b → (matched_values (map Const vals) at [] ≡ None) ⊎ (vals ≡ at) → ((if v == a then matched_values (map Const vals) at [] else None) ≡ None) ⊎ (v ∷ vals ≡ a ∷ at)
+      go true e (inl k) = inl (ap (λ b. if b then matched_values (map Const vals) at [] else None) e ∙ k)
       go true e (inr k) = let h : v ≡ a = eqb-true v a e in inr (λ i. h i ∷ k i)
-      go false e r = inl (ap (λ b. if b then matched (map Const vals) at [] else None) e)
+      go false e r = inl (ap (λ b. if b then matched_values (map Const vals) at [] else None) e)
 
-  consts-self : (vals : List ℕ) → matched (map Const vals) vals [] ≡ Some []
+  consts-self : (vals : List ℕ) → matched_values (map Const vals) vals [] ≡ Some []
   consts-self [] = refl
-  consts-self (v ∷ vals) = ap (λ b. if b then matched (map Const vals) vals [] else None) (eq-eqb v v refl) ∙ consts-self vals
+  consts-self (v ∷ vals) = ap (λ b. if b then matched_values (map Const vals) vals [] else None) (eq-eqb v v refl) ∙ consts-self vals
 
   consts-head : (sorts vals : List ℕ) → AreWithin (sizes agent sorts) vals → head_sorts agent sorts (map Const vals) [] ≡ Some []
   consts-head [] [] w = refl
@@ -162,21 +162,21 @@ module _ (agent : Agent) (fits : WellFormed agent) where
     )
 
     abbrev Goal : Values → ℕ → Ground → Type 0
-    Goal values f at = slice_index (slice_set values number value) f ≡ ruled agent values (cause ∷ []) (0, []) at (slice_index values f)
+    Goal values f at = slice_index (slice_set values number value) f ≡ value_by_causes agent values (cause ∷ []) (0, []) at (slice_index values f)
 
-    caused-none : (values : Values) (at : Ground) (old : ℕ) → cause_for cause (0, []) at ≡ None → ruled agent values (cause ∷ []) (0, []) at old ≡ old
-    caused-none values at old e = ap (λ o. caused agent values cause o old) e
+    caused-none : (values : Values) (at : Ground) (old : ℕ) → cause_for cause (0, []) at ≡ None → value_by_causes agent values (cause ∷ []) (0, []) at old ≡ old
+    caused-none values at old e = ap (λ o. value_caused agent values cause o old) e
 
-    caused-here : (values : Values) (old : ℕ) → ruled agent values (cause ∷ []) (0, []) (fluent, vals) old ≡ value
+    caused-here : (values : Values) (old : ℕ) → value_by_causes agent values (cause ∷ []) (0, []) (fluent, vals) old ≡ value
     caused-here values old =
-        ap (λ o. caused agent values cause o old) (ap (λ b. if b then matched (map Const vals) vals [] else None) (eq-eqb fluent fluent refl) ∙ consts-self vals)
+        ap (λ o. value_caused agent values cause o old) (ap (λ b. if b then matched_values (map Const vals) vals [] else None) (eq-eqb fluent fluent refl) ∙ consts-self vals)
         ∙ (λ i. chosen (by.truth-truth agent values true (env_of []) i) (by.value-arg agent values (Const value) (env_of []) i) old)
 
     result-here : (values : Values) → length values ≡ length (ground_fluents agent) → number < length (ground_fluents agent) → (at : Ground) → slice_get (ground_fluents agent) number ≡ Some at → Goal values number at
     result-here values whole inside at e =
         get_or-set_same values number value 0 (subst (λ n. number < n) (sym whole) inside)
         ∙ sym (caused-here values (slice_index values number))
-        ∙ ap (λ g. ruled agent values (cause ∷ []) (0, []) g (slice_index values number)) (some-same (fluent, vals) at (sym named ∙ e))
+        ∙ ap (λ g. value_by_causes agent values (cause ∷ []) (0, []) g (slice_index values number)) (some-same (fluent, vals) at (sym named ∙ e))
 
     result-away : (values : Values) (f : ℕ) (at : Ground) → slice_get (ground_fluents agent) f ≡ Some at → (f == number) ≡ false → Goal values f at
     result-away values f at e other =
@@ -194,7 +194,7 @@ module _ (agent : Agent) (fits : WellFormed agent) where
             sym (within-length agent (args_at (fluent_args agent) fluent) vals within)
             ∙ ap (λ n. length (args_at (fluent_args agent) n)) (sym there) ∙ within-length agent (args_at (fluent_args agent) s.at) at.1 s.within
 
-        none : (b : Bool) → (fluent == at.0) ≡ b → (if b then matched (map Const vals) at.1 [] else None) ≡ None
+        none : (b : Bool) → (fluent == at.0) ≡ b → (if b then matched_values (map Const vals) at.1 [] else None) ≡ None
         none false g = refl
         none true g =
             let same = eqb-true fluent at.0 g in

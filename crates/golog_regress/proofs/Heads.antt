@@ -15,8 +15,8 @@ use Rattle.golog_tree.specs.declared.cond.Term.TheVariants as term
 use Rattle.golog_tree.specs.declared.cond.Cond.TheVariants as cond
 use Rattle.golog_tree.specs.Ground.{IsCountable, sort_size}
 use Rattle.golog_tree.proofs.Decoded.{sort_size-small}
-use Rattle.golog_semantics.specs.Truth.{Env, Values, is_known, truth, both, and_of, compared, arg_value, truth_of}
-use Rattle.golog_semantics.specs.Values.{matched}
+use Rattle.golog_semantics.specs.Truth.{Env, Values, is_known, truth, both, and_of, comparison_of, arg_value, truth_of}
+use Rattle.golog_semantics.specs.Values.{matched_values}
 use Rattle.golog_semantics.specs.Fits.{Scope, arg_fits, args_fit, is_sort, cond_fits}
 use Rattle.golog_semantics.specs.WellFormed.{head_sorts}
 use Rattle.golog_semantics.proofs.CausesKeep.{chosen-some, chosen-true}
@@ -116,7 +116,7 @@ module _ (agent : Agent) where
     Plain t = (t ≡ Yes) ⊎ (t ≡ No)
 
     equal-is : (env : Env) → Sets agent scope env → (s : ℕ) (one to : Arg) → arg_fits agent scope s one ≡ true → arg_fits agent scope s to ≡ true
-        → compared (λ a b. a == b) (arg_value env one) (arg_value env to) ≡ truth (arg_value env one == arg_value env to)
+        → comparison_of (λ a b. a == b) (arg_value env one) (arg_value env to) ≡ truth (arg_value env one == arg_value env to)
     equal-is env set s one to e h =
         ap (λ b. if b then truth (arg_value env one == arg_value env to) else Unknown)
         (and_both (is_known (arg_value env one)) (is_known (arg_value env to)) (known env set s one e) (known env set s to h))
@@ -148,7 +148,7 @@ module _ (agent : Agent) where
               ∙ and-last (map (λ t. truth_of agent vs t env) tests) (truth_of agent vs test env)
               ∙ ap (both (truth_of_all vs env tests))
               (by.truth-equal agent vs s (term.Arg one) (term.Arg to) env
-              ∙ (λ i. compared (λ a b. a == b) (by.value-arg agent vs one env i) (by.value-arg agent vs to env i))
+              ∙ (λ i. comparison_of (λ a b. a == b) (by.value-arg agent vs one env i) (by.value-arg agent vs to env i))
               ∙ equal-is env set s one to e h),
         )
 
@@ -173,7 +173,7 @@ module _ (agent : Agent) where
         ⊎ ((truth_of_all vs env m.tests ≡ No) × (hit env ≡ None)))
 
     abbrev hits : List Arg → List Arg → Images → Env → Option (List ℕ)
-    hits head given found env = matched head (map (arg_value env) given) (map (arg_value env) found)
+    hits head given found env = matched_values head (map (arg_value env) given) (map (arg_value env) found)
 
     outcome-by : (hit other : Env → Option (List ℕ)) (tests : List Cond) (all : List ℕ) → ((env : Env) → hit env ≡ other env) → (o : Option Matched) → Outcome other tests all o → Outcome hit tests all o
     outcome-by hit other tests all same None h = λ env. same env ∙ h env
@@ -238,7 +238,7 @@ module _ (agent : Agent) where
       free : is_next found arg ≡ true → (env : Env) → whole_hit env ≡ hits head given (found ++ to ∷ []) env
       free n env =
           matched-free arg head (arg_value env to) (map (arg_value env) given) (map (arg_value env) found) (next-is found env arg ∙ n)
-          ∙ ap (matched head (map (arg_value env) given)) (sym (map-last (arg_value env) found to))
+          ∙ ap (matched_values head (map (arg_value env) given)) (sym (map-last (arg_value env) found to))
 
       fixed : is_next found arg ≡ false → (env : Env) → whole_hit env ≡ (if arg_value env (image found arg) == arg_value env to then hits head given found env else None)
       fixed n env =

@@ -16,7 +16,7 @@ use Rattle.golog_tree.specs.declared.cond.Cond.{Cond}
 use Rattle.golog_tree.specs.declared.cond.Term.TheVariants as term
 use Rattle.golog_tree.specs.declared.cond.Cond.TheVariants as cond
 use Rattle.golog_tree.specs.declared.cond.Cond.TheFolds.{fold-Term}
-use Rattle.golog_semantics.specs.Truth.{Env, Values, env_of, arg_value, fluent_value, compared}
+use Rattle.golog_semantics.specs.Truth.{Env, Values, env_of, arg_value, fluent_value, comparison_of}
 use Rattle.golog_semantics.specs.Fits.{Scope, bound, bool_sort, arg_fits, args_fit, fluent_fits, is_sort, is_range, binder_fits}
 use Rattle.golog_semantics.specs.Written.{Wording, is_written_cond, written_cond_step, written_term_step, written_sides, is_amount}
 use Rattle.golog_semantics.proofs.CondByParts as conds
@@ -229,7 +229,7 @@ module _ (agent : Agent) where
     is-goes : (fluent : ℕ) (args : List Arg) → GoesCond agent old new (Images-at images) (cond.Is fluent args) (cond.Is fluent (map (image images) args))
     is-goes fluent args e = (
       by.fits-is agent fluent (map (image images) args) new ∙ fluent-fits old new images is bool_sort fluent args (sym (by.fits-is agent fluent args old) ∙ e),
-      λ vs ws env to h. by.truth-is agent vs fluent (map (image images) args) env ∙ ap (compared nat_lt 0) (values-go vs ws env to h fluent args) ∙ sym (by.truth-is agent ws fluent args to),
+      λ vs ws env to h. by.truth-is agent vs fluent (map (image images) args) env ∙ ap (comparison_of nat_lt 0) (values-go vs ws env to h fluent args) ∙ sym (by.truth-is agent ws fluent args to),
     )
 
     truth-goes : (b : Bool) → GoesCond agent old new (Images-at images) (cond.Truth b) (cond.Truth b)

@@ -17,7 +17,7 @@ use Rattle.golog_tree.specs.declared.cond.Cond.{Cond}
 use Rattle.golog_tree.specs.declared.cond.Term.TheVariants as term
 use Rattle.golog_tree.specs.Ground.{AreWithin, IsCountable, sizes, sort_size}
 use Rattle.golog_semantics.specs.Truth.{Env, Values, truth, both, and_of, chosen, arg_value, truth_of, value_of}
-use Rattle.golog_semantics.specs.Values.{matched, cause_for, caused, ruled}
+use Rattle.golog_semantics.specs.Values.{matched_values, cause_for, value_caused, value_by_causes}
 use Rattle.golog_semantics.specs.Fits.{Scope, bound_from, arg_fits, args_fit, is_sort, cond_fits, term_fits}
 use Rattle.golog_semantics.specs.Written.{is_written_cond, is_written_term}
 use Rattle.golog_semantics.specs.WellFormed.{head_sorts, effect_fits}
@@ -171,8 +171,8 @@ module _ (agent : Agent) (countable : IsCountable agent) (scope : Scope) where
     layered-goes : (hit : Env → Option (List ℕ)) (o : Option Matched) → Outcome agent countable scope hit [] all o
         → (term_fits agent (layered cause o later) scope sort ≡ true)
         × ((vs : Values) (env : Env) → length env ≡ 32 → Sets agent scope env
-        → value_of agent vs (layered cause o later) env ≡ caused agent vs cause (hit env) (value_of agent vs later env))
-    layered-goes hit None h = (later_fits, λ vs env l set. ap (λ o. caused agent vs cause o (value_of agent vs later env)) (sym (h env)))
+        → value_of agent vs (layered cause o later) env ≡ value_caused agent vs cause (hit env) (value_of agent vs later env))
+    layered-goes hit None h = (later_fits, λ vs env l set. ap (λ o. value_caused agent vs cause o (value_of agent vs later env)) (sym (h env)))
     layered-goes hit (Some m) h =
         let is = imaged all m.found h.0 in
         let written : is_written_cond agent cause.cond (length m.found) ≡ true =
@@ -191,9 +191,9 @@ module _ (agent : Agent) (countable : IsCountable agent) (scope : Scope) where
               ∙ elim (h.2 vs env set) [
                 | inl k ↦ ap (λ g. chosen (both g (truth_of agent vs cond_there env)) value old) k.0
                     ∙ (λ i. chosen (c.1 vs vs env there (refl, l, refl) i) (t.1 vs vs env there (refl, l, refl) i) old)
-                    ∙ ap (λ o. caused agent vs cause o old) (sym k.1)
+                    ∙ ap (λ o. value_caused agent vs cause o old) (sym k.1)
                 | inr k ↦ ap (λ g. chosen (both g (truth_of agent vs cond_there env)) value old) k.0
-                    ∙ ap (λ o. caused agent vs cause o old) (sym k.1)
+                    ∙ ap (λ o. value_caused agent vs cause o old) (sym k.1)
               ],
         )
 
@@ -221,7 +221,7 @@ module _ (agent : Agent) (countable : IsCountable agent) (scope : Scope) where
     Goes causes t =
         (term_fits agent t scope item.sort ≡ true)
         × ((vs : Values) (env : Env) → length env ≡ 32 → Sets agent scope env
-        → value_of agent vs t env ≡ ruled agent vs causes (happened.action, vals) (fluent, map (arg_value env) args) (value_of agent vs (term.Fluent fluent args) env))
+        → value_of agent vs t env ≡ value_by_causes agent vs causes (happened.action, vals) (fluent, map (arg_value env) args) (value_of agent vs (term.Fluent fluent args) env))
 
     all_sorted : list_all (is_sort agent) (happened.sorts ++ item.args) ≡ true
     all_sorted = list_all-append (is_sort agent) happened.sorts item.args ∙ and_both (list_all (is_sort agent) happened.sorts) (list_all (is_sort agent) item.args) happens.sorts sorted
@@ -241,26 +241,26 @@ module _ (agent : Agent) (countable : IsCountable agent) (scope : Scope) where
       head = cause.action_args ++ cause.fluent_args
 
       abbrev later_is : Values → Env → ℕ
-      later_is vs env = ruled agent vs causes (happened.action, vals) (fluent, map (arg_value env) args) (value_of agent vs (term.Fluent fluent args) env)
+      later_is vs env = value_by_causes agent vs causes (happened.action, vals) (fluent, map (arg_value env) args) (value_of agent vs (term.Fluent fluent args) env)
 
       for-both : (env : Env) (b : Bool) → (cause.action == happened.action && cause.fluent == fluent) ≡ b
-          → cause_for cause (happened.action, vals) (fluent, map (arg_value env) args) ≡ (if b then matched head (vals ++ map (arg_value env) args) [] else None)
-      for-both env b e = ap (λ b. if b then matched head (vals ++ map (arg_value env) args) [] else None) e
+          → cause_for cause (happened.action, vals) (fluent, map (arg_value env) args) ≡ (if b then matched_values head (vals ++ map (arg_value env) args) [] else None)
+      for-both env b e = ap (λ b. if b then matched_values head (vals ++ map (arg_value env) args) [] else None) e
 
       chain-by : (b : Bool) → (cause.action == happened.action && cause.fluent == fluent) ≡ b
           → Goes (cause ∷ causes) (if b then layer cause (sorts_of agent happened fluent) (happened.args ++ args) (chain agent happened causes fluent args) else chain agent happened causes fluent args)
-      chain-by false e = (rest.0, λ vs env l set. rest.1 vs env l set ∙ ap (λ o. caused agent vs cause o (later_is vs env)) (sym (for-both env false e)))
+      chain-by false e = (rest.0, λ vs env l set. rest.1 vs env l set ∙ ap (λ o. value_caused agent vs cause o (later_is vs env)) (sym (for-both env false e)))
       chain-by true e =
           let tests = and_cases (cause.action == happened.action) (cause.fluent == fluent) e in
           let is_effect = effect tests.0 (ap (slice_get agent.fluents) (eqb-true cause.fluent fluent tests.1) ∙ is) in
-          let hit = λ (env : Env). matched head (map (arg_value env) (happened.args ++ args)) [] in
+          let hit = λ (env : Env). matched_values head (map (arg_value env) (happened.args ++ args)) [] in
           let matched_are = matches agent countable scope (happened.sorts ++ item.args) head (happened.args ++ args) [] [] [] is_effect.all all_sorted is_effect.head given_fit refl refl in
           let g = layered-goes cause is_effect.all item.sort is_effect.fits (chain agent happened causes fluent args) rest.0 hit (matching (happened.sorts ++ item.args) head (happened.args ++ args) [] []) matched_are in
           subst (λ ss. Goes (cause ∷ causes) (layer cause ss (happened.args ++ args) (chain agent happened causes fluent args))) (sym sorts_are) (
             g.0,
             λ vs env l set. g.1 vs env l set
-                ∙ (λ i. caused agent vs cause (matched head (given_are env i) []) (rest.1 vs env l set i))
-                ∙ ap (λ o. caused agent vs cause o (later_is vs env)) (sym (for-both env true e)),
+                ∙ (λ i. value_caused agent vs cause (matched_values head (given_are env i) []) (rest.1 vs env l set i))
+                ∙ ap (λ o. value_caused agent vs cause o (later_is vs env)) (sym (for-both env true e)),
           )
 
     pub chain_goes : (causes : List CauseItem) → Effects agent happened causes → Goes causes (chain agent happened causes fluent args)

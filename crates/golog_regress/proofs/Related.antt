@@ -8,7 +8,7 @@ use Rattle.golog_tree.specs.declared.cond.Cond.{Cond}
 use Rattle.golog_tree.specs.declared.cond.Term.TheVariants as term
 use Rattle.golog_tree.specs.declared.cond.Cond.TheVariants as cond
 use Rattle.golog_tree.specs.Ground.{sort_size}
-use Rattle.golog_semantics.specs.Truth.{Env, Values, not_of, and_of, or_of, compared, shifted, chosen, truth_of, value_of}
+use Rattle.golog_semantics.specs.Truth.{Env, Values, not_of, and_of, or_of, comparison_of, value_shifted, chosen, truth_of, value_of}
 use Rattle.golog_semantics.specs.Fits.{Scope, bound, is_sort, is_range, binder_fits, cond_fits, term_fits}
 use Rattle.golog_semantics.proofs.ByParts.{OfEach}
 use Rattle.golog_semantics.proofs.Tests.{and_both, and_cases}
@@ -51,7 +51,7 @@ module _ (agent : Agent) where
         let k = and_cases (sort == own && is_range agent own) (term_fits agent t old own) (sym (by.fits-shift agent sort t amount old own) ∙ e) in
         let r = g own k.1 in (
           by.fits-shift agent sort u amount new own ∙ and_both (sort == own && is_range agent own) (term_fits agent u new own) k.0 r.0,
-          λ vs ws env to h. by.value-shift agent vs sort u amount env ∙ ap (λ v. shifted (sort_size agent sort) v amount) (r.1 vs ws env to h) ∙ sym (by.value-shift agent ws sort t amount to),
+          λ vs ws env to h. by.value-shift agent vs sort u amount env ∙ ap (λ v. value_shifted (sort_size agent sort) v amount) (r.1 vs ws env to h) ∙ sym (by.value-shift agent ws sort t amount to),
         )
 
     pub goes-ite : (c d : Cond) (t t' u u' : Term) → GoesCond c d → GoesTerm t t' → GoesTerm u u' → GoesTerm (term.Ite c t u) (term.Ite d t' u')
@@ -79,7 +79,7 @@ module _ (agent : Agent) where
         let s = h sort k.1 in (
           by.fits-equal agent sort t' u' new
               ∙ and_both (is_sort agent sort && term_fits agent t' new sort) (term_fits agent u' new sort) (and_both (is_sort agent sort) (term_fits agent t' new sort) j.0 r.0) s.0,
-          λ vs ws env to h. by.truth-equal agent vs sort t' u' env ∙ (λ i. compared (λ a b. a == b) (r.1 vs ws env to h i) (s.1 vs ws env to h i)) ∙ sym (by.truth-equal agent ws sort t u to),
+          λ vs ws env to h. by.truth-equal agent vs sort t' u' env ∙ (λ i. comparison_of (λ a b. a == b) (r.1 vs ws env to h i) (s.1 vs ws env to h i)) ∙ sym (by.truth-equal agent ws sort t u to),
         )
 
     pub goes-less : (sort : ℕ) (t t' u u' : Term) → GoesTerm t t' → GoesTerm u u' → GoesCond (cond.Less sort t u) (cond.Less sort t' u')
@@ -90,7 +90,7 @@ module _ (agent : Agent) where
         let s = h sort k.1 in (
           by.fits-less agent sort t' u' new
               ∙ and_both (is_range agent sort && term_fits agent t' new sort) (term_fits agent u' new sort) (and_both (is_range agent sort) (term_fits agent t' new sort) j.0 r.0) s.0,
-          λ vs ws env to h. by.truth-less agent vs sort t' u' env ∙ (λ i. compared nat_lt (r.1 vs ws env to h i) (s.1 vs ws env to h i)) ∙ sym (by.truth-less agent ws sort t u to),
+          λ vs ws env to h. by.truth-less agent vs sort t' u' env ∙ (λ i. comparison_of nat_lt (r.1 vs ws env to h i) (s.1 vs ws env to h i)) ∙ sym (by.truth-less agent ws sort t u to),
         )
 
     pub goes-at_most : (sort : ℕ) (t t' u u' : Term) → GoesTerm t t' → GoesTerm u u' → GoesCond (cond.AtMost sort t u) (cond.AtMost sort t' u')
@@ -101,7 +101,7 @@ module _ (agent : Agent) where
         let s = h sort k.1 in (
           by.fits-at_most agent sort t' u' new
               ∙ and_both (is_range agent sort && term_fits agent t' new sort) (term_fits agent u' new sort) (and_both (is_range agent sort) (term_fits agent t' new sort) j.0 r.0) s.0,
-          λ vs ws env to h. by.truth-at_most agent vs sort t' u' env ∙ (λ i. compared nat_le (r.1 vs ws env to h i) (s.1 vs ws env to h i)) ∙ sym (by.truth-at_most agent ws sort t u to),
+          λ vs ws env to h. by.truth-at_most agent vs sort t' u' env ∙ (λ i. comparison_of nat_le (r.1 vs ws env to h i) (s.1 vs ws env to h i)) ∙ sym (by.truth-at_most agent ws sort t u to),
         )
 
     goes-each : (f : Cond → Cond) (cs : List Cond) → OfEach (λ c. GoesCond c (f c)) cs → list_all (λ (test : A). test old) (map (cond_fits agent) cs) ≡ true

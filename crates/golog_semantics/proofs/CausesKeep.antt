@@ -11,7 +11,7 @@ use Rattle.golog_tree.specs.declared.cond.Arg.{Arg}
 use Rattle.golog_tree.specs.declared.cond.Arg.TheVariants.{Const, Var}
 use Rattle.golog_tree.specs.Ground.{AreWithin, fluent_args, sizes, sort_size}
 use Rattle.golog_semantics.specs.Truth.{Values, env_of, value_of}
-use Rattle.golog_semantics.specs.Values.{matched}
+use Rattle.golog_semantics.specs.Values.{matched_values}
 use Rattle.golog_semantics.specs.Fits.{bound_from, term_fits, cond_fits}
 use Rattle.golog_semantics.specs.Written.{is_written_term, is_written_cond}
 use Rattle.golog_semantics.specs.WellFormed.{WellFormed, head_sorts, effect_fits, cause_fits_for, cause_fits}
@@ -62,25 +62,25 @@ module _ (agent : Agent) where
 
   -- what the variables of a head are matched with is of their sorts
   head-fit : (ss : List ℕ) (args : List Arg) (fs vars vs found result : List ℕ) → AreWithin (sizes agent ss) vs → AreWithin (sizes agent fs) found
-      → head_sorts agent ss args fs ≡ Some vars → matched args vs found ≡ Some result → AreWithin (sizes agent vars) result
+      → head_sorts agent ss args fs ≡ Some vars → matched_values args vs found ≡ Some result → AreWithin (sizes agent vars) result
   head-fit [] [] fs vars vs found result w v h k = subst (λ x. AreWithin (sizes agent x) result) (some-same fs vars h) (subst (AreWithin (sizes agent fs)) (some-same found result k) v)
   head-fit [] (arg ∷ args) fs vars vs found result w v h k = absurd (cc)
   head-fit (s ∷ ss) [] fs vars vs found result w v h k = absurd (cc)
   head-fit (s ∷ ss) (arg ∷ args) fs vars [] found result w v h k = elim w [ ]
   head-fit (s ∷ ss) (Const c ∷ args) fs vars (x ∷ vs) found result w v h k =
-      head-fit ss args fs vars vs found result w.1 v (chosen-some (nat_lt c (sort_size agent s)) (head_sorts agent ss args fs) vars h) (chosen-some (c == x) (matched args vs found) result k)
+      head-fit ss args fs vars vs found result w.1 v (chosen-some (nat_lt c (sort_size agent s)) (head_sorts agent ss args fs) vars h) (chosen-some (c == x) (matched_values args vs found) result k)
   head-fit (s ∷ ss) (Var y ∷ args) fs vars (x ∷ vs) found result w v h k =
-      go (y == length fs) h (subst (λ n. (if y == n then matched args vs (found ++ x ∷ []) else (if slice_index found y == x then matched args vs found else None)) ≡ Some result) (sym (within-length fs found v)) k)
+      go (y == length fs) h (subst (λ n. (if y == n then matched_values args vs (found ++ x ∷ []) else (if slice_index found y == x then matched_values args vs found else None)) ≡ Some result) (sym (within-length fs found v)) k)
       (head-fit ss args (fs ++ s ∷ []) vars vs (found ++ x ∷ []) result w.1 (within-append fs (s ∷ []) found (x ∷ []) v (w.0, tt)))
       (head-fit ss args fs vars vs found result w.1 v)
     where
       go : (b : Bool) → (if b then head_sorts agent ss args (fs ++ s ∷ []) else (if option_map_or (λ own. own == s) (slice_get fs y) false then head_sorts agent ss args fs else None)) ≡ Some vars
-          → (if b then matched args vs (found ++ x ∷ []) else (if slice_index found y == x then matched args vs found else None)) ≡ Some result
-          → (head_sorts agent ss args (fs ++ s ∷ []) ≡ Some vars → matched args vs (found ++ x ∷ []) ≡ Some result → AreWithin (sizes agent vars) result)
-          → (head_sorts agent ss args fs ≡ Some vars → matched args vs found ≡ Some result → AreWithin (sizes agent vars) result)
+          → (if b then matched_values args vs (found ++ x ∷ []) else (if slice_index found y == x then matched_values args vs found else None)) ≡ Some result
+          → (head_sorts agent ss args (fs ++ s ∷ []) ≡ Some vars → matched_values args vs (found ++ x ∷ []) ≡ Some result → AreWithin (sizes agent vars) result)
+          → (head_sorts agent ss args fs ≡ Some vars → matched_values args vs found ≡ Some result → AreWithin (sizes agent vars) result)
           → AreWithin (sizes agent vars) result
       go true f g new old = new f g
-      go false f g new old = old (chosen-some (option_map_or (λ own. own == s) (slice_get fs y) false) (head_sorts agent ss args fs) vars f) (chosen-some (slice_index found y == x) (matched args vs found) result g)
+      go false f g new old = old (chosen-some (option_map_or (λ own. own == s) (slice_get fs y) false) (head_sorts agent ss args fs) vars f) (chosen-some (slice_index found y == x) (matched_values args vs found) result g)
 
   -- a bound variable, by its place among those that are bound
   pub record BoundAt (n x sort : ℕ) (found : List ℕ) : Type 0 where
@@ -123,8 +123,8 @@ module _ (agent : Agent) where
         let b = has (cause_fits_for agent cause a.item) (slice_get agent.fluents cause.fluent) a.passes in
         let c = has (effect_fits agent cause b.item.sort) (head_sorts agent (a.item.args ++ b.item.args) (cause.action_args ++ cause.fluent_args) []) b.passes in
         let test = cause.action == at.0 && cause.fluent == fluent.0 in
-        let hit : test ≡ true = chosen-true test (matched (cause.action_args ++ cause.fluent_args) (at.1 ++ fluent.1) []) found e in
-        let match : matched (cause.action_args ++ cause.fluent_args) (at.1 ++ fluent.1) [] ≡ Some found = chosen-some test (matched (cause.action_args ++ cause.fluent_args) (at.1 ++ fluent.1) []) found e in
+        let hit : test ≡ true = chosen-true test (matched_values (cause.action_args ++ cause.fluent_args) (at.1 ++ fluent.1) []) found e in
+        let match : matched_values (cause.action_args ++ cause.fluent_args) (at.1 ++ fluent.1) [] ≡ Some found = chosen-some test (matched_values (cause.action_args ++ cause.fluent_args) (at.1 ++ fluent.1) []) found e in
         let action_same : cause.action ≡ at.0 = eqb-true cause.action at.0 (and-left (cause.action == at.0) (cause.fluent == fluent.0) hit) in
         let fluent_same : cause.fluent ≡ fluent.0 = eqb-true cause.fluent fluent.0 (and-right (cause.action == at.0) (cause.fluent == fluent.0) hit) in
         let action_item : slice_get agent.actions at.0 ≡ Some a.item = ap (slice_get agent.actions) (sym action_same) ∙ a.is in

@@ -11,7 +11,7 @@ use Rattle.golog_tree.specs.declared.prog.Label.TheVariants.{Quiet, Do as Doing}
 use Rattle.golog_tree.specs.Ground.{Ground, ground_actions}
 use Rattle.golog_semantics.specs.declared.journal.Entry.{Entry}
 use Rattle.golog_semantics.specs.declared.journal.Entry.TheVariants.{Do}
-use Rattle.golog_semantics.specs.Journal.{Journal, action_item, sensed, is_carried_by, command_at, commands}
+use Rattle.golog_semantics.specs.Journal.{Journal, action_item, fluent_sensed, is_carried_by, command_at, commands}
 use Rattle.golog_semantics.specs.Online.{is_result}
 use Rattle.golog_semantics.specs.Reports.{fits_label}
 use Rattle.golog_semantics.proofs.Words.{and-left, and-right}
@@ -62,7 +62,7 @@ module _ (agent : Agent) where
     pub place_is : place ≡ first + at
     pub inside : at < length journal
     pub is : slice_get journal at ≡ Some (Do action)
-    pub senses : sensed agent action ≡ Some fluent
+    pub senses : fluent_sensed agent action ≡ Some fluent
 
   later : (first : ℕ) (e : Entry) (journal : Journal) (place fluent : ℕ) → Answers (first + 1) journal place fluent → Answers first (e ∷ journal) place fluent
   later first e journal place fluent a = record {
@@ -93,7 +93,7 @@ module _ (agent : Agent) where
         place_is = sym (eqb-true first place (and-left (first == place) _ k)) ∙ sym (add-zero first);
         inside = omega arith;
         is = refl;
-        senses = senses-it fluent (sensed agent action) (and-right (first == place) _ k);
+        senses = senses-it fluent (fluent_sensed agent action) (and-right (first == place) _ k);
       }
       go false k = later first (Do action) journal place fluent (rest (rw k at h))
 

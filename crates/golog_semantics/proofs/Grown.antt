@@ -11,7 +11,7 @@ use Rattle.std.proofs.lemmas.List.{append-nil}
 use Rattle.golog_tree.specs.declared.agent.Agent.{Agent}
 use Rattle.golog_semantics.specs.declared.journal.Entry.{Entry}
 use Rattle.golog_semantics.specs.declared.journal.PlacedRun.{PlacedRun}
-use Rattle.golog_semantics.specs.Journal.{Journal, Command, command_at, commands, is_posted_by, posted, is_close, is_end, is_counted, count, limit, last_of, is_result_of, is_outstanding, outstanding_commands, is_rest_after, is_sensing}
+use Rattle.golog_semantics.specs.Journal.{Journal, Command, command_at, commands, is_posted_by, entries_by, is_close, is_end, is_counted, count, limit, last_of, is_result_of, is_outstanding, outstanding_commands, is_rest_after, is_sensing}
 use Rattle.golog_semantics.specs.Text.{at_each, line_text, with_line_feed, report_text}
 use Rattle.golog_semantics.specs.Online.{fault_at, first_fault, IsOnlineSoFar}
 use Rattle.golog_semantics.specs.OneMore.{and_then, with_runs, EntriesGrow, PostsGrow, ProgressGrows, new_command, CommandsGrow, ReportGrows}
@@ -82,8 +82,8 @@ module _ (journal : Journal) (e : Entry) where
   }
 
   module _ (device : ℕ) where
-    pub posted-push : posted device (and_then journal e) ≡ posted device journal ++ (if is_posted_by device e then e ∷ [] else [])
-    posted-push = filter-append (is_posted_by device) journal (e ∷ []) ∙ ap (λ es. posted device journal ++ es) (filter-one (is_posted_by device) e)
+    pub posted-push : entries_by device (and_then journal e) ≡ entries_by device journal ++ (if is_posted_by device e then e ∷ [] else [])
+    posted-push = filter-append (is_posted_by device) journal (e ∷ []) ∙ ap (λ es. entries_by device journal ++ es) (filter-one (is_posted_by device) e)
 
     any-if : {A : Type 0} (p : A → Bool) (xs : List A) (b : Bool) (x : A) → not (list_any p (xs ++ (if b then x ∷ [] else []))) ≡ (not (list_any p xs) && not (b && p x))
     any-if p xs true x = ap not (any-push p xs x) ∙ de_morgan (list_any p xs) (p x)
@@ -92,7 +92,7 @@ module _ (journal : Journal) (e : Entry) where
     pub posts_grow : PostsGrow journal e device
     posts_grow = record {
       all = posted-push;
-      open_still = ap (λ es. not (list_any is_close es)) posted-push ∙ any-if is_close (posted device journal) (is_posted_by device e) e;
+      open_still = ap (λ es. not (list_any is_close es)) posted-push ∙ any-if is_close (entries_by device journal) (is_posted_by device e) e;
     }
 
 module _ (agent : Agent) (journal : Journal) (e : Entry) where
@@ -129,7 +129,7 @@ module _ (agent : Agent) (journal : Journal) (e : Entry) where
       each = outstanding-each;
       waiting = outstanding-push;
       rest = ap (λ es. option_map_or (is_rest_after (length (commands agent device (and_then journal e)))) (last_of es) false) (posted-push journal e device)
-          ∙ last-if (is_rest_after (length (commands agent device (and_then journal e)))) (posted device journal) (is_posted_by device e);
+          ∙ last-if (is_rest_after (length (commands agent device (and_then journal e)))) (entries_by device journal) (is_posted_by device e);
     }
 
   module _ (runs : List PlacedRun) where

@@ -14,7 +14,7 @@ use Rattle.golog_semantics.specs.declared.journal.PlacedRun.{PlacedRun}
 use Rattle.golog_semantics.specs.Truth.{env_of, arg_value}
 use Rattle.golog_semantics.specs.Values.{fluent_sort}
 use Rattle.golog_semantics.specs.Ways.{is_empty}
-use Rattle.golog_semantics.specs.Journal.{Journal, sensed, sensed_by, outstanding_commands}
+use Rattle.golog_semantics.specs.Journal.{Journal, fluent_sensed, sensed_by, outstanding_commands}
 use Rattle.golog_semantics.specs.Fits.{bound_from, args_fit}
 use Rattle.golog_semantics.specs.WellFormed.{WellFormed, sense_fits, sense_fits_for}
 use Rattle.golog_semantics.specs.Text.{at_each}
@@ -73,7 +73,7 @@ module _ (agent : Agent) (fits : WellFormed agent) where
   sensed-at action fluent None e h = absurd (cc)
   sensed-at action fluent (Some at) e h = sensed-item action at fluent (find (λ item. item.action == at.0) agent.senses) e refl h
 
-  sensed-inside : (action fluent : ℕ) → sensed agent action ≡ Some fluent → fluent < length (ground_fluents agent)
+  sensed-inside : (action fluent : ℕ) → fluent_sensed agent action ≡ Some fluent → fluent < length (ground_fluents agent)
   sensed-inside action fluent h = sensed-at action fluent (slice_get (ground_actions agent) action) refl h
 
   module _ (runs : List PlacedRun) where
@@ -98,7 +98,7 @@ module _ (agent : Agent) (fits : WellFormed agent) where
         let first = slice_get (outstanding_commands agent d before) 0 in
         let below = nat_lt value (sort_size agent (fluent_sort agent fluent)) in
         let c = has (is_result agent before place fluent) first (and-left (option_map_or (is_result agent before place fluent) first false) below kept) in
-        let senses = senses-it agent fluent (sensed agent c.item.action) (and-right (c.item.place == place) (option_map_or (λ f. f == fluent) (sensed agent c.item.action) false) c.passes) in (
+        let senses = senses-it agent fluent (fluent_sensed agent c.item.action) (and-right (c.item.place == place) (option_map_or (λ f. f == fluent) (fluent_sensed agent c.item.action) false) c.passes) in (
           and-both (nat_lt fluent (length (ground_fluents agent))) below (lt-ltb fluent (length (ground_fluents agent)) (sensed-inside c.item.action fluent senses))
               (and-right (option_map_or (is_result agent before place fluent) first false) below kept),
           results-from (before ++ Sense d place fluent value ∷ []) entries (later before (Sense d place fluent value) entries h),

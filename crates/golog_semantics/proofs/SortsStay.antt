@@ -14,7 +14,7 @@ use Rattle.golog_tree.specs.Ground.{Ground, sort_size, ground_actions, ground_fl
 use Rattle.golog_semantics.specs.declared.journal.Entry.{Entry}
 use Rattle.golog_semantics.specs.declared.journal.Entry.TheVariants.{Do, Test, Exo, Sense, Rest, Close, End}
 use Rattle.golog_semantics.specs.Truth.{Values, unknown, chosen}
-use Rattle.golog_semantics.specs.Values.{fluent_sort, cause_for, caused, ruled, after_if, after_do}
+use Rattle.golog_semantics.specs.Values.{fluent_sort, cause_for, value_caused, value_by_causes, after_if, after_do}
 use Rattle.golog_semantics.specs.Journal.{Journal}
 use Rattle.golog_semantics.specs.Progress.{after_entry}
 use Rattle.golog_semantics.specs.Reports.{is_value}
@@ -82,11 +82,11 @@ module _ (agent : Agent) where
 
   module _ (keeps : (cause : CauseItem) → Among agent.causes cause → KeepsSorts agent cause) where
     module _ (values : Values) (sorts : AreInSorts agent values) (action : ℕ) (at : Ground) (ours : slice_get (ground_actions agent) action ≡ Some at) (f : ℕ) (fluent : Ground) (is : slice_get (ground_fluents agent) f ≡ Some fluent) where
-      caused-of : (cause : CauseItem) → Among agent.causes cause → (o : Option (List ℕ)) → cause_for cause at fluent ≡ o → (later : ℕ) → IsOf agent (fluent_sort agent f) later → IsOf agent (fluent_sort agent f) (caused agent values cause o later)
+      caused-of : (cause : CauseItem) → Among agent.causes cause → (o : Option (List ℕ)) → cause_for cause at fluent ≡ o → (later : ℕ) → IsOf agent (fluent_sort agent f) later → IsOf agent (fluent_sort agent f) (value_caused agent values cause o later)
       caused-of cause among None e later h = h
       caused-of cause among (Some found) e later h = chosen-of (fluent_sort agent f) _ _ _ (keeps cause among values sorts action at ours f fluent is found e) h
 
-      ruled-of : (causes : List CauseItem) → ((c : CauseItem) → Among causes c → Among agent.causes c) → (old : ℕ) → IsOf agent (fluent_sort agent f) old → IsOf agent (fluent_sort agent f) (ruled agent values causes at fluent old)
+      ruled-of : (causes : List CauseItem) → ((c : CauseItem) → Among causes c → Among agent.causes c) → (old : ℕ) → IsOf agent (fluent_sort agent f) old → IsOf agent (fluent_sort agent f) (value_by_causes agent values causes at fluent old)
       ruled-of [] among old h = h
       ruled-of (c ∷ causes) among old h = caused-of c (among c (inl refl)) (cause_for c at fluent) refl _ (ruled-of causes (λ d k. among d (inr k)) old h)
 
@@ -96,8 +96,8 @@ module _ (agent : Agent) where
       whole = count;
       sorted = λ f h.
           let r = has_at (ground_fluents agent) f (subst (λ n. f < n) count h) in
-          subst (IsOf agent (fluent_sort agent f)) (sym (mapped-at (λ g. ruled agent values agent.causes at g.1 (slice_index values g.0)) 0 (ground_fluents agent) f r.item r.is))
-          (subst (λ n. IsOf agent (fluent_sort agent f) (ruled agent values agent.causes at r.item (slice_index values n))) (sym (zero-add f))
+          subst (IsOf agent (fluent_sort agent f)) (sym (mapped-at (λ g. value_by_causes agent values agent.causes at g.1 (slice_index values g.0)) 0 (ground_fluents agent) f r.item r.is))
+          (subst (λ n. IsOf agent (fluent_sort agent f) (value_by_causes agent values agent.causes at r.item (slice_index values n))) (sym (zero-add f))
           (ruled-of values sorts action at e f r.item r.is agent.causes (λ c k. k) (slice_index values f) (sorts.sorted f (subst (λ n. f < n) (sym sorts.whole) (subst (λ n. f < n) count h)))));
     }
       where

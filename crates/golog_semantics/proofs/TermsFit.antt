@@ -14,7 +14,7 @@ use Rattle.golog_tree.specs.declared.cond.Cond.TheOpen.{Term-F, Arg as ArgTerm, 
 use Rattle.golog_tree.specs.declared.cond.Cond.TheViews.{roll-Term}
 use Rattle.golog_tree.specs.declared.cond.Cond.TheFolds.{ind-Term, map-Term, fold-roll-Term}
 use Rattle.golog_tree.specs.Ground.{AreWithin, fluent_no, ground_fluents, sizes, sort_size}
-use Rattle.golog_semantics.specs.Truth.{Env, Values, unknown, is_known, moved, shifted, arg_value, truth_of, value_of, term_step}
+use Rattle.golog_semantics.specs.Truth.{Env, Values, unknown, is_known, value_moved, value_shifted, arg_value, truth_of, value_of, term_step}
 use Rattle.golog_semantics.specs.Values.{fluent_sort}
 use Rattle.golog_semantics.specs.Fits.{Scope, arg_fits, args_fit, fluent_fits, is_range, term_fits, cond_fits}
 use Rattle.golog_semantics.specs.Fits as fits
@@ -76,18 +76,18 @@ module _ (agent : Agent) (values : Values) (sorts : AreInSorts agent values) whe
       let same : fluent_sort agent number ≡ sort = stands.sorted ∙ eqb-true item.sort sort (and-left (item.sort == sort) (args_fit agent scope item.args args) h) in
       subst (λ s. IsOf agent s (slice_index values number)) same (sorts.sorted number (subst (λ n. number < n) (sym sorts.whole) inside))
 
-  moved-below : (size v : ℕ) (by : ℤ) → v < size → moved size v by < size
+  moved-below : (size v : ℕ) (by : ℤ) → v < size → value_moved size v by < size
   moved-below size v (pos n) h = omega arith
   moved-below size v (negsuc n) h = omega arith
 
-  shifted-of : (sort v : ℕ) (by : ℤ) → IsOf agent sort v → IsOf agent sort (shifted (sort_size agent sort) v by)
+  shifted-of : (sort v : ℕ) (by : ℤ) → IsOf agent sort v → IsOf agent sort (value_shifted (sort_size agent sort) v by)
   shifted-of sort v by h = go (is_known v) refl
     where
-      go : (b : Bool) → is_known v ≡ b → IsOf agent sort (if b then moved (sort_size agent sort) v by else unknown)
+      go : (b : Bool) → is_known v ≡ b → IsOf agent sort (if b then value_moved (sort_size agent sort) v by else unknown)
       go false e = unknown-of agent sort
       go true e =
           let known : v < unknown = ltb-true v unknown e in
-          of-below sort (moved (sort_size agent sort) v by) (moved-below (sort_size agent sort) v by (ltb-true v (sort_size agent sort) (or-known (nat_lt v (sort_size agent sort)) (v == unknown) h (different v known))))
+          of-below sort (value_moved (sort_size agent sort) v by) (moved-below (sort_size agent sort) v by (ltb-true v (sort_size agent sort) (or-known (nat_lt v (sort_size agent sort)) (v == unknown) h (different v known))))
 
   abbrev SomeCond : Type 0
   SomeCond = (c : Cond) × Unit {0}
@@ -114,7 +114,7 @@ module _ (agent : Agent) (values : Values) (sorts : AreInSorts agent values) whe
   term_layer (Shift own t by) scope sort env h typed =
       let both = and-left (own == sort && is_range agent sort) (term_fits agent t.0 scope sort) h in
       let same : own ≡ sort = eqb-true own sort (and-left (own == sort) (is_range agent sort) both) in
-      subst (λ s. IsOf agent sort (shifted (sort_size agent s) (value_of agent values t.0 env) by)) (sym same)
+      subst (λ s. IsOf agent sort (value_shifted (sort_size agent s) (value_of agent values t.0 env) by)) (sym same)
       (shifted-of sort (value_of agent values t.0 env) by (t.1 scope sort env (and-right (own == sort && is_range agent sort) (term_fits agent t.0 scope sort) h) typed))
   term_layer (Ite c one other) scope sort env h typed =
       let first = and-left (cond_fits agent c.0 scope && term_fits agent one.0 scope sort) (term_fits agent other.0 scope sort) h in

@@ -10,9 +10,9 @@ use Rattle.golog_semantics.specs.declared.journal.Item.{Item}
 use Rattle.golog_semantics.specs.declared.journal.Item.TheVariants as item
 use Rattle.golog_semantics.specs.declared.journal.Reason.{Reason}
 use Rattle.golog_semantics.specs.declared.journal.Reason.TheVariants.{Ended, Bad, Full, Late, Stopped, Refused}
-use Rattle.golog_semantics.specs.Journal.{Journal, Command, sensed, is_sensing, commands, posted}
+use Rattle.golog_semantics.specs.Journal.{Journal, Command, fluent_sensed, is_sensing, commands, entries_by}
 use Rattle.golog_semantics.specs.Text.{Text, at_each, action_text, value_text}
-use Rattle.golog_semantics.specs.Posts.{awaited, is_bad}
+use Rattle.golog_semantics.specs.Posts.{awaited_command, is_bad}
 use Rattle.golog_semantics.specs.Inline.{posted_action, posted_value}
 
 -- an action's text that was served, and whether an answer was asked for
@@ -68,7 +68,7 @@ module _ (agent : Agent) (device : ℕ) where
 
   -- the device's items that stand in the journal, in order
   abbrev pub items : Journal → List Told
-  items journal = flat_map item_of (posted device journal)
+  items journal = flat_map item_of (entries_by device journal)
 
   -- how a command is served
   abbrev pub service : Command → Service
@@ -82,7 +82,7 @@ module _ (agent : Agent) (device : ℕ) where
   abbrev pub last_sensed : Journal → ℕ → Option ℕ
   last_sensed journal taken =
       let last = slice_get (commands agent device journal) (taken - 1) in
-      option_map_or (λ (c : Command). sensed agent c.action) last None
+      option_map_or (λ (c : Command). fluent_sensed agent c.action) last None
 
   -- what the device's last item is posted as, or its silence
   abbrev pub told_item : Journal → ℕ → List Told → Item
@@ -94,7 +94,7 @@ module _ (agent : Agent) (device : ℕ) where
 
   -- one item that does not stand in the journal, or silence where a result was awaited
   abbrev pub IsLost : Journal → ℕ → List Told → Type 0
-  IsLost before taken [] = IsSome (awaited agent before device taken)
+  IsLost before taken [] = IsSome (awaited_command agent before device taken)
   IsLost before taken (TellsClose ∷ told) = ⊥
   IsLost before taken (t ∷ told) = told ≡ []
 
@@ -121,9 +121,9 @@ module _ (agent : Agent) (device : ℕ) where
   -- a device at rest is not asked for more before its next command
   abbrev pub wakes : Journal → Entry → Bool
   wakes before (Exo poster action) =
-      if poster == device then list_all (rests_before before) (posted device before) else true
+      if poster == device then list_all (rests_before before) (entries_by device before) else true
   wakes before (Rest poster taken) =
-      if poster == device then list_all (rests_before before) (posted device before) else true
+      if poster == device then list_all (rests_before before) (entries_by device before) else true
   wakes before _ = true
 
   -- the device was given its commands and told its items, until it was closed for this reason

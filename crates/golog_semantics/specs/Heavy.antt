@@ -23,8 +23,8 @@ pub record Reached : Type 0 where
   pub is_higher : Bool
 
 -- a block that is reached
-abbrev pub reached : ℕ → ℕ → Prog → Bool → List Reached
-reached depth fuel body higher =
+abbrev pub block_reached : ℕ → ℕ → Prog → Bool → List Reached
+block_reached depth fuel body higher =
     record { block = record { depth = depth; fuel = fuel; body = body }; is_higher = higher } ∷ []
 
 module _ (agent : Agent) (values : Values) where
@@ -45,9 +45,9 @@ module _ (agent : Agent) (values : Values) where
   blocks_step blocks higher (Prio p q) = blocks true p ++ blocks higher q
   blocks_step blocks higher (Cstar p) = blocks higher p
   blocks_step blocks higher (Call item args) = blocks higher (body_of agent item args)
-  blocks_step blocks higher (Search depth fuel p) = reached depth fuel p higher
+  blocks_step blocks higher (Search depth fuel p) = block_reached depth fuel p higher
   blocks_step blocks higher (Follow depth fuel p rest) =
-      if is_kept agent values p rest then [] else reached depth fuel p higher
+      if is_kept agent values p rest then [] else block_reached depth fuel p higher
 
   -- the blocks at the front, looking at most so deep into parts and calls
   abbrev pub blocks_to : ℕ → Bool → Prog → List Reached

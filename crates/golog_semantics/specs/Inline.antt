@@ -15,7 +15,7 @@ use Rattle.golog_tree.specs.Ground.{sort_size}
 use Rattle.golog_semantics.specs.Values.{ground_actions, fluent_sort}
 use Rattle.golog_semantics.specs.Same.{same_values}
 use Rattle.golog_semantics.specs.Blocks.{moves}
-use Rattle.golog_semantics.specs.Journal.{Journal, Command, sensed, commands, is_open, is_at_rest, has_end}
+use Rattle.golog_semantics.specs.Journal.{Journal, Command, fluent_sensed, commands, is_open, is_at_rest, has_end}
 use Rattle.golog_semantics.specs.Progress.{values_after, left_after}
 use Rattle.golog_semantics.specs.Answer.{answer_after}
 use Rattle.golog_semantics.specs.Text.{Text, action_text, value_text}
@@ -40,20 +40,20 @@ round_limit = 200000
 
 module _ (agent : Agent) where
   -- the number, among so many, whose text these bytes are
-  abbrev pub spelled : (ℕ → Text) → ℕ → Text → Option ℕ
-  spelled text count bytes = find (λ n. same_values (text n) bytes) (range_with_len 0 count)
+  abbrev pub number_of_text : (ℕ → Text) → ℕ → Text → Option ℕ
+  number_of_text text count bytes = find (λ n. same_values (text n) bytes) (range_with_len 0 count)
 
   -- what the text of an action is posted as
   abbrev pub posted_action : Text → Item
   posted_action bytes =
       let count = length (ground_actions agent) in
-      option_map_or item.Exo (spelled (action_text agent) count bytes) item.Unreadable
+      option_map_or item.Exo (number_of_text (action_text agent) count bytes) item.Unreadable
 
   -- what the text of an answer is posted as
   abbrev pub posted_value : ℕ → Text → Item
   posted_value fluent bytes =
       let count = sort_size agent (fluent_sort agent fluent) in
-      option_map_or item.Value (spelled (value_text agent fluent) count bytes) item.Unreadable
+      option_map_or item.Value (number_of_text (value_text agent fluent) count bytes) item.Unreadable
 
   -- what the text of an idle item is posted as
   abbrev pub idle_item : Text → Item
@@ -72,9 +72,9 @@ module _ (agent : Agent) where
     answering d fluent (a ∷ answers) = posting (record d { answers = answers }) (posted_value fluent a)
 
     -- a command is served; only a sensing one is answered
-    abbrev pub served : Scripted → Option ℕ → Journal × Scripted
-    served d None = (journal, d)
-    served d (Some fluent) = answering d fluent d.answers
+    abbrev pub after_service : Scripted → Option ℕ → Journal × Scripted
+    after_service d None = (journal, d)
+    after_service d (Some fluent) = answering d fluent d.answers
 
     -- without a command the next idle item is posted; a device with none left closes
     abbrev pub idling : Scripted → List Text → Journal × Scripted
@@ -83,7 +83,7 @@ module _ (agent : Agent) where
 
     -- a turn, by the next command, where there is one
     abbrev pub turn_by : Scripted → Option Command → Journal × Scripted
-    turn_by d (Some c) = served (record d { taken = d.taken + 1 }) (sensed agent c.action)
+    turn_by d (Some c) = after_service (record d { taken = d.taken + 1 }) (fluent_sensed agent c.action)
     turn_by d None =
         if has_end journal then posting d item.Stop
         else (if is_at_rest agent journal device then (journal, d) else idling d d.idle)
@@ -121,12 +121,12 @@ module _ (agent : Agent) where
       option_map_or (λ a. journal ++ End a ∷ []) (answer_after agent journal) (step_by journal steps)
 
   -- after the devices, the program has its turn
-  abbrev pub led : Journal × List Scripted → Stage
-  led (journal, ds) = record { journal = lead journal; devices = ds }
+  abbrev pub after_lead : Journal × List Scripted → Stage
+  after_lead (journal, ds) = record { journal = lead journal; devices = ds }
 
   -- one turn of each open device, and then one of the program
   abbrev pub round : Stage → Stage
-  round s = led (turns_from 0 s.journal s.devices)
+  round s = after_lead (turns_from 0 s.journal s.devices)
 
   -- so many rounds
   abbrev pub rounds : ℕ → Stage → Stage

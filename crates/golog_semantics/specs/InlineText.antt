@@ -14,19 +14,19 @@ use Rattle.golog_semantics.specs.Inline.{Scripted, inline_journal}
 use Rattle.golog_semantics.specs.Dealt.{Script}
 
 -- a run at its place, where there is one
-abbrev pub placed : ℕ → Option (List Label) → List PlacedRun
-placed place None = []
-placed place (Some labels) = record { place = place; labels = labels } ∷ []
+abbrev pub placed_run : ℕ → Option (List Label) → List PlacedRun
+placed_run place None = []
+placed_run place (Some labels) = record { place = place; labels = labels } ∷ []
 
 -- a device that has taken no command yet
-abbrev pub scripted : Script → Scripted
-scripted script = record { answers = script.answers; idle = script.idle; taken = 0 }
+abbrev pub new_scripted : Script → Scripted
+new_scripted script = record { answers = script.answers; idle = script.idle; taken = 0 }
 
 module _ (agent : Agent) where
   -- the run that begins with the entry after these
   abbrev pub run_after : Journal → Entry → List PlacedRun
   run_after before e =
-      placed (length before) (run_begun agent before (values_after agent before) (left_after agent before) e)
+      placed_run (length before) (run_begun agent before (values_after agent before) (left_after agent before) e)
 
   -- the runs that the steps of a journal begin
   abbrev pub begun_runs : Journal → List PlacedRun
@@ -38,7 +38,7 @@ module _ (agent : Agent) where
 
   -- the report of a run inline with these scripts, one for each device
   abbrev pub inline_report : List Script → Report
-  inline_report scripts = report_of (inline_journal agent (map scripted scripts))
+  inline_report scripts = report_of (inline_journal agent (map new_scripted scripts))
 
   -- its text
   abbrev pub inline_text : List Script → Text

@@ -49,15 +49,15 @@ module _ (agent : Agent) where
   sensed_by (action, args) item = fluent_no agent item.fluent (map (arg_value (env_of args)) item.args)
 
   -- the ground fluent whose value the result of an action tells
-  abbrev pub sensed : ℕ → Option ℕ
-  sensed action =
+  abbrev pub fluent_sensed : ℕ → Option ℕ
+  fluent_sensed action =
       let item_for = λ (at : Ground). find (λ item. item.action == at.0) agent.senses in
       let at_action = slice_get (ground_actions agent) action in
       option_and_then (λ at. option_map (sensed_by at) (item_for at)) at_action
 
   -- a device answers the action with a value
   abbrev pub is_sensing : ℕ → Bool
-  is_sensing action = is_some (sensed action)
+  is_sensing action = is_some (fluent_sensed action)
 
   -- the program goes on only after the result of this action
   abbrev pub is_held : ℕ → Bool
@@ -91,8 +91,8 @@ abbrev pub is_posted_by : ℕ → Entry → Bool
 is_posted_by device entry = option_map_or (λ p. p == device) (poster_of entry) false
 
 -- the entries of a device, in order
-abbrev pub posted : ℕ → Journal → Journal
-posted device journal = filter (is_posted_by device) journal
+abbrev pub entries_by : ℕ → Journal → Journal
+entries_by device journal = filter (is_posted_by device) journal
 
 -- the entry closes a device
 abbrev pub is_close : Entry → Bool
@@ -110,7 +110,7 @@ has_end journal = list_any is_end journal
 
 -- a device is open until it is closed
 abbrev pub is_open : ℕ → Journal → Bool
-is_open device journal = not (list_any is_close (posted device journal))
+is_open device journal = not (list_any is_close (entries_by device journal))
 
 -- counted entries are all but those that close a device or end the program
 abbrev pub is_counted : Entry → Bool
@@ -170,7 +170,7 @@ module _ (agent : Agent) where
   abbrev pub is_at_rest : Journal → ℕ → Bool
   is_at_rest journal device =
       let rests = is_rest_after (length (commands agent device journal)) in
-      option_map_or rests (last_of (posted device journal)) false
+      option_map_or rests (last_of (entries_by device journal)) false
 
   -- each device is closed or at rest
   abbrev pub is_quiet : Journal → Bool

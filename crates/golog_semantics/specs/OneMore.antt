@@ -7,7 +7,7 @@ use Rattle.golog_tree.specs.declared.prog.Label.{Label}
 use Rattle.golog_semantics.specs.declared.journal.Entry.{Entry}
 use Rattle.golog_semantics.specs.declared.journal.PlacedRun.{PlacedRun}
 use Rattle.golog_semantics.specs.declared.journal.Report.{Report}
-use Rattle.golog_semantics.specs.Journal.{Journal, Command, command_at, commands, is_posted_by, posted, is_open, is_close, has_end, is_end, is_counted, count, is_full, last_of, is_result_of, is_outstanding, outstanding_commands, is_rest_after, is_at_rest, is_settled, is_quiet}
+use Rattle.golog_semantics.specs.Journal.{Journal, Command, command_at, commands, is_posted_by, entries_by, is_open, is_close, has_end, is_end, is_counted, count, is_full, last_of, is_result_of, is_outstanding, outstanding_commands, is_rest_after, is_at_rest, is_settled, is_quiet}
 use Rattle.golog_semantics.specs.Progress.{after_entry, values_after, left_at, left_after}
 use Rattle.golog_semantics.specs.Answer.{is_unanswered}
 use Rattle.golog_semantics.specs.Text.{run_at, line_text, with_line_feed, report_text}
@@ -32,7 +32,7 @@ module _ (journal : Journal) (e : Entry) where
   -- what a device has posted, and whether it is open
   pub record PostsGrow (device : ℕ) : Type 0 where
     pub all :
-        posted device and_then ≡ posted device journal ++ (if is_posted_by device e then e ∷ [] else [])
+        entries_by device and_then ≡ entries_by device journal ++ (if is_posted_by device e then e ∷ [] else [])
     pub open_still :
         is_open device and_then ≡ (is_open device journal && not (is_posted_by device e && is_close e))
 
@@ -62,7 +62,7 @@ module _ (agent : Agent) (journal : Journal) (e : Entry) where
     pub rest : is_at_rest agent (and_then journal e) device
         ≡ (let taken = length (commands agent device (and_then journal e)) in
         if is_posted_by device e then is_rest_after taken e
-        else option_map_or (is_rest_after taken) (last_of (posted device journal)) false)
+        else option_map_or (is_rest_after taken) (last_of (entries_by device journal)) false)
 
   -- the faults, whether it is online so far, and the text
   pub record ReportGrows (runs : List PlacedRun) : Type 0 where

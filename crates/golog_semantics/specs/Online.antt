@@ -32,7 +32,7 @@ use Rattle.golog_semantics.specs.Search.{final, nest_limit}
 use Rattle.golog_semantics.specs.Blocks.{moves}
 use Rattle.golog_semantics.specs.Heavy.{heavy}
 use Rattle.golog_semantics.specs.Same.{same_code, same_label, same_run, same_values}
-use Rattle.golog_semantics.specs.Journal.{Journal, Command, devices, may_post, sensed, commands, is_outstanding, outstanding_commands, poster_of, posted, is_close, has_end, is_open, count, limit, is_full, is_settled}
+use Rattle.golog_semantics.specs.Journal.{Journal, Command, devices, may_post, fluent_sensed, commands, is_outstanding, outstanding_commands, poster_of, entries_by, is_close, has_end, is_open, count, limit, is_full, is_settled}
 use Rattle.golog_semantics.specs.Progress.{values_after, left_after}
 use Rattle.golog_semantics.specs.Answer.{is_unanswered, answer_at}
 use Rattle.golog_semantics.specs.Text.{Text, at_each, run_at, line_text}
@@ -69,7 +69,7 @@ module _ (agent : Agent) (before : Journal) where
   -- the command at a place, and the fluent that it senses
   abbrev pub is_result : ℕ → ℕ → Command → Bool
   is_result place fluent c =
-      c.place == place && option_map_or (λ f. f == fluent) (sensed agent c.action) false
+      c.place == place && option_map_or (λ f. f == fluent) (fluent_sensed agent c.action) false
 
   -- a result is that of the first outstanding command of its device, and a constant of the fluent's sort
   abbrev pub keeps_place : Entry → Bool
@@ -89,7 +89,7 @@ module _ (agent : Agent) (before : Journal) where
   abbrev pub may_have_taken : ℕ → ℕ → Bool
   may_have_taken device taken =
       nat_le taken (length (commands agent device before))
-      && list_all (λ e. nat_le (told_taken e) taken) (posted device before)
+      && list_all (λ e. nat_le (told_taken e) taken) (entries_by device before)
 
   -- the commands taken are some of the device's, and no fewer than it had taken before; at a Rest, the
   -- results of those taken have come
@@ -153,7 +153,7 @@ module _ (agent : Agent) (before : Journal) where
   may_close device taken Late = has_end before
   may_close device taken Stopped = has_end before && taken == length (commands agent device before)
   may_close device taken Refused =
-      taken == 0 && is_empty (posted device before) && is_empty (commands agent device before)
+      taken == 0 && is_empty (entries_by device before) && is_empty (commands agent device before)
 
   -- a device is closed for a reason that may be
   abbrev pub keeps_close : Entry → Bool

@@ -10,7 +10,7 @@ use Rattle.golog_semantics.specs.declared.journal.Reason.{Reason}
 use Rattle.golog_semantics.specs.declared.journal.Reason.TheVariants as reason
 use Rattle.golog_tree.specs.Ground.{sort_size}
 use Rattle.golog_semantics.specs.Values.{fluent_sort}
-use Rattle.golog_semantics.specs.Journal.{Journal, Command, may_post, sensed, commands, is_outstanding, has_end, is_full}
+use Rattle.golog_semantics.specs.Journal.{Journal, Command, may_post, fluent_sensed, commands, is_outstanding, has_end, is_full}
 
 module _ (agent : Agent) (journal : Journal) (device taken : ℕ) where
   -- this command, where its result is still to come
@@ -19,13 +19,13 @@ module _ (agent : Agent) (journal : Journal) (device taken : ℕ) where
   awaited_by (Some c) = if is_outstanding agent journal c then Some c else None
 
   -- the last command taken, where its result is still to come
-  abbrev pub awaited : Option Command
-  awaited = if taken == 0 then None else awaited_by (slice_get (commands agent device journal) (taken - 1))
+  abbrev pub awaited_command : Option Command
+  awaited_command = if taken == 0 then None else awaited_by (slice_get (commands agent device journal) (taken - 1))
 
   -- a constant of the sort of the fluent that the command senses
   abbrev pub is_value_for : ℕ → Command → Bool
   is_value_for value c =
-      option_map_or (λ f. nat_lt value (sort_size agent (fluent_sort agent f))) (sensed agent c.action) false
+      option_map_or (λ f. nat_lt value (sort_size agent (fluent_sort agent f))) (fluent_sensed agent c.action) false
 
   -- The item is not one that the device may post now: it cannot be read, or nothing came; it is an action
   -- that is not declared for the device; it is a value that no command awaits, or of another sort; or a
@@ -33,9 +33,9 @@ module _ (agent : Agent) (journal : Journal) (device taken : ℕ) where
   abbrev pub is_bad : Item → Bool
   is_bad Unreadable = true
   is_bad Silent = true
-  is_bad (Exo action) = not (may_post agent device action) || is_some awaited
-  is_bad (Value value) = not (option_map_or (is_value_for value) awaited false)
-  is_bad _ = is_some awaited
+  is_bad (Exo action) = not (may_post agent device action) || is_some awaited_command
+  is_bad (Value value) = not (option_map_or (is_value_for value) awaited_command false)
+  is_bad _ = is_some awaited_command
 
   -- why an item other than an end of the device is refused
   abbrev pub later_reason : Item → Option Reason
@@ -52,12 +52,12 @@ module _ (agent : Agent) (journal : Journal) (device taken : ℕ) where
 
   -- the entry for a result of the command
   abbrev pub result_of : ℕ → Command → Entry
-  result_of value c = entry.Sense device c.place (option_map_or (λ f. f) (sensed agent c.action) 0) value
+  result_of value c = entry.Sense device c.place (option_map_or (λ f. f) (fluent_sensed agent c.action) 0) value
 
   -- the entry for an item that is not refused
   abbrev pub entry_of : Item → Entry
   entry_of (Exo action) = entry.Exo device action
-  entry_of (Value value) = option_map_or (result_of value) awaited (entry.Rest device taken)
+  entry_of (Value value) = option_map_or (result_of value) awaited_command (entry.Rest device taken)
   entry_of _ = entry.Rest device taken
 
   -- the entry for an item, or the Close in its place

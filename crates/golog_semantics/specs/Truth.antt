@@ -71,17 +71,17 @@ or_of [] = No
 or_of (t ∷ ts) = either t (or_of ts)
 
 -- a comparison, which is unknown where a side is
-abbrev pub compared : (ℕ → ℕ → Bool) → ℕ → ℕ → Truth
-compared test one other = if is_known one && is_known other then truth (test one other) else Unknown
+abbrev pub comparison_of : (ℕ → ℕ → Bool) → ℕ → ℕ → Truth
+comparison_of test one other = if is_known one && is_known other then truth (test one other) else Unknown
 
 -- a value moved within its sort, stopping at its ends
-abbrev pub moved : ℕ → ℕ → ℤ → ℕ
-moved size v (pos n) = min (v + n) (size - 1)
-moved size v (negsuc n) = v - suc n
+abbrev pub value_moved : ℕ → ℕ → ℤ → ℕ
+value_moved size v (pos n) = min (v + n) (size - 1)
+value_moved size v (negsuc n) = v - suc n
 
 -- a value that is known, moved; else unknown
-abbrev pub shifted : ℕ → ℕ → ℤ → ℕ
-shifted size v by = if is_known v then moved size v by else unknown
+abbrev pub value_shifted : ℕ → ℕ → ℤ → ℕ
+value_shifted size v by = if is_known v then value_moved size v by else unknown
 
 -- one value or the other by a truth; where it is unknown, the constant that both are
 abbrev pub chosen : Truth → ℕ → ℕ → ℕ
@@ -110,7 +110,7 @@ for_each agent body env var sort = map (λ c. body (slice_set env var c)) (const
 abbrev pub term_step : Agent → Values → Term-F (Env → Truth) (Env → ℕ) → Env → ℕ
 term_step agent values (ArgTerm arg) env = arg_value env arg
 term_step agent values (Fluent fluent args) env = fluent_value agent values fluent (map (arg_value env) args)
-term_step agent values (Shift sort term by) env = shifted (sort_size agent sort) (term env) by
+term_step agent values (Shift sort term by) env = value_shifted (sort_size agent sort) (term env) by
 term_step agent values (Ite cond one other) env = chosen (cond env) (one env) (other env)
 
 -- the truth of a condition, given that of its parts; `some` and `all` are `or` and `and` over the sort's
@@ -118,10 +118,10 @@ term_step agent values (Ite cond one other) env = chosen (cond env) (one env) (o
 abbrev pub cond_step : Agent → Values → Cond-F (Env → Truth) (Env → ℕ) → Env → Truth
 cond_step agent values (Plain b) env = truth b
 cond_step agent values (Is fluent args) env =
-    compared nat_lt 0 (fluent_value agent values fluent (map (arg_value env) args))
-cond_step agent values (Equal sort one other) env = compared (λ a b. a == b) (one env) (other env)
-cond_step agent values (Less sort one other) env = compared nat_lt (one env) (other env)
-cond_step agent values (AtMost sort one other) env = compared nat_le (one env) (other env)
+    comparison_of nat_lt 0 (fluent_value agent values fluent (map (arg_value env) args))
+cond_step agent values (Equal sort one other) env = comparison_of (λ a b. a == b) (one env) (other env)
+cond_step agent values (Less sort one other) env = comparison_of nat_lt (one env) (other env)
+cond_step agent values (AtMost sort one other) env = comparison_of nat_le (one env) (other env)
 cond_step agent values (Not cond) env = not_of (cond env)
 cond_step agent values (And conds) env = and_of (map (λ c. c env) conds)
 cond_step agent values (Or conds) env = or_of (map (λ c. c env) conds)

@@ -25,40 +25,40 @@ fluent_sort agent fluent =
 
 -- the values of the variables of these arguments, which are numbered in the order of their first occurrence;
 -- none where a constant, or a variable that stood before, has another value
-abbrev pub matched : List Arg → List ℕ → List ℕ → Option (List ℕ)
-matched [] vs found = Some found
-matched (arg ∷ args) [] found = None
-matched (Const c ∷ args) (v ∷ vs) found = if c == v then matched args vs found else None
-matched (Var x ∷ args) (v ∷ vs) found =
-    if x == length found then matched args vs (found ++ v ∷ [])
-    else (if slice_index found x == v then matched args vs found else None)
+abbrev pub matched_values : List Arg → List ℕ → List ℕ → Option (List ℕ)
+matched_values [] vs found = Some found
+matched_values (arg ∷ args) [] found = None
+matched_values (Const c ∷ args) (v ∷ vs) found = if c == v then matched_values args vs found else None
+matched_values (Var x ∷ args) (v ∷ vs) found =
+    if x == length found then matched_values args vs (found ++ v ∷ [])
+    else (if slice_index found x == v then matched_values args vs found else None)
 
 -- the values of a cause's variables for an action and a fluent, where it speaks of them
 abbrev pub cause_for : CauseItem → Ground → Ground → Option (List ℕ)
 cause_for cause (action, args) (fluent, at) =
     if cause.action == action && cause.fluent == fluent
-    then matched (cause.action_args ++ cause.fluent_args) (args ++ at) []
+    then matched_values (cause.action_args ++ cause.fluent_args) (args ++ at) []
     else None
 
 -- What one cause makes of a value, given what the causes after it make of it. Where it is not known whether
 -- the cause applies, the value is known only if it is the same either way.
-abbrev pub caused : Agent → Values → CauseItem → Option (List ℕ) → ℕ → ℕ
-caused agent values cause None later = later
-caused agent values cause (Some found) later =
+abbrev pub value_caused : Agent → Values → CauseItem → Option (List ℕ) → ℕ → ℕ
+value_caused agent values cause None later = later
+value_caused agent values cause (Some found) later =
     let env = env_of found in
     chosen (truth_of agent values cause.cond env) (value_of agent values cause.term env) later
 
 -- the value of a ground fluent after an action, by the first cause whose condition is true
-abbrev pub ruled : Agent → Values → List CauseItem → Ground → Ground → ℕ → ℕ
-ruled agent values [] action fluent old = old
-ruled agent values (cause ∷ causes) action fluent old =
-    caused agent values cause (cause_for cause action fluent) (ruled agent values causes action fluent old)
+abbrev pub value_by_causes : Agent → Values → List CauseItem → Ground → Ground → ℕ → ℕ
+value_by_causes agent values [] action fluent old = old
+value_by_causes agent values (cause ∷ causes) action fluent old =
+    value_caused agent values cause (cause_for cause action fluent) (value_by_causes agent values causes action fluent old)
 
 -- the values after an action, all taken from the values before
 abbrev pub after_ground : Agent → Values → Ground → Values
 after_ground agent values action =
     map
-    (λ f. ruled agent values agent.causes action f.1 (slice_index values f.0))
+    (λ f. value_by_causes agent values agent.causes action f.1 (slice_index values f.0))
     (enumerate_from 0 (ground_fluents agent))
 
 -- the values after an action, where there is one of the number

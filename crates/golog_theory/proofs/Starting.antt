@@ -20,9 +20,14 @@ use Rattle.golog_tree.specs.declared.draft_cond.DraftArg.TheVariants as arg
 use Rattle.golog_theory.specs.declared.started.Constant.{Constant}
 use Rattle.golog_theory.specs.declared.started.Constant.TheVariants.{Name, Number}
 use Rattle.golog_theory.specs.declared.started.Ground.{Ground}
+use Rattle.golog_theory.specs.contracts.started.ConstantOrd.TheImpl as constant_ord
 use Rattle.golog_theory.specs.Names.{same}
 use Rattle.golog_theory.specs.Fluents.{same_arg, same_args, starts, is_started}
-use Rattle.golog_theory.specs.Started.{constant_cmp, ground_cmp, IsWritten, AreWritten, IsGroundOf, is_constant_arg, are_constant_args, starts_at}
+use Rattle.golog_theory.specs.Started.{ground_cmp, IsWritten, AreWritten, IsGroundOf, is_constant_arg, are_constant_args, starts_at}
+
+-- the order of constants
+abbrev constant_cmp : Constant → Constant → Ordering
+constant_cmp = (constant_ord.ghosts).cmp
 
 both : (a b c d : Bool) → a ≡ b → c ≡ d → (a && c) ≡ (b && d)
 both a b c d e f = ap (λ x. x && c) e ∙ ap (λ y. b && y) f

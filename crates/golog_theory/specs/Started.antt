@@ -9,14 +9,10 @@ use Rattle.golog_tree.specs.declared.draft_cond.DraftArg.TheVariants as arg
 use Rattle.golog_theory.specs.declared.started.Constant.{Constant}
 use Rattle.golog_theory.specs.declared.started.Constant.TheVariants.{Name, Number}
 use Rattle.golog_theory.specs.declared.started.Ground.{Ground}
-use Rattle.golog_theory.specs.contracts.started.ConstantOrd.TheImpl as constant_ord
 use Rattle.golog_theory.specs.contracts.started.GroundOrd.TheImpl as ground_ord
 use Rattle.golog_theory.specs.Names.{same}
 
--- the orders of constants and of ground fluents
-abbrev pub constant_cmp : Constant → Constant → Ordering
-constant_cmp = (constant_ord.ghosts).cmp
-
+-- the order of ground fluents
 abbrev pub ground_cmp : Ground → Ground → Ordering
 ground_cmp = (ground_ord.ghosts).cmp
 

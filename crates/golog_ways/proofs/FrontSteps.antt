@@ -22,7 +22,10 @@ use Rattle.golog_semantics.specs.Search.{final, no_blocks, plain_ways}
 use Rattle.golog_semantics.specs.Moves.{plain_moves}
 use Rattle.golog_semantics.specs.Guarded.{IsGuarded}
 use Rattle.golog_semantics.proofs.Unfolded.{moves-out}
-use Rattle.golog_ways.specs.First.{way_in}
+
+-- a step with its left put into a context
+abbrev pub way_in : (Prog → Prog) → Way → Way
+way_in context w = record { label = w.label; left = context w.left }
 
 -- these ways where the test holds, else none
 abbrev pub ways_if : Bool → List Way → List Way

@@ -28,13 +28,12 @@ use Rattle.golog_semantics.proofs.Unfolded.{final-skips}
 use Rattle.golog_ways.specs.declared.front_lists.Front.{Front}
 use Rattle.golog_ways.specs.Closed.{IsClosed}
 use Rattle.golog_ways.specs.Ends.{IsClosedEnd}
-use Rattle.golog_ways.specs.First.{way_in}
 use Rattle.golog_ways.specs.FrontLists.{AreBothFronts, AreClosedFronts, AreWhereEnds, IsPrecondition, are_closed, front_in, front_where, guarded, guarded_of, last_front, lefts_fit, none_open}
 use Rattle.golog_ways.specs.Lefts.{LeavesClosed, fits_in}
 use Rattle.golog_ways.proofs.ClosedConds.{closed-both, closed-in, closed-one, closed-where, fits, fits-none_open, fits-not}
 use Rattle.golog_ways.proofs.Ends.{range-more, so-not}
 use Rattle.golog_ways.proofs.FrontLefts.{act-own, all-leave, call-part, choice-parts, conc-fits, conc-parts, cstar-part, if-parts, lefts-both, lefts-in, lefts-one, lefts-where, nil-fits, pick-part, prio-fits, prio-parts, seq-fits, seq-parts, star-part, while-part}
-use Rattle.golog_ways.proofs.FrontSteps.{ways_if, ways-by}
+use Rattle.golog_ways.proofs.FrontSteps.{way_in, ways_if, ways-by}
 
 map-map : {A B D : Type 0} (f : A → B) (g : B → D) (xs : List A) → map g (map f xs) ≡ map (λ x. g (f x)) xs
 map-map f g [] = refl

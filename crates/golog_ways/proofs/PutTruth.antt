@@ -15,7 +15,7 @@ use Rattle.golog_tree.specs.declared.cond.Truth.{Truth}
 use Rattle.golog_tree.specs.Ground.{sort_size}
 use Rattle.golog_tree.specs.Substitute.{Put, arg_put, cond_put, term_put, within}
 use Rattle.golog_semantics.specs.Fits.{args_fit, nothing_bound}
-use Rattle.golog_semantics.specs.Truth.{Env, Values, and_of, arg_value, chosen, compared, cond_step, constants, env_of, fluent_value, not_of, or_of, shifted, term_step, truth_of, value_of}
+use Rattle.golog_semantics.specs.Truth.{Env, Values, and_of, arg_value, chosen, comparison_of, cond_step, constants, env_of, fluent_value, not_of, or_of, value_shifted, term_step, truth_of, value_of}
 use Rattle.golog_semantics.proofs.ByParts.{OfEach}
 use Rattle.golog_semantics.proofs.CondByParts.{Cases, cond_by_parts, fold-all, fold-and, fold-arg, fold-at_most, fold-equal, fold-fluent, fold-is, fold-ite, fold-less, fold-not, fold-or, fold-shift, fold-some, fold-truth, put-all, put-and, put-arg, put-at_most, put-equal, put-fluent, put-is, put-ite, put-less, put-not, put-or, put-shift, put-some, put-truth}
 use Rattle.golog_semantics.proofs.Tests.{and_cases}
@@ -159,7 +159,7 @@ module _ (agent : Agent) (values : Values) where
         ∙ sym (ap (λ (f : TT). f (with put env)) (fold-fluent TC TT cs ts fluent args));
     shift_case = λ sort t by h put env i.
         ap (λ u. val u env) (put-shift sort t by put) ∙ ap (λ (f : TT). f env) (fold-shift TC TT cs ts sort (term_put t put) by)
-        ∙ ap (λ n. shifted (sort_size agent sort) n by) (h put env i)
+        ∙ ap (λ n. value_shifted (sort_size agent sort) n by) (h put env i)
         ∙ sym (ap (λ (f : TT). f (with put env)) (fold-shift TC TT cs ts sort t by));
     ite_case = λ c t u h k l put env i.
         let e = h put env i in let f = k put env i in let d = l put env i in
@@ -173,19 +173,19 @@ module _ (agent : Agent) (values : Values) where
         ∙ sym (ap (λ (f : TC). f (with put env)) (fold-truth TC TT cs ts b));
     is_case = λ fluent args put env i.
         ap (λ c. of c env) (put-is fluent args put) ∙ ap (λ (f : TC). f env) (fold-is TC TT cs ts fluent (map (arg_put put) args))
-        ∙ ap (λ vs. compared nat_lt 0 (fluent_value agent values fluent vs)) (args-put put args env i)
+        ∙ ap (λ vs. comparison_of nat_lt 0 (fluent_value agent values fluent vs)) (args-put put args env i)
         ∙ sym (ap (λ (f : TC). f (with put env)) (fold-is TC TT cs ts fluent args));
     equal_case = λ sort t u h k put env i.
         ap (λ c. of c env) (put-equal sort t u put) ∙ ap (λ (f : TC). f env) (fold-equal TC TT cs ts sort (term_put t put) (term_put u put))
-        ∙ two (λ a b. compared (λ x y. x == y) a b) (val (term_put t put) env) (val t (with put env)) (val (term_put u put) env) (val u (with put env)) (h put env i) (k put env i)
+        ∙ two (λ a b. comparison_of (λ x y. x == y) a b) (val (term_put t put) env) (val t (with put env)) (val (term_put u put) env) (val u (with put env)) (h put env i) (k put env i)
         ∙ sym (ap (λ (f : TC). f (with put env)) (fold-equal TC TT cs ts sort t u));
     less_case = λ sort t u h k put env i.
         ap (λ c. of c env) (put-less sort t u put) ∙ ap (λ (f : TC). f env) (fold-less TC TT cs ts sort (term_put t put) (term_put u put))
-        ∙ two (compared nat_lt) (val (term_put t put) env) (val t (with put env)) (val (term_put u put) env) (val u (with put env)) (h put env i) (k put env i)
+        ∙ two (comparison_of nat_lt) (val (term_put t put) env) (val t (with put env)) (val (term_put u put) env) (val u (with put env)) (h put env i) (k put env i)
         ∙ sym (ap (λ (f : TC). f (with put env)) (fold-less TC TT cs ts sort t u));
     at_most_case = λ sort t u h k put env i.
         ap (λ c. of c env) (put-at_most sort t u put) ∙ ap (λ (f : TC). f env) (fold-at_most TC TT cs ts sort (term_put t put) (term_put u put))
-        ∙ two (compared nat_le) (val (term_put t put) env) (val t (with put env)) (val (term_put u put) env) (val u (with put env)) (h put env i) (k put env i)
+        ∙ two (comparison_of nat_le) (val (term_put t put) env) (val t (with put env)) (val (term_put u put) env) (val u (with put env)) (h put env i) (k put env i)
         ∙ sym (ap (λ (f : TC). f (with put env)) (fold-at_most TC TT cs ts sort t u));
     not_case = λ c h put env i.
         ap (λ d. of d env) (put-not c put) ∙ ap (λ (f : TC). f env) (fold-not TC TT cs ts (cond_put c put))

@@ -21,7 +21,3 @@ first_way agent values p = head_of (plain_ways agent values Must p)
 -- whether the program has a step in a mode
 unfoldable pub has_way : Agent → Values → Mode → Prog → Bool
 has_way agent values m p = not (is_empty (plain_ways agent values m p))
-
--- a step with its left put into a context
-abbrev pub way_in : (Prog → Prog) → Way → Way
-way_in context w = record { label = w.label; left = context w.left }

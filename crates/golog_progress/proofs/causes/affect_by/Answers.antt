@@ -1,7 +1,7 @@
 use Rattle.std.proofs.Common.{◌≡◌, ◌<◌, [], length, get_or, sym, ap, ◌∙◌, subst, Some, None, arith}
 use Rattle.std.specs.Prelude.{slice_get}
 use Rattle.golog_tree.specs.Ground.{sizes, product}
-use Rattle.golog_semantics.specs.Values.{matched}
+use Rattle.golog_semantics.specs.Values.{matched_values}
 use Rattle.golog_progress.specs.Effects.{HeadFits, IsSpread}
 use Rattle.golog_progress.proofs.Affected.{cause_is, given_few, head_after, item_is, affected, unaffected}
 use Rattle.golog_progress.proofs.Placed.{item-at, fluent_of}
@@ -27,7 +27,7 @@ spread-requires-clause-head c =
     let sorts : c.as_slice-sorts.result.now ≡ (cause_is c.args.agent.now c.args.cause.now c.requires.agent c.requires.cause).fluent.args =
     c.as_slice-sorts.ensures ∙ ap (λ i. i.args) (sym c.index-as_slice-cause.is)
     ∙ item_is c.args.agent.now c.args.cause.now c.requires.agent c.requires.cause c.args.args.now c.requires.args c.args.given.now c.args.free.now c.requires.head c.requires.even item at in
-    let m : matched c.args.given.now c.args.args.now [] ≡ Some c.in-Some.found = sym (c.in-Some.ensures ∙ ap (matched c.args.given.now c.args.args.now) c.new.ensures) in
+    let m : matched_values c.args.given.now c.args.args.now [] ≡ Some c.in-Some.found = sym (c.in-Some.ensures ∙ ap (matched_values c.args.given.now c.args.args.now) c.new.ensures) in
     subst (λ ss. HeadFits c.args.agent.now c.args.cause.now ss c.args.free.now c.in-Some.found) (sym sorts)
     (head_after c.args.agent.now c.args.cause.now c.requires.agent c.requires.cause c.args.args.now c.requires.args c.args.given.now c.args.free.now c.requires.head c.requires.even c.in-Some.found m)
 
@@ -50,13 +50,13 @@ returns-in-Some c =
     let sorts : c.as_slice-sorts.result.now ≡ (cause_is c.args.agent.now c.args.cause.now c.requires.agent c.requires.cause).fluent.args =
     c.as_slice-sorts.ensures ∙ ap (λ i. i.args) (sym c.index-as_slice-cause.is)
     ∙ item_is c.args.agent.now c.args.cause.now c.requires.agent c.requires.cause c.args.args.now c.requires.args c.args.given.now c.args.free.now c.requires.head c.requires.even item at in
-    let m : matched c.args.given.now c.args.args.now [] ≡ Some c.in-Some.found = sym (c.in-Some.ensures ∙ ap (matched c.args.given.now c.args.args.now) c.new.ensures) in
+    let m : matched_values c.args.given.now c.args.args.now [] ≡ Some c.in-Some.found = sym (c.in-Some.ensures ∙ ap (matched_values c.args.given.now c.args.args.now) c.new.ensures) in
     affected c.args.agent.now c.args.cause.now c.requires.agent c.requires.cause c.args.args.now c.requires.args c.args.given.now c.args.free.now c.requires.head c.requires.even
     c.args.values.now c.args.next.now c.spread.new.next c.in-Some.found m c.places_of-places.result.first c.places_of-places.result.count c.places_of-places.ensures
     (subst (λ ss. IsSpread c.args.agent.now c.args.values.now c.args.cause.now (sizes c.args.agent.now ss) c.args.free.now c.in-Some.found c.places_of-places.result.first c.args.next.now c.spread.new.next) sorts c.spread.ensures)
 
 pub returns-in_default : goal.returns-in_default
 returns-in_default c =
-    let m : matched c.args.given.now c.args.args.now [] ≡ None = sym (c.in_default.ensures ∙ ap (matched c.args.given.now c.args.args.now) c.new.ensures) in
+    let m : matched_values c.args.given.now c.args.args.now [] ≡ None = sym (c.in_default.ensures ∙ ap (matched_values c.args.given.now c.args.args.now) c.new.ensures) in
     unaffected c.args.agent.now c.args.cause.now c.requires.agent c.requires.cause c.args.args.now c.requires.args c.args.given.now c.args.free.now c.requires.head c.requires.even
     c.args.values.now c.args.next.now m
