@@ -13,7 +13,7 @@ use Rattle.golog_semantics.specs.declared.journal.Entry.TheVariants.{Close}
 use Rattle.golog_semantics.specs.declared.journal.Item.{Item}
 use Rattle.golog_semantics.specs.declared.journal.Item.TheVariants as item
 use Rattle.golog_semantics.specs.declared.journal.Reason.{Reason}
-use Rattle.golog_semantics.specs.Journal.{Journal, Command, commands, sensed, is_sensing, is_posted_by, poster_of, posted, is_close, is_open, has_end}
+use Rattle.golog_semantics.specs.Journal.{Journal, Command, commands, fluent_sensed, is_sensing, is_posted_by, poster_of, entries_by, is_close, is_open, has_end}
 use Rattle.golog_semantics.specs.Posts.{closing, entry_of, posted_entry}
 use Rattle.golog_semantics.proofs.Grown.{posted-push}
 use Rattle.golog_semantics.proofs.GroundNumbers.{slice_get-left}
@@ -135,8 +135,8 @@ module _ (agent : Agent) (device : ℕ) where
   pub closed-shut : (point : Journal) (r : Reason) (count : ℕ) → is_open device (point ++ Close device r count ∷ []) ≡ false
   closed-shut point r count =
       ap (λ es. not (list_any is_close es))
-      (posted-push point (Close device r count) device ∙ ap (λ b. posted device point ++ (if b then Close device r count ∷ [] else [])) (eq-eqb device device refl))
-      ∙ ap not (list_any-append is_close (posted device point) (Close device r count ∷ []) ∙ last (list_any is_close (posted device point)))
+      (posted-push point (Close device r count) device ∙ ap (λ b. entries_by device point ++ (if b then Close device r count ∷ [] else [])) (eq-eqb device device refl))
+      ∙ ap not (list_any-append is_close (entries_by device point) (Close device r count ∷ []) ∙ last (list_any is_close (entries_by device point)))
     where
       last : (b : Bool) → (b || (true || false)) ≡ true
       last true = refl
@@ -237,7 +237,7 @@ module _ (agent : Agent) (device : ℕ) where
             came-at (taken + 1) same (after-post (taken + 1) item.Silent turned.Served result mid new mid-own mid-held (λ e. absurd (cc)) driven posts)
         go true senses (Value bytes) posts =
             came-at (taken + 1) same
-            (after-post (taken + 1) (value_item agent device (sensed agent c.action) bytes) turned.Served result mid new mid-own mid-held (λ e. absurd (cc)) driven posts)
+            (after-post (taken + 1) (value_item agent device (fluent_sensed agent c.action) bytes) turned.Served result mid new mid-own mid-held (λ e. absurd (cc)) driven posts)
 
     still-driven : (point : Journal) → GoesOn mid.seen point → IsDriven agent point device taken
     still-driven point goes = (ready-there taken mid.seen point goes mid-ready).driven

@@ -7,9 +7,9 @@ use Rattle.golog_semantics.specs.declared.journal.Item.{Item}
 use Rattle.golog_semantics.specs.declared.journal.Item.TheVariants as item
 use Rattle.golog_semantics.specs.Values.{fluent_sort}
 use Rattle.golog_semantics.specs.Text.{Text, action_text, value_text}
-use Rattle.golog_semantics.specs.Inline.{spelled}
+use Rattle.golog_semantics.specs.Inline.{number_of_text}
 use Rattle.golog_semantics.specs.Dealt.{value_item}
-use Rattle.golog_semantics.specs.Journal.{Journal, Command, commands, sensed, has_end}
+use Rattle.golog_semantics.specs.Journal.{Journal, Command, commands, fluent_sensed, has_end}
 use Rattle.golog_journal.specs.declared.board.Next.TheVariants.{Command as Commanded, Nothing, Ended}
 use Rattle.golog_journal.specs.Boards.{IsBoardList}
 use Rattle.golog_journal.specs.Taken.{IsDriven, IsReady}
@@ -105,7 +105,7 @@ not-refused i plain e = subst IsPlain e plain
 module _ (agent : Agent) where
   value-plain : (device : ℕ) (o : Option ℕ) (bytes : Text) → IsPlain (value_item agent device o bytes)
   value-plain device None bytes = tt
-  value-plain device (Some f) bytes = go (spelled agent (value_text agent f) (sort_size agent (fluent_sort agent f)) bytes)
+  value-plain device (Some f) bytes = go (number_of_text agent (value_text agent f) (sort_size agent (fluent_sort agent f)) bytes)
     where
       go : (x : Option ℕ) → IsPlain (option_map_or item.Value x item.Unreadable)
       go None = tt
@@ -116,12 +116,12 @@ module _ (agent : Agent) where
   answer-plain device action true NoValue i e = subst IsPlain (same_Some item.Silent i e) tt
   answer-plain device action false NoValue i e = absurd (cc)
   answer-plain device action true (Value bytes) i e =
-      subst IsPlain (same_Some (value_item agent device (sensed agent action) bytes) i e) (value-plain device (sensed agent action) bytes)
+      subst IsPlain (same_Some (value_item agent device (fluent_sensed agent action) bytes) i e) (value-plain device (fluent_sensed agent action) bytes)
   answer-plain device action false (Value bytes) i e = subst IsPlain (same_Some item.Unreadable i e) tt
 
   -- nor fills idle time with one
   pub idle-plain : (answer : Idle) → IsPlain (idle_item agent answer)
-  idle-plain (Post bytes) = go (spelled agent (action_text agent) (length (ground_actions agent)) bytes)
+  idle-plain (Post bytes) = go (number_of_text agent (action_text agent) (length (ground_actions agent)) bytes)
     where
       go : (x : Option ℕ) → IsPlain (option_map_or item.Exo x item.Unreadable)
       go None = tt

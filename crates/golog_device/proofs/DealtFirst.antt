@@ -8,7 +8,7 @@ use Rattle.std.proofs.lemmas.List.Folds.{list_any-append}
 use Rattle.golog_tree.specs.declared.agent.Agent.{Agent}
 use Rattle.golog_semantics.specs.declared.journal.Entry.TheVariants.{Close}
 use Rattle.golog_semantics.specs.declared.journal.Reason.TheVariants.{Refused}
-use Rattle.golog_semantics.specs.Journal.{Journal, is_posted_by, posted, is_close, is_open}
+use Rattle.golog_semantics.specs.Journal.{Journal, is_posted_by, entries_by, is_close, is_open}
 use Rattle.golog_semantics.specs.Text.{Text, at_each}
 use Rattle.golog_semantics.specs.Dealt.{Meaning, Told, Script, item_of, items, GivenFits, wakes}
 use Rattle.golog_journal.proofs.Staying.{open-same}
@@ -42,21 +42,21 @@ split-from n (false ∷ refused) (suc k) device at inside is =
     record { before = s.before; later = s.later; is = s.is }
 
 -- nothing is of a device before the first
-none-before : (n : ℕ) (refused : List Bool) (device : ℕ) → device < n → posted device (from n refused) ≡ []
+none-before : (n : ℕ) (refused : List Bool) (device : ℕ) → device < n → entries_by device (from n refused) ≡ []
 none-before n [] device low = refl
 none-before n (true ∷ refused) device low =
-    ap (λ b. if b then Close n Refused 0 ∷ posted device (from (n + 1) refused) else posted device (from (n + 1) refused))
+    ap (λ b. if b then Close n Refused 0 ∷ entries_by device (from (n + 1) refused) else entries_by device (from (n + 1) refused))
     (ne_eqb n device (λ e. omega (arith, e, low)))
     ∙ none-before (n + 1) refused device (omega (arith, low))
 none-before n (false ∷ refused) device low = none-before (n + 1) refused device (omega (arith, low))
 
 -- nor of one that did not refuse
-none-from : (n : ℕ) (refused : List Bool) (k device : ℕ) → device ≡ n + k → get_or refused k false ≡ false → posted device (from n refused) ≡ []
+none-from : (n : ℕ) (refused : List Bool) (k device : ℕ) → device ≡ n + k → get_or refused k false ≡ false → entries_by device (from n refused) ≡ []
 none-from n [] k device at is = refl
 none-from n (true ∷ refused) zero device at is = absurd (cc)
 none-from n (false ∷ refused) zero device at is = none-before (n + 1) refused device (omega (arith, at))
 none-from n (true ∷ refused) (suc k) device at is =
-    ap (λ b. if b then Close n Refused 0 ∷ posted device (from (n + 1) refused) else posted device (from (n + 1) refused))
+    ap (λ b. if b then Close n Refused 0 ∷ entries_by device (from (n + 1) refused) else entries_by device (from (n + 1) refused))
     (ne_eqb n device (λ e. omega (arith, e, at)))
     ∙ none-from (n + 1) refused k device (omega (arith, at)) is
 none-from n (false ∷ refused) (suc k) device at is = none-from (n + 1) refused k device (omega (arith, at)) is
@@ -74,9 +74,9 @@ module _ (agent : Agent) (device : ℕ) where
   shut-more before later =
       ap (λ es. not (list_any is_close es)) (filter-append (is_posted_by device) before (Close device Refused 0 ∷ later))
       ∙ ap not
-      (list_any-append is_close (posted device before) (posted device (Close device Refused 0 ∷ later))
-      ∙ ap (λ b. list_any is_close (posted device before) || list_any is_close (if b then Close device Refused 0 ∷ posted device later else posted device later)) (eq-eqb device device refl)
-      ∙ last (list_any is_close (posted device before)) (list_any is_close (posted device later)))
+      (list_any-append is_close (entries_by device before) (entries_by device (Close device Refused 0 ∷ later))
+      ∙ ap (λ b. list_any is_close (entries_by device before) || list_any is_close (if b then Close device Refused 0 ∷ entries_by device later else entries_by device later)) (eq-eqb device device refl)
+      ∙ last (list_any is_close (entries_by device before)) (list_any is_close (entries_by device later)))
     where
       last : (a b : Bool) → (a || (true || b)) ≡ true
       last true b = refl
@@ -94,7 +94,7 @@ module _ (agent : Agent) (device : ℕ) where
   emptied-given None = tt
   emptied-given (Some given) = refl
 
-  emptied-told : (o : Option (List Told)) (journal : Journal) → posted device journal ≡ [] → IfSome (emptied o) (λ told. told ≡ items agent device journal)
+  emptied-told : (o : Option (List Told)) (journal : Journal) → entries_by device journal ≡ [] → IfSome (emptied o) (λ told. told ≡ items agent device journal)
   emptied-told None journal none = tt
   emptied-told (Some told) journal none = sym (ap (flat_map (item_of agent device)) none)
 
@@ -107,7 +107,7 @@ module _ (agent : Agent) (device : ℕ) where
   dealt-begun : (refused : List Bool) (script : Script) (old m : Meaning) (text : Text) → get_or refused device false ≡ false → HasBegun old m text
       → HasLeft script m → DealtNow agent device (refusals refused) 0 script m
   dealt-begun refused script old m text is begun has =
-      let none : posted device (refusals refused) ≡ [] = none-from 0 refused device device (omega arith) is in
+      let none : entries_by device (refusals refused) ≡ [] = none-from 0 refused device device (omega arith) is in
       let open_still : is_open device (refusals refused) ≡ true = ap (λ es. not (list_any is_close es)) none in
       subst (λ b. DealtIf agent device b (refusals refused) 0 script m) (sym open_still)
       (record {

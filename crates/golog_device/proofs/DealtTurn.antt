@@ -13,10 +13,10 @@ use Rattle.golog_semantics.specs.declared.journal.Item.TheVariants as item
 use Rattle.golog_semantics.specs.declared.journal.Reason.{Reason}
 use Rattle.golog_semantics.specs.declared.journal.Reason.TheVariants as reason
 use Rattle.golog_semantics.specs.Values.{fluent_sort}
-use Rattle.golog_semantics.specs.Journal.{Journal, Command, commands, sensed, is_sensing, posted, has_end, last_of, is_rest_after}
-use Rattle.golog_semantics.specs.Posts.{awaited, closing, entry_of, result_of}
+use Rattle.golog_semantics.specs.Journal.{Journal, Command, commands, fluent_sensed, is_sensing, entries_by, has_end, last_of, is_rest_after}
+use Rattle.golog_semantics.specs.Posts.{awaited_command, closing, entry_of, result_of}
 use Rattle.golog_semantics.specs.Text.{Text, action_text, value_text}
-use Rattle.golog_semantics.specs.Inline.{spelled, posted_action, posted_value}
+use Rattle.golog_semantics.specs.Inline.{number_of_text, posted_action, posted_value}
 use Rattle.golog_semantics.specs.Dealt.{Meaning, Told, TellsPost, TellsValue, TellsRest, TellsClose, Script, last_sensed, value_item, rests_before, TailFits, WasDealtWith}
 use Rattle.golog_journal.specs.declared.board.Next.TheVariants.{Nothing as NoCommand, Ended}
 use Rattle.golog_journal.specs.Taken.{IsDriven, IsReady}
@@ -141,9 +141,9 @@ module _ (agent : Agent) (device : ℕ) where
 
   -- an action's text
   post-refuses : (journal : Journal) (n : ℕ) (bytes : Text) → Refuses journal n (posted_action agent bytes) (TellsPost bytes ∷ [])
-  post-refuses journal n bytes point goes r why = go (spelled agent (action_text agent) (length (ground_actions agent)) bytes) refl
+  post-refuses journal n bytes point goes r why = go (number_of_text agent (action_text agent) (length (ground_actions agent)) bytes) refl
     where
-      go : (o : Option ℕ) → spelled agent (action_text agent) (length (ground_actions agent)) bytes ≡ o
+      go : (o : Option ℕ) → number_of_text agent (action_text agent) (length (ground_actions agent)) bytes ≡ o
           → (r ≢ reason.Refused) × TailFits agent device point n r (TellsPost bytes ∷ [])
       go None is =
           let i : posted_action agent bytes ≡ item.Unreadable = ap (λ x. option_map_or item.Exo x item.Unreadable) is in
@@ -154,14 +154,14 @@ module _ (agent : Agent) (device : ℕ) where
 
   post-stands : (journal : Journal) (n : ℕ) (bytes : Text) (script : Script) (m : Meaning) → Keeps script m
       → n ≤ length (commands agent device journal)
-      → ((point : Journal) → GoesOn agent device journal point → list_all (rests_before agent device point) (posted device point) ≡ true)
+      → ((point : Journal) → GoesOn agent device journal point → list_all (rests_before agent device point) (entries_by device point) ≡ true)
       → Stands journal n (posted_action agent bytes) (TellsPost bytes ∷ []) script m
-  post-stands journal n bytes script m keeps few awake point goes none has = go (spelled agent (action_text agent) (length (ground_actions agent)) bytes) refl
+  post-stands journal n bytes script m keeps few awake point goes none has = go (number_of_text agent (action_text agent) (length (ground_actions agent)) bytes) refl
     where
       itself : (device == device) ≡ true
       itself = eq-eqb device device refl
 
-      go : (o : Option ℕ) → spelled agent (action_text agent) (length (ground_actions agent)) bytes ≡ o
+      go : (o : Option ℕ) → number_of_text agent (action_text agent) (length (ground_actions agent)) bytes ≡ o
           → DealtSoFar agent device (point ++ entry_of agent point device n (posted_action agent bytes) ∷ []) n script m
       go None is =
           let i : posted_action agent bytes ≡ item.Unreadable = ap (λ x. option_map_or item.Exo x item.Unreadable) is in
@@ -171,21 +171,21 @@ module _ (agent : Agent) (device : ℕ) where
           let text = action-told agent bytes a i in
           subst (λ e. DealtSoFar agent device (point ++ e ∷ []) n script m) (ap (entry_of agent point device n) (sym i))
           (dealt-own agent device point (Exo device a) n script m (TellsPost bytes) (few-there n journal point goes few) itself
-          (ap (λ t. TellsPost t ∷ []) (sym text)) (ap (λ b. if b then list_all (rests_before agent device point) (posted device point) else true) itself ∙ awake point goes) has keeps)
+          (ap (λ t. TellsPost t ∷ []) (sym text)) (ap (λ b. if b then list_all (rests_before agent device point) (entries_by device point) else true) itself ∙ awake point goes) has keeps)
 
   -- a rest
   rest-stands : (journal : Journal) (n : ℕ) (script : Script) (m : Meaning) → Keeps script m → n ≤ length (commands agent device journal)
-      → ((point : Journal) → GoesOn agent device journal point → list_all (rests_before agent device point) (posted device point) ≡ true)
+      → ((point : Journal) → GoesOn agent device journal point → list_all (rests_before agent device point) (entries_by device point) ≡ true)
       → Stands journal n item.Rest (TellsRest ∷ []) script m
   rest-stands journal n script m keeps few awake point goes none has =
       let itself = eq-eqb device device refl in
       dealt-own agent device point (RestEntry device n) n script m TellsRest (few-there n journal point goes few) itself refl
-      (ap (λ b. if b then list_all (rests_before agent device point) (posted device point) else true) itself ∙ awake point goes) has keeps
+      (ap (λ b. if b then list_all (rests_before agent device point) (entries_by device point) else true) itself ∙ awake point goes) has keeps
 
   -- what holds of each value and of an unreadable item holds of a value's text
   value-cases : (P : Item → Type 0) (o : Option ℕ) (bytes : Text) → ((v : ℕ) → P (item.Value v)) → P item.Unreadable → P (value_item agent device o bytes)
   value-cases P None bytes one none = none
-  value-cases P (Some f) bytes one none = go (spelled agent (value_text agent f) (sort_size agent (fluent_sort agent f)) bytes)
+  value-cases P (Some f) bytes one none = go (number_of_text agent (value_text agent f) (sort_size agent (fluent_sort agent f)) bytes)
     where
       go : (x : Option ℕ) → P (option_map_or item.Value x item.Unreadable)
       go None = none
@@ -239,19 +239,19 @@ module _ (agent : Agent) (device : ℕ) where
       few : taken + 1 ≤ length (commands agent device mid.seen)
       few = let inside = slice_get_within (commands agent device mid.seen) taken c next in omega (arith, inside)
 
-      last-is : (point : Journal) → GoesOn agent device mid.seen point → last_sensed agent device point (taken + 1) ≡ sensed agent c.action
+      last-is : (point : Journal) → GoesOn agent device mid.seen point → last_sensed agent device point (taken + 1) ≡ fluent_sensed agent c.action
       last-is point goes =
           let less : taken + 1 - 1 ≡ taken = omega arith in
-          ap (λ n. option_map_or (λ (x : Command). sensed agent x.action) (slice_get (commands agent device point) n) None) less
-          ∙ ap (λ o. option_map_or (λ (x : Command). sensed agent x.action) o None) (next-there agent device taken c mid.seen point goes next)
+          ap (λ n. option_map_or (λ (x : Command). fluent_sensed agent x.action) (slice_get (commands agent device point) n) None) less
+          ∙ ap (λ o. option_map_or (λ (x : Command). fluent_sensed agent x.action) o None) (next-there agent device taken c mid.seen point goes next)
 
-      awaits : is_sensing agent c.action ≡ true → (point : Journal) → GoesOn agent device mid.seen point → awaited agent point device (taken + 1) ≡ Some c
+      awaits : is_sensing agent c.action ≡ true → (point : Journal) → GoesOn agent device mid.seen point → awaited_command agent point device (taken + 1) ≡ Some c
       awaits senses point goes =
           awaited-next agent point device taken goes.list (ready-there agent device taken mid.seen point goes on) c
           (next-there agent device taken c mid.seen point goes next) senses
 
       -- the value that was asked for
-      value-stands : (f : ℕ) (bytes : Text) → sensed agent c.action ≡ Some f → is_sensing agent c.action ≡ true → Keeps script is
+      value-stands : (f : ℕ) (bytes : Text) → fluent_sensed agent c.action ≡ Some f → is_sensing agent c.action ≡ true → Keeps script is
           → Stands mid.seen (taken + 1) (value_item agent device (Some f) bytes) (TellsValue bytes ∷ []) script is
       value-stands f bytes tells senses keeps point goes none has =
           value-cases
@@ -294,7 +294,7 @@ module _ (agent : Agent) (device : ℕ) where
               nothing-posted (taken + 1) turned.Served (λ e. absurd (cc)) posts
               (answered-so-far agent device mid.seen (taken + 1) script is has (keeps-unasked script was is mid-far.left by told))
           go false senses (Value bytes) has by told posts =
-              let untold : None ≡ sensed agent c.action = sym (some-none agent mid.seen device taken (sensed agent c.action) senses) in
+              let untold : None ≡ fluent_sensed agent c.action = sym (some-none agent mid.seen device taken (fluent_sensed agent c.action) senses) in
               dealt-post (taken + 1) item.Unreadable turned.Served result mid new script is (TellsValue bytes ∷ []) mid-own mid-held (λ e. absurd (cc)) posts few has
               (follows-unasked script was is bytes by)
               (value-refuses mid.seen (taken + 1) None bytes (λ point goes. last-is point goes ∙ sym untold))
@@ -304,12 +304,12 @@ module _ (agent : Agent) (device : ℕ) where
               (keeps-follows script is (keeps-silent script was is mid-far.left by told)) (silent-refuses senses)
               (never-silent mid.seen (taken + 1) script is [])
           go true senses (Value bytes) has by told posts =
-              value-post (sensed agent c.action) refl bytes has posts senses
+              value-post (fluent_sensed agent c.action) refl bytes has posts senses
               (keeps-answered script agent device mid.seen taken was is mid-far bytes by told)
             where
-              value-post : (o : Option ℕ) → sensed agent c.action ≡ o → (bs : Text) → HasAnswered agent device mid.seen (taken + 1) is (TellsValue bs ∷ [])
-                  → PostsItem device (taken + 1) (Some (value_item agent device (sensed agent c.action) bs)) turned.Served result mid new
-                  → is_some (sensed agent c.action) ≡ true → Keeps script is → DealtAfter agent device result new.seen (taken + 1) script is
+              value-post : (o : Option ℕ) → fluent_sensed agent c.action ≡ o → (bs : Text) → HasAnswered agent device mid.seen (taken + 1) is (TellsValue bs ∷ [])
+                  → PostsItem device (taken + 1) (Some (value_item agent device (fluent_sensed agent c.action) bs)) turned.Served result mid new
+                  → is_some (fluent_sensed agent c.action) ≡ true → Keeps script is → DealtAfter agent device result new.seen (taken + 1) script is
               value-post None tells bs has posts some keeps = absurd (let k = sym (ap is_some tells) ∙ some in cc)
               value-post (Some f) tells bs has posts some keeps =
                   dealt-post (taken + 1) (value_item agent device (Some f) bs) turned.Served result mid new script is (TellsValue bs ∷ []) mid-own mid-held (λ e. absurd (cc))
@@ -323,12 +323,12 @@ module _ (agent : Agent) (device : ℕ) where
 
     -- where it was not at rest it may be asked
     awake : is_resting agent mid.seen device taken ≡ false → slice_get (commands agent device mid.seen) taken ≡ None
-        → (point : Journal) → GoesOn agent device mid.seen point → list_all (rests_before agent device point) (posted device point) ≡ true
+        → (point : Journal) → GoesOn agent device mid.seen point → list_all (rests_before agent device point) (entries_by device point) ≡ true
     awake rests none point goes =
         may-wake-later agent device mid.seen point (few-there (length (commands agent device mid.seen)) mid.seen point goes (omega arith))
-        (ap (posted device) goes.grows ∙ posted-same agent mid.seen goes.others device goes.foreign)
+        (ap (entries_by device) goes.grows ∙ posted-same agent mid.seen goes.others device goes.foreign)
         (may-wake agent device mid.seen there.list mid-far.rested (on.driven).still_open
-        (ap (λ n. option_map_or (is_rest_after n) (last_of (posted device mid.seen)) false) (all-taken agent mid.seen device taken on.driven none) ∙ rests))
+        (ap (λ n. option_map_or (is_rest_after n) (last_of (entries_by device mid.seen)) false) (all-taken agent mid.seen device taken on.driven none) ∙ rests))
 
     -- without a command
     dealt-idle : (answer : Idle) → is_resting agent mid.seen device taken ≡ false → slice_get (commands agent device mid.seen) taken ≡ None

@@ -9,7 +9,7 @@ use Rattle.std.proofs.lemmas.Grind.{flat_map-append}
 use Rattle.golog_tree.specs.declared.agent.Agent.{Agent}
 use Rattle.golog_semantics.specs.declared.journal.Entry.{Entry}
 use Rattle.golog_semantics.specs.declared.journal.Entry.TheVariants.{Do, Test, Exo, Sense, Rest, Close, End}
-use Rattle.golog_semantics.specs.Journal.{Journal, commands, is_posted_by, posted}
+use Rattle.golog_semantics.specs.Journal.{Journal, commands, is_posted_by, entries_by}
 use Rattle.golog_semantics.specs.Text.{at_each}
 use Rattle.golog_semantics.specs.Dealt.{Service, item_of, items, GivenFits, rests_before, wakes}
 use Rattle.golog_semantics.proofs.Pushed.{at_each-push}
@@ -30,14 +30,14 @@ module _ (agent : Agent) (device : ℕ) where
   pub items-own : (journal : Journal) (e : Entry) → is_posted_by device e ≡ true
       → items agent device (journal ++ e ∷ []) ≡ items agent device journal ++ item_of agent device e
   items-own journal e own =
-      ap (flat_map (item_of agent device)) (posted-push journal e device ∙ ap (λ b. posted device journal ++ (if b then e ∷ [] else [])) own)
-      ∙ flat_map-append (item_of agent device) (posted device journal) (e ∷ [])
+      ap (flat_map (item_of agent device)) (posted-push journal e device ∙ ap (λ b. entries_by device journal ++ (if b then e ∷ [] else [])) own)
+      ∙ flat_map-append (item_of agent device) (entries_by device journal) (e ∷ [])
       ∙ ap (λ more. items agent device journal ++ more) (append-nil (item_of agent device e))
 
   -- an entry of another device asks nothing of this one
   wakes-other : (before : Journal) (e : Entry) → is_posted_by device e ≡ false → wakes agent device before e ≡ true
-  wakes-other before (Exo p action) other = ap (λ b. if b then list_all (rests_before agent device before) (posted device before) else true) other
-  wakes-other before (Rest p taken) other = ap (λ b. if b then list_all (rests_before agent device before) (posted device before) else true) other
+  wakes-other before (Exo p action) other = ap (λ b. if b then list_all (rests_before agent device before) (entries_by device before) else true) other
+  wakes-other before (Rest p taken) other = ap (λ b. if b then list_all (rests_before agent device before) (entries_by device before) else true) other
   wakes-other before (Do action) other = refl
   wakes-other before Test other = refl
   wakes-other before (Sense p at f v) other = refl
@@ -76,7 +76,7 @@ module _ (agent : Agent) (device : ℕ) where
       ∙ or_from _ _ (item-no-close e) (none-closed es)
 
   pub items-no-close : (journal : Journal) → list_any is_told_close (items agent device journal) ≡ false
-  items-no-close journal = none-closed (posted device journal)
+  items-no-close journal = none-closed (entries_by device journal)
 
   -- the commands that were taken, with entries of others
   pub taken-others : (journal others : Journal) (taken : ℕ) → taken ≤ length (commands agent device journal)

@@ -11,7 +11,7 @@ use Rattle.golog_semantics.specs.declared.journal.Item.TheVariants as item
 use Rattle.golog_semantics.specs.Values.{fluent_sort}
 use Rattle.golog_semantics.specs.Text.{Text, action_text, value_text}
 use Rattle.golog_semantics.specs.Same.{same_values}
-use Rattle.golog_semantics.specs.Inline.{spelled, posted_action, posted_value}
+use Rattle.golog_semantics.specs.Inline.{number_of_text, posted_action, posted_value}
 use Rattle.golog_semantics.specs.Dealt.{value_item}
 use Rattle.golog_semantics.proofs.Levels.{same_values-same, same_values-eq}
 use Rattle.golog_semantics.proofs.GroundNumbers.{some-same}
@@ -41,14 +41,14 @@ found-in p a (suc n) o e = go (p a) refl e (λ later. found-in p (a + 1) n o lat
 
 module _ (agent : Agent) where
   -- what is found writes the bytes
-  pub spelled-text : (text : ℕ → Text) (count : ℕ) (bytes : Text) (n : ℕ) → spelled agent text count bytes ≡ Some n → bytes ≡ text n
+  pub spelled-text : (text : ℕ → Text) (count : ℕ) (bytes : Text) (n : ℕ) → number_of_text agent text count bytes ≡ Some n → bytes ≡ text n
   spelled-text text count bytes n e =
       sym (same_values-eq (text n) bytes (found-in (λ k. same_values (text k) bytes) 0 count (Some n) e).2)
 
   -- the one number that writes the bytes is found
   pub spelled-one : (text : ℕ → Text) (count : ℕ) (bytes : Text) (o : Option ℕ)
-      → IsTheOne o (λ n. (n < count) × (text n ≡ bytes)) → spelled agent text count bytes ≡ o
-  spelled-one text count bytes o one = go (spelled agent text count bytes) refl
+      → IsTheOne o (λ n. (n < count) × (text n ≡ bytes)) → number_of_text agent text count bytes ≡ o
+  spelled-one text count bytes o one = go (number_of_text agent text count bytes) refl
     where
       same : ℕ → Bool
       same k = same_values (text k) bytes
@@ -62,7 +62,7 @@ module _ (agent : Agent) where
           let yes : same_values (text n) bytes ≡ true = ap (λ t. same_values t bytes) fits.1 ∙ same_values-same bytes in
           absurd (cc)
 
-      go : (x : Option ℕ) → spelled agent text count bytes ≡ x → spelled agent text count bytes ≡ o
+      go : (x : Option ℕ) → number_of_text agent text count bytes ≡ x → number_of_text agent text count bytes ≡ o
       go (Some n) e =
           let ends = found-in (λ k. same_values (text k) bytes) 0 count (Some n) e in
           let high = ends.1 in
@@ -86,9 +86,9 @@ module _ (agent : Agent) where
 
   -- an action that is posted has the text that was told
   pub action-told : (bytes : Text) (action : ℕ) → posted_action agent bytes ≡ item.Exo action → bytes ≡ action_text agent action
-  action-told bytes action e = go (spelled agent (action_text agent) (length (ground_actions agent)) bytes) refl e
+  action-told bytes action e = go (number_of_text agent (action_text agent) (length (ground_actions agent)) bytes) refl e
     where
-      go : (o : Option ℕ) → spelled agent (action_text agent) (length (ground_actions agent)) bytes ≡ o → option_map_or item.Exo o item.Unreadable ≡ item.Exo action
+      go : (o : Option ℕ) → number_of_text agent (action_text agent) (length (ground_actions agent)) bytes ≡ o → option_map_or item.Exo o item.Unreadable ≡ item.Exo action
           → bytes ≡ action_text agent action
       go None is e = absurd (cc)
       go (Some n) is e =
@@ -97,9 +97,9 @@ module _ (agent : Agent) where
 
   -- a value that is posted has the text that was told
   pub value-told : (fluent : ℕ) (bytes : Text) (value : ℕ) → posted_value agent fluent bytes ≡ item.Value value → bytes ≡ value_text agent fluent value
-  value-told fluent bytes value e = go (spelled agent (value_text agent fluent) (sort_size agent (fluent_sort agent fluent)) bytes) refl e
+  value-told fluent bytes value e = go (number_of_text agent (value_text agent fluent) (sort_size agent (fluent_sort agent fluent)) bytes) refl e
     where
-      go : (o : Option ℕ) → spelled agent (value_text agent fluent) (sort_size agent (fluent_sort agent fluent)) bytes ≡ o
+      go : (o : Option ℕ) → number_of_text agent (value_text agent fluent) (sort_size agent (fluent_sort agent fluent)) bytes ≡ o
           → option_map_or item.Value o item.Unreadable ≡ item.Value value → bytes ≡ value_text agent fluent value
       go None is e = absurd (cc)
       go (Some n) is e =

@@ -9,7 +9,7 @@ use Rattle.std.proofs.lemmas.List.Folds.{list_all-append, list_any-append}
 use Rattle.golog_tree.specs.declared.agent.Agent.{Agent}
 use Rattle.golog_semantics.specs.declared.journal.Entry.{Entry}
 use Rattle.golog_semantics.specs.declared.journal.Entry.TheVariants.{Do, Test, Exo, Sense, Rest, Close, End}
-use Rattle.golog_semantics.specs.Journal.{Journal, Command, is_sensing, commands, is_outstanding, outstanding_commands, is_posted_by, posted, is_close, is_open, is_result_of, last_of, is_rest_after, is_at_rest}
+use Rattle.golog_semantics.specs.Journal.{Journal, Command, is_sensing, commands, is_outstanding, outstanding_commands, is_posted_by, entries_by, is_close, is_open, is_result_of, last_of, is_rest_after, is_at_rest}
 use Rattle.golog_semantics.specs.Text.{at_each}
 use Rattle.golog_semantics.specs.Online.{is_result}
 use Rattle.golog_semantics.specs.OneMore.{new_command}
@@ -75,7 +75,7 @@ module _ (agent : Agent) (device : ℕ) where
   many journal = length (commands agent device journal)
 
   abbrev all_below : Journal → Bool
-  all_below journal = list_all (tells_below (many journal)) (posted device journal)
+  all_below journal = list_all (tells_below (many journal)) (entries_by device journal)
 
   -- its last entry is a Rest with all its commands taken, and no result is awaited
   record AtRest (journal : Journal) : Type 0 where
@@ -84,18 +84,18 @@ module _ (agent : Agent) (device : ℕ) where
 
   -- each Rest told of no more commands than there are; they told of fewer, or the device is at rest
   record Rests (journal : Journal) : Type 0 where
-    pub within : list_all (tells_within (many journal)) (posted device journal) ≡ true
+    pub within : list_all (tells_within (many journal)) (entries_by device journal) ≡ true
     pub either : (all_below journal ≡ true) ⊎ AtRest journal
 
   many-more : (journal : Journal) (e : Entry) → many (journal ++ e ∷ []) ≡ many journal + length (new_command agent journal e device)
   many-more journal e = ap (λ cs. length cs) (commands-push agent journal e device) ∙ length-append (commands agent device journal) (new_command agent journal e device)
 
-  posted-other : (journal : Journal) (e : Entry) → is_posted_by device e ≡ false → posted device (journal ++ e ∷ []) ≡ posted device journal
+  posted-other : (journal : Journal) (e : Entry) → is_posted_by device e ≡ false → entries_by device (journal ++ e ∷ []) ≡ entries_by device journal
   posted-other journal e other =
-      posted-push journal e device ∙ ap (λ b. posted device journal ++ (if b then e ∷ [] else [])) other ∙ append-nil (posted device journal)
+      posted-push journal e device ∙ ap (λ b. entries_by device journal ++ (if b then e ∷ [] else [])) other ∙ append-nil (entries_by device journal)
 
-  posted-own : (journal : Journal) (e : Entry) → is_posted_by device e ≡ true → posted device (journal ++ e ∷ []) ≡ posted device journal ++ e ∷ []
-  posted-own journal e own = posted-push journal e device ∙ ap (λ b. posted device journal ++ (if b then e ∷ [] else [])) own
+  posted-own : (journal : Journal) (e : Entry) → is_posted_by device e ≡ true → entries_by device (journal ++ e ∷ []) ≡ entries_by device journal ++ e ∷ []
+  posted-own journal e own = posted-push journal e device ∙ ap (λ b. entries_by device journal ++ (if b then e ∷ [] else [])) own
 
   -- what awaits no result awaits none with one more entry
   shrinks : (journal : Journal) (e : Entry) (cs : List Command) → list_any (is_outstanding agent journal) cs ≡ false
@@ -121,16 +121,16 @@ module _ (agent : Agent) (device : ℕ) where
       count : many (journal ++ e ∷ []) ≡ many journal + length cs
       count = many-more journal e ∙ ap (λ l. many journal + length l) new
 
-      within : list_all (tells_within (many (journal ++ e ∷ []))) (posted device (journal ++ e ∷ [])) ≡ true
+      within : list_all (tells_within (many (journal ++ e ∷ []))) (entries_by device (journal ++ e ∷ [])) ≡ true
       within =
           ap (list_all (tells_within (many (journal ++ e ∷ [])))) (posted-other journal e other)
           ∙ all-more (tells_within (many journal)) (tells_within (many (journal ++ e ∷ [])))
-          (within-more (many journal) (many (journal ++ e ∷ [])) (omega (arith, count))) (posted device journal) rests.within
+          (within-more (many journal) (many (journal ++ e ∷ [])) (omega (arith, count))) (entries_by device journal) rests.within
 
-      below : (n : ℕ) → n ≤ many (journal ++ e ∷ []) → list_all (tells_below n) (posted device journal) ≡ true → all_below (journal ++ e ∷ []) ≡ true
+      below : (n : ℕ) → n ≤ many (journal ++ e ∷ []) → list_all (tells_below n) (entries_by device journal) ≡ true → all_below (journal ++ e ∷ []) ≡ true
       below n low h =
           ap (list_all (tells_below (many (journal ++ e ∷ [])))) (posted-other journal e other)
-          ∙ all-more (tells_below n) (tells_below (many (journal ++ e ∷ []))) (below-more n (many (journal ++ e ∷ [])) low) (posted device journal) h
+          ∙ all-more (tells_below n) (tells_below (many (journal ++ e ∷ []))) (below-more n (many (journal ++ e ∷ [])) low) (entries_by device journal) h
 
       go : (l : List Command) → new_command agent journal e device ≡ l → (all_below journal ≡ true) ⊎ AtRest journal
           → (all_below (journal ++ e ∷ []) ≡ true) ⊎ AtRest (journal ++ e ∷ [])
@@ -138,7 +138,7 @@ module _ (agent : Agent) (device : ℕ) where
       go [] new (inr rest) = inr (record {
         rest =
             ap (λ es. option_map_or (is_rest_after (many (journal ++ e ∷ []))) (last_of es) false) (posted-other journal e other)
-            ∙ ap (λ n. option_map_or (is_rest_after n) (last_of (posted device journal)) false)
+            ∙ ap (λ n. option_map_or (is_rest_after n) (last_of (entries_by device journal)) false)
             (many-more journal e ∙ ap (λ l. many journal + length l) new ∙ (let k : many journal + 0 ≡ many journal = omega arith in k))
             ∙ rest.rest;
         settled =
@@ -149,7 +149,7 @@ module _ (agent : Agent) (device : ℕ) where
       go (c ∷ l) new (inr rest) =
           inl (below (many journal + 1)
           (let k = many-more journal e ∙ ap (λ x. many journal + length x) new in omega (arith, k))
-          (all-more (tells_within (many journal)) (tells_below (many journal + 1)) (below-within (many journal)) (posted device journal) rests.within))
+          (all-more (tells_within (many journal)) (tells_below (many journal + 1)) (below-within (many journal)) (entries_by device journal) rests.within))
 
   -- with an entry of its own that is not a Rest, where all told of fewer
   own-below : (journal : Journal) (e : Entry) → is_posted_by device e ≡ true → new_command agent journal e device ≡ []
@@ -159,18 +159,18 @@ module _ (agent : Agent) (device : ℕ) where
       same : many (journal ++ e ∷ []) ≡ many journal
       same = let k = many-more journal e ∙ ap (λ l. many journal + length l) none in omega (arith, k)
 
-      w : list_all (tells_within (many (journal ++ e ∷ []))) (posted device (journal ++ e ∷ [])) ≡ true
+      w : list_all (tells_within (many (journal ++ e ∷ []))) (entries_by device (journal ++ e ∷ [])) ≡ true
       w =
-          ap (λ n. list_all (tells_within n) (posted device (journal ++ e ∷ []))) same
+          ap (λ n. list_all (tells_within n) (entries_by device (journal ++ e ∷ []))) same
           ∙ ap (list_all (tells_within (many journal))) (posted-own journal e own)
-          ∙ list_all-append (tells_within (many journal)) (posted device journal) (e ∷ [])
+          ∙ list_all-append (tells_within (many journal)) (entries_by device journal) (e ∷ [])
           ∙ and_from _ _ rests.within (and_from _ _ within refl)
 
       b : all_below (journal ++ e ∷ []) ≡ true
       b =
-          ap (λ n. list_all (tells_below n) (posted device (journal ++ e ∷ []))) same
+          ap (λ n. list_all (tells_below n) (entries_by device (journal ++ e ∷ []))) same
           ∙ ap (list_all (tells_below (many journal))) (posted-own journal e own)
-          ∙ list_all-append (tells_below (many journal)) (posted device journal) (e ∷ [])
+          ∙ list_all-append (tells_below (many journal)) (entries_by device journal) (e ∷ [])
           ∙ and_from _ _ all (and_from _ _ below refl)
 
   -- with a Rest
@@ -199,14 +199,14 @@ module _ (agent : Agent) (device : ℕ) where
           let is : t ≡ many journal = omega (arith, low, more) in
           record {
             within =
-                ap (λ n. list_all (tells_within n) (posted device (journal ++ Rest p t ∷ []))) same
+                ap (λ n. list_all (tells_within n) (entries_by device (journal ++ Rest p t ∷ []))) same
                 ∙ ap (list_all (tells_within (many journal))) (posted-own journal (Rest p t) own)
-                ∙ list_all-append (tells_within (many journal)) (posted device journal) (Rest p t ∷ [])
+                ∙ list_all-append (tells_within (many journal)) (entries_by device journal) (Rest p t ∷ [])
                 ∙ and_from _ _ rests.within (and_from _ _ parts.0 refl);
             either = inr (record {
               rest =
                   ap (λ es. option_map_or (is_rest_after (many (journal ++ Rest p t ∷ []))) (last_of es) false) (posted-own journal (Rest p t) own)
-                  ∙ ap (λ o. option_map_or (is_rest_after (many (journal ++ Rest p t ∷ []))) o false) (fold-push (λ last e. Some e) None (posted device journal) (Rest p t))
+                  ∙ ap (λ o. option_map_or (is_rest_after (many (journal ++ Rest p t ∷ []))) o false) (fold-push (λ last e. Some e) None (entries_by device journal) (Rest p t))
                   ∙ eq-eqb t (many (journal ++ Rest p t ∷ [])) (is ∙ sym same);
               settled =
                   ap (list_any (is_outstanding agent (journal ++ Rest p t ∷ [])))
@@ -225,9 +225,9 @@ module _ (agent : Agent) (device : ℕ) where
       ∙ first-none (is_outstanding agent journal) (is_result agent journal at f) (commands agent device journal) rest.settled in
       absurd (cc)
 
-  wakes-parts : (journal : Journal) (b : Bool) → list_all (rests_before agent device journal) (posted device journal) ≡ b
+  wakes-parts : (journal : Journal) (b : Bool) → list_all (rests_before agent device journal) (entries_by device journal) ≡ b
       → all_below journal ≡ b
-  wakes-parts journal b h = same (posted device journal) ∙ h
+  wakes-parts journal b h = same (entries_by device journal) ∙ h
     where
       each : (e : Entry) → tells_below (many journal) e ≡ rests_before agent device journal e
       each (Rest p t) = refl
@@ -247,10 +247,10 @@ module _ (agent : Agent) (device : ℕ) where
       → is_close e ≡ false → Rests journal → Rests (journal ++ e ∷ [])
   own-step journal (Exo p a) own lawful woken open_still rests =
       own-below journal (Exo p a) own refl refl refl
-      (wakes-parts journal true (sym (ap (λ b. if b then list_all (rests_before agent device journal) (posted device journal) else true) own) ∙ woken)) rests
+      (wakes-parts journal true (sym (ap (λ b. if b then list_all (rests_before agent device journal) (entries_by device journal) else true) own) ∙ woken)) rests
   own-step journal (Rest p t) own lawful woken open_still rests =
       own-rest journal p t own lawful
-      (wakes-parts journal true (sym (ap (λ b. if b then list_all (rests_before agent device journal) (posted device journal) else true) own) ∙ woken)) rests
+      (wakes-parts journal true (sym (ap (λ b. if b then list_all (rests_before agent device journal) (entries_by device journal) else true) own) ∙ woken)) rests
   own-step journal (Sense p at f v) own lawful woken open_still rests = go rests.either
     where
       go : (all_below journal ≡ true) ⊎ AtRest journal → Rests (journal ++ Sense p at f v ∷ [])
@@ -291,30 +291,30 @@ module _ (agent : Agent) (device : ℕ) where
   -- where an open device is not at rest, each of its Rests told of fewer commands than it has
   pub may-wake : (journal : Journal) → IsBoardList agent journal → list_all (λ b. b) (at_each (wakes agent device) [] journal) ≡ true
       → is_open device journal ≡ true → is_at_rest agent journal device ≡ false
-      → list_all (rests_before agent device journal) (posted device journal) ≡ true
+      → list_all (rests_before agent device journal) (entries_by device journal) ≡ true
   may-wake journal list woken open_still awake = go rests.either
     where
       rests : Rests journal
       rests =
-          all-from [] journal list.lawful woken (not-true (list_any is_close (posted device journal)) open_still)
+          all-from [] journal list.lawful woken (not-true (list_any is_close (entries_by device journal)) open_still)
           (record { within = refl; either = inl refl })
 
-      back : (b : Bool) → list_all (rests_before agent device journal) (posted device journal) ≡ b → all_below journal ≡ true → b ≡ true
+      back : (b : Bool) → list_all (rests_before agent device journal) (entries_by device journal) ≡ b → all_below journal ≡ true → b ≡ true
       back b is h = sym (wakes-parts journal b is) ∙ h
 
-      go : (all_below journal ≡ true) ⊎ AtRest journal → list_all (rests_before agent device journal) (posted device journal) ≡ true
-      go (inl h) = back (list_all (rests_before agent device journal) (posted device journal)) refl h
+      go : (all_below journal ≡ true) ⊎ AtRest journal → list_all (rests_before agent device journal) (entries_by device journal) ≡ true
+      go (inl h) = back (list_all (rests_before agent device journal) (entries_by device journal)) refl h
       go (inr rest) = absurd (let k = sym (rest.rest) ∙ awake in cc)
 
   -- and so it is, when others have added entries
-  pub may-wake-later : (journal later : Journal) → many journal ≤ many later → posted device later ≡ posted device journal
-      → list_all (rests_before agent device journal) (posted device journal) ≡ true
-      → list_all (rests_before agent device later) (posted device later) ≡ true
+  pub may-wake-later : (journal later : Journal) → many journal ≤ many later → entries_by device later ≡ entries_by device journal
+      → list_all (rests_before agent device journal) (entries_by device journal) ≡ true
+      → list_all (rests_before agent device later) (entries_by device later) ≡ true
   may-wake-later journal later more same h =
-      let low : list_all (tells_below (many journal)) (posted device journal) ≡ true = wakes-parts journal true h in
+      let low : list_all (tells_below (many journal)) (entries_by device journal) ≡ true = wakes-parts journal true h in
       let high : all_below later ≡ true = ap (list_all (tells_below (many later))) same
-      ∙ all-more (tells_below (many journal)) (tells_below (many later)) (below-more (many journal) (many later) more) (posted device journal) low in
-      back (list_all (rests_before agent device later) (posted device later)) refl high
+      ∙ all-more (tells_below (many journal)) (tells_below (many later)) (below-more (many journal) (many later) more) (entries_by device journal) low in
+      back (list_all (rests_before agent device later) (entries_by device later)) refl high
     where
-      back : (b : Bool) → list_all (rests_before agent device later) (posted device later) ≡ b → all_below later ≡ true → b ≡ true
+      back : (b : Bool) → list_all (rests_before agent device later) (entries_by device later) ≡ b → all_below later ≡ true → b ≡ true
       back b is h = sym (wakes-parts later b is) ∙ h

@@ -6,11 +6,11 @@ use Rattle.std.proofs.lemmas.List.{append-nil}
 use Rattle.golog_tree.specs.declared.agent.Agent.{Agent}
 use Rattle.golog_semantics.specs.declared.journal.Item.{Item}
 use Rattle.golog_semantics.specs.declared.journal.Item.TheVariants as item
-use Rattle.golog_semantics.specs.Journal.{Journal, Command, commands, sensed, is_sensing, has_end, posted, last_of, is_rest_after, is_at_rest}
+use Rattle.golog_semantics.specs.Journal.{Journal, Command, commands, fluent_sensed, is_sensing, has_end, entries_by, last_of, is_rest_after, is_at_rest}
 use Rattle.golog_semantics.specs.Posts.{posted_entry}
 use Rattle.golog_semantics.specs.Same.{same_values}
 use Rattle.golog_semantics.specs.Text.{Text}
-use Rattle.golog_semantics.specs.Inline.{Scripted, posted_action, posted_value, idle_item as scripted_item, posting, answering, served, idling, turn_by, turn}
+use Rattle.golog_semantics.specs.Inline.{Scripted, posted_action, posted_value, idle_item as scripted_item, posting, answering, after_service, idling, turn_by, turn}
 use Rattle.golog_semantics.specs.Dealt.{Meaning, Script, value_item}
 use Rattle.golog_journal.specs.declared.board.Next.TheVariants.{Nothing as NoCommand, Ended}
 use Rattle.golog_journal.specs.Taken.{IsReady}
@@ -108,14 +108,14 @@ module _ (agent : Agent) (device : ℕ) where
     unasked c next senses answer more by posts =
         after-left (λ a b. ServesBy a false answer b) by (λ left b p. later-is left left b p.1 (one left answer p.0 posts))
       where
-        silent : (o : Option ℕ) → is_some o ≡ false → (d : Scripted) → served agent mid.seen device d o ≡ (mid.seen, d)
+        silent : (o : Option ℕ) → is_some o ≡ false → (d : Scripted) → after_service agent mid.seen device d o ≡ (mid.seen, d)
         silent None h d = refl
         silent (Some f) h d = absurd (cc)
 
         one : (left : Script) (a : Served) → a ≡ Nothing → PostsItem device (taken + 1) (answer_item agent device c.action false a) turned.Served result mid new → Goes left left
         one left Nothing e posts =
             by-next left left (Some c) next
-            (silent (sensed agent c.action) senses (scripted left (taken + 1))
+            (silent (fluent_sensed agent c.action) senses (scripted left (taken + 1))
             ∙ pair mid.seen new.seen (scripted left (taken + 1)) (scripted left count) (sym (ap (λ (s : Sight). s.seen) posts.1)) (counted left (taken + 1) more))
         one left (Value bytes) e posts = absurd (cc)
 
@@ -127,7 +127,7 @@ module _ (agent : Agent) (device : ℕ) where
         after-left (λ a b. ServesBy a true answer b) by (λ left b p. one left b left.answers refl answer p.0 p.1 posts)
       where
         -- the script's answers are these
-        answers-so : (f : ℕ) (left : Script) (answers : List Text) (a : Served) → left.answers ≡ answers → a ≡ next_answer answers → sensed agent c.action ≡ Some f
+        answers-so : (f : ℕ) (left : Script) (answers : List Text) (a : Served) → left.answers ≡ answers → a ≡ next_answer answers → fluent_sensed agent c.action ≡ Some f
             → PostsItem device (taken + 1) (answer_item agent device c.action true a) turned.Served result mid new
             → answering agent mid.seen device (scripted left (taken + 1)) f answers ≡ (new.seen, scripted (record left { answers = rest_of answers }) count)
         answers-so f left [] Nothing is e tells posts =
@@ -138,15 +138,15 @@ module _ (agent : Agent) (device : ℕ) where
         answers-so f left (x ∷ xs) Nothing is e tells posts = absurd (cc)
         answers-so f left (x ∷ xs) (Value bytes) is e tells posts =
             let same_bytes : bytes ≡ x = cc in
-            let i : value_item agent device (sensed agent c.action) bytes ≡ posted_value agent f x
+            let i : value_item agent device (fluent_sensed agent c.action) bytes ≡ posted_value agent f x
             = ap (λ o. value_item agent device o bytes) tells ∙ ap (posted_value agent f) same_bytes in
             pair (mid.seen ++ posted_entry agent mid.seen device (taken + 1) (posted_value agent f x) ∷ []) new.seen
             (scripted (record left { answers = xs }) (taken + 1)) (scripted (record left { answers = xs }) count)
             (ap (λ y. mid.seen ++ posted_entry agent mid.seen device (taken + 1) y ∷ []) (sym i)
-            ∙ sym (posts-so (taken + 1) (value_item agent device (sensed agent c.action) bytes) turned.Served posts))
+            ∙ sym (posts-so (taken + 1) (value_item agent device (fluent_sensed agent c.action) bytes) turned.Served posts))
             (counted (record left { answers = xs }) (taken + 1) more)
 
-        tells-one : (o : Option ℕ) → sensed agent c.action ≡ o → is_some o ≡ true → (f : ℕ) × (sensed agent c.action ≡ Some f)
+        tells-one : (o : Option ℕ) → fluent_sensed agent c.action ≡ o → is_some o ≡ true → (f : ℕ) × (fluent_sensed agent c.action ≡ Some f)
         tells-one None is h = absurd (cc)
         tells-one (Some f) is h = (f, is)
 
@@ -155,10 +155,10 @@ module _ (agent : Agent) (device : ℕ) where
             → PostsItem device (taken + 1) (answer_item agent device c.action true a) turned.Served result mid new
             → LeftAfter agent device (Some left) mid.seen taken b new.seen count
         one left b answers at a e later posts =
-            let f = tells-one (sensed agent c.action) refl senses in
+            let f = tells-one (fluent_sensed agent c.action) refl senses in
             later-is left (record left { answers = rest_of answers }) b later
             (by-next left (record left { answers = rest_of answers }) (Some c) next
-            (ap (served agent mid.seen device (scripted left (taken + 1))) f.1
+            (ap (after_service agent mid.seen device (scripted left (taken + 1))) f.1
             ∙ ap (answering agent mid.seen device (scripted left (taken + 1)) f.0) at
             ∙ answers-so f.0 left answers a at e f.1 posts))
 
@@ -179,7 +179,7 @@ module _ (agent : Agent) (device : ℕ) where
     module _ (next : slice_get (commands agent device mid.seen) taken ≡ None) where
       -- it rests with all its commands taken
       rests-so : (r : Bool) → is_resting agent mid.seen device taken ≡ r → is_at_rest agent mid.seen device ≡ r
-      rests-so r rests = ap (λ n. option_map_or (is_rest_after n) (last_of (posted device mid.seen)) false) (all-taken agent mid.seen device taken on.driven next) ∙ rests
+      rests-so r rests = ap (λ n. option_map_or (is_rest_after n) (last_of (entries_by device mid.seen)) false) (all-taken agent mid.seen device taken on.driven next) ∙ rests
         where
           on : IsReady agent mid.seen device taken
           on = mid-ready agent device taken count result old new was is own held ready turns

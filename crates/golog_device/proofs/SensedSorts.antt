@@ -10,7 +10,7 @@ use Rattle.golog_tree.specs.Ground.{Ground, fluent_args, ground_actions, ground_
 use Rattle.golog_tree.proofs.Numbers.{get-number_of}
 use Rattle.golog_semantics.specs.Truth.{env_of, arg_value}
 use Rattle.golog_semantics.specs.Values.{fluent_sort}
-use Rattle.golog_semantics.specs.Journal.{sensed, sensed_by}
+use Rattle.golog_semantics.specs.Journal.{fluent_sensed, sensed_by}
 use Rattle.golog_semantics.proofs.GroundNumbers.{action_is}
 use Rattle.golog_journal.specs.Agents.{ServesDevices}
 use Rattle.golog_journal.proofs.Sensing.{Names, found-names}
@@ -29,13 +29,13 @@ module _ (agent : Agent) (serves : ServesDevices agent) (action item : ℕ) (arg
       get-number_of agent (fluent_args agent) sense.fluent (map (arg_value (env_of args)) sense.args)
       (subst (λ n. sense.fluent < n) (sym (length-map agent.fluents (λ item. item.args))) names.declared) names.within
 
-  sensed-is : sensed agent action ≡ Some (sensed_by agent (item, args) sense)
+  sensed-is : fluent_sensed agent action ≡ Some (sensed_by agent (item, args) sense)
   sensed-is =
       ap (option_and_then (λ (at : Ground). option_map (sensed_by agent at) (find (λ s. s.action == at.0) agent.senses))) is
       ∙ ap (option_map (sensed_by agent (item, args))) found
 
   -- and has its sort
-  pub sensed-sort : (d : FluentItem) → Some ((get_or agent.fluents sense.fluent d).sort) ≡ option_map (fluent_sort agent) (sensed agent action)
+  pub sensed-sort : (d : FluentItem) → Some ((get_or agent.fluents sense.fluent d).sort) ≡ option_map (fluent_sort agent) (fluent_sensed agent action)
   sensed-sort d =
       sym (ap (option_map (fluent_sort agent)) sensed-is
       ∙ ap (λ (o : Option Ground). Some (unwrap_or (option_and_then (λ (at : Ground). option_map (λ (f : FluentItem). f.sort) (slice_get agent.fluents at.0)) o) 0)) stands

@@ -13,8 +13,8 @@ use Rattle.golog_semantics.specs.declared.journal.Entry.TheVariants.{Do, Test, E
 use Rattle.golog_semantics.specs.declared.journal.Item.{Item}
 use Rattle.golog_semantics.specs.declared.journal.Item.TheVariants as item
 use Rattle.golog_semantics.specs.declared.journal.Reason.TheVariants as reason
-use Rattle.golog_semantics.specs.Journal.{Journal, Command, sensed, is_sensing, commands, is_outstanding, is_posted_by, posted, is_close, is_open, has_end, is_full, is_result_of}
-use Rattle.golog_semantics.specs.Posts.{awaited, awaited_by, is_value_for, is_bad, later_reason, closing, result_of, entry_of, posted_entry}
+use Rattle.golog_semantics.specs.Journal.{Journal, Command, fluent_sensed, is_sensing, commands, is_outstanding, is_posted_by, entries_by, is_close, is_open, has_end, is_full, is_result_of}
+use Rattle.golog_semantics.specs.Posts.{awaited_command, awaited_by, is_value_for, is_bad, later_reason, closing, result_of, entry_of, posted_entry}
 use Rattle.golog_semantics.specs.Online.{told_taken, may_have_taken}
 use Rattle.golog_semantics.specs.OneMore.{new_command}
 use Rattle.golog_semantics.proofs.Grown.{posted-push, commands-push}
@@ -81,17 +81,17 @@ module _ (agent : Agent) (journal : Journal) (device taken : ℕ) where
       more : nat_le (taken + 1) (length mine) ≡ true
       more = let inside = slice_get_within mine taken c next in le-leb (taken + 1) (length mine) (omega (arith, inside))
 
-      told : list_all (λ e. nat_le (told_taken agent journal e) (taken + 1)) (posted device journal) ≡ true
+      told : list_all (λ e. nat_le (told_taken agent journal e) (taken + 1)) (entries_by device journal) ≡ true
       told =
           all-more (λ e. nat_le (told_taken agent journal e) taken) (λ e. nat_le (told_taken agent journal e) (taken + 1))
           (λ e h. let k = leb-true (told_taken agent journal e) taken h in le-leb (told_taken agent journal e) (taken + 1) (omega (arith, k)))
-          (posted device journal)
+          (entries_by device journal)
           (and_parts (nat_le taken (length mine)) _ (may-taken agent journal device taken list ready.driven)).1
 
       pending : list_any (is_outstanding agent journal) (take (taken + 1 - 1) mine) ≡ false
       pending =
           ap (λ n. list_any (is_outstanding agent journal) (take n mine)) less
-          ∙ none-awaited agent journal device taken list ready.driven (none-some (awaited agent journal device taken) ready.answered)
+          ∙ none-awaited agent journal device taken list ready.driven (none-some (awaited_command agent journal device taken) ready.answered)
 
       -- a device may take its next command
       pub driven-next : IsDriven agent journal device (taken + 1)
@@ -104,7 +104,7 @@ module _ (agent : Agent) (journal : Journal) (device taken : ℕ) where
       last : slice_get mine (taken + 1 - 1) ≡ Some c
       last = ap (λ n. slice_get mine n) less ∙ next
 
-      next-awaited : (b : Bool) → is_outstanding agent journal c ≡ b → awaited agent journal device (taken + 1) ≡ (if b then Some c else None)
+      next-awaited : (b : Bool) → is_outstanding agent journal c ≡ b → awaited_command agent journal device (taken + 1) ≡ (if b then Some c else None)
       next-awaited b is =
           awaited-some agent journal device (taken + 1) c (λ e. omega (arith, e)) last ∙ ap (λ x. if x then Some c else None) is
 
@@ -116,7 +116,7 @@ module _ (agent : Agent) (journal : Journal) (device taken : ℕ) where
       }
 
       -- the result of a sensing command is awaited
-      pub awaited-next : is_sensing agent c.action ≡ true → awaited agent journal device (taken + 1) ≡ Some c
+      pub awaited-next : is_sensing agent c.action ≡ true → awaited_command agent journal device (taken + 1) ≡ Some c
       awaited-next senses =
           next-awaited true
           (and_from _ _ senses
@@ -144,14 +144,14 @@ module _ (agent : Agent) (journal : Journal) (device taken : ℕ) where
     told-same (Close p r t) = refl
     told-same (End a) = refl
 
-    pub posted-more : posted device after ≡ posted device journal ++ e ∷ []
-    posted-more = posted-push journal e device ∙ ap (λ b. posted device journal ++ (if b then e ∷ [] else [])) own
+    pub posted-more : entries_by device after ≡ entries_by device journal ++ e ∷ []
+    posted-more = posted-push journal e device ∙ ap (λ b. entries_by device journal ++ (if b then e ∷ [] else [])) own
 
     open-more : (open_before : is_open device journal ≡ true) → is_open device after ≡ true
     open-more open_before =
-        let none = not-true (list_any is_close (posted device journal)) open_before in
+        let none = not-true (list_any is_close (entries_by device journal)) open_before in
         ap (λ es. not (list_any is_close es)) posted-more
-        ∙ ap not (list_any-append is_close (posted device journal) (e ∷ []) ∙ or_from _ _ none (or_from _ _ goes refl))
+        ∙ ap not (list_any-append is_close (entries_by device journal) (e ∷ []) ∙ or_from _ _ none (or_from _ _ goes refl))
 
     -- a command without an outstanding result has none outstanding
     shrinks : (c : Command) → is_outstanding agent journal c ≡ false → is_outstanding agent after c ≡ false
@@ -189,11 +189,11 @@ module _ (agent : Agent) (journal : Journal) (device taken : ℕ) where
         count : nat_le taken (length (commands agent device after)) ≡ true
         count = ap (λ cs. nat_le taken (length cs)) (commands-same device) ∙ (and_parts (nat_le taken (length mine)) _ may).0
 
-        told : list_all (λ x. nat_le (told_taken agent after x) taken) (posted device after) ≡ true
+        told : list_all (λ x. nat_le (told_taken agent after x) taken) (entries_by device after) ≡ true
         told =
             ap (list_all (λ x. nat_le (told_taken agent after x) taken)) posted-more
-            ∙ list_all-append (λ x. nat_le (told_taken agent after x) taken) (posted device journal) (e ∷ [])
-            ∙ and_from _ _ (told-all (posted device journal) (and_parts (nat_le taken (length mine)) _ may).1)
+            ∙ list_all-append (λ x. nat_le (told_taken agent after x) taken) (entries_by device journal) (e ∷ [])
+            ∙ and_from _ _ (told-all (entries_by device journal) (and_parts (nat_le taken (length mine)) _ may).1)
             (and_from _ _ (ap (λ n. nat_le n taken) (told-same e) ∙ few) refl)
 
         pending : list_any (is_outstanding agent after) (take (taken - 1) (commands agent device after)) ≡ false
@@ -203,7 +203,7 @@ module _ (agent : Agent) (journal : Journal) (device taken : ℕ) where
 
     awaited-after : (b : Bool) → (taken == 0) ≡ b
         → ((taken ≡ 0 → ⊥) → (c : Command) → slice_get mine (taken - 1) ≡ Some c → is_outstanding agent after c ≡ false)
-        → awaited agent after device taken ≡ None
+        → awaited_command agent after device taken ≡ None
     awaited-after true is none = ap (λ b. if b then None else awaited_by agent after device taken (slice_get (commands agent device after) (taken - 1))) is
     awaited-after false is none =
         ap (λ b. if b then None else awaited_by agent after device taken (slice_get (commands agent device after) (taken - 1))) is
@@ -215,13 +215,13 @@ module _ (agent : Agent) (journal : Journal) (device taken : ℕ) where
         by (Some c) at = ap (λ b. if b then Some c else None) (none (eqb-false taken 0 is) c at)
 
     -- where none was awaited, none is
-    pub unawaited-push : awaited agent journal device taken ≡ None → awaited agent after device taken ≡ None
+    pub unawaited-push : awaited_command agent journal device taken ≡ None → awaited_command agent after device taken ≡ None
     unawaited-push none =
         awaited-after (taken == 0) refl
         (λ some c at. shrinks c (settled c (is_outstanding agent journal c) refl (sym (awaited-some agent journal device taken c some at) ∙ none)))
 
     -- and none is, where the entry is the result that was awaited
-    pub answered-push : (c : Command) → slice_get mine (taken - 1) ≡ Some c → is_result_of c.place e ≡ true → awaited agent after device taken ≡ None
+    pub answered-push : (c : Command) → slice_get mine (taken - 1) ≡ Some c → is_result_of c.place e ≡ true → awaited_command agent after device taken ≡ None
     answered-push c at result = awaited-after (taken == 0) refl (λ some x there. its x (same_Some c x (sym at ∙ there)))
       where
         gone : is_outstanding agent after c ≡ false
@@ -237,7 +237,7 @@ module _ (agent : Agent) (journal : Journal) (device taken : ℕ) where
 module _ (agent : Agent) (journal : Journal) (device taken : ℕ) (list : IsBoardList agent journal) (driven : IsDriven agent journal device taken) where
   -- the device may go on after this entry
   goes-on : (e : Entry) → is_posted_by device e ≡ true → is_close e ≡ false → ((d : ℕ) → new_command agent journal e d ≡ [])
-      → nat_le (told_taken agent journal e) taken ≡ true → awaited agent (journal ++ e ∷ []) device taken ≡ None
+      → nat_le (told_taken agent journal e) taken ≡ true → awaited_command agent (journal ++ e ∷ []) device taken ≡ None
       → IsReady agent (journal ++ e ∷ []) device taken
   goes-on e own open_still plain few none = record {
     driven = driven-push agent journal device taken e own open_still plain list driven few;
@@ -247,12 +247,12 @@ module _ (agent : Agent) (journal : Journal) (device taken : ℕ) (list : IsBoar
   itself : (device == device) ≡ true
   itself = eq-eqb device device refl
 
-  ready-exo : (action : ℕ) → awaited agent journal device taken ≡ None → IsReady agent (journal ++ Exo device action ∷ []) device taken
+  ready-exo : (action : ℕ) → awaited_command agent journal device taken ≡ None → IsReady agent (journal ++ Exo device action ∷ []) device taken
   ready-exo action none =
       goes-on (Exo device action) itself refl (λ d. refl) (le-leb 0 taken (omega arith))
       (unawaited-push agent journal device taken (Exo device action) itself refl (λ d. refl) none)
 
-  ready-rest : awaited agent journal device taken ≡ None → IsReady agent (journal ++ Rest device taken ∷ []) device taken
+  ready-rest : awaited_command agent journal device taken ≡ None → IsReady agent (journal ++ Rest device taken ∷ []) device taken
   ready-rest none =
       goes-on (Rest device taken) itself refl (λ d. refl) (le-leb taken taken (omega arith))
       (unawaited-push agent journal device taken (Rest device taken) itself refl (λ d. refl) none)
@@ -278,19 +278,19 @@ module _ (agent : Agent) (journal : Journal) (device taken : ℕ) (list : IsBoar
   ready-posted (item.Exo action) none =
       let good = (fine agent journal device taken (item.Exo action) none).good in
       subst (λ e. IsReady agent (journal ++ e ∷ []) device taken) (sym (stands-for (item.Exo action) none))
-      (ready-exo action (some-none agent journal device taken (awaited agent journal device taken) (or_parts _ (is_some (awaited agent journal device taken)) good).1))
+      (ready-exo action (some-none agent journal device taken (awaited_command agent journal device taken) (or_parts _ (is_some (awaited_command agent journal device taken)) good).1))
   ready-posted item.Rest none =
       let good = (fine agent journal device taken item.Rest none).good in
       subst (λ e. IsReady agent (journal ++ e ∷ []) device taken) (sym (stands-for item.Rest none))
-      (ready-rest (some-none agent journal device taken (awaited agent journal device taken) good))
+      (ready-rest (some-none agent journal device taken (awaited_command agent journal device taken) good))
   ready-posted (item.Value value) none =
       let good = (fine agent journal device taken (item.Value value) none).good in
-      let one = has (is_value_for agent journal device taken value) (awaited agent journal device taken)
-      (not-false (option_map_or (is_value_for agent journal device taken value) (awaited agent journal device taken) false) good) in
+      let one = has (is_value_for agent journal device taken value) (awaited_command agent journal device taken)
+      (not-false (option_map_or (is_value_for agent journal device taken value) (awaited_command agent journal device taken) false) good) in
       let entry : posted_entry agent journal device taken (item.Value value) ≡ result_of agent journal device taken value one.item
       = stands-for (item.Value value) none ∙ ap (λ o. option_map_or (result_of agent journal device taken value) o (Rest device taken)) one.is in
       subst (λ e. IsReady agent (journal ++ e ∷ []) device taken) (sym entry)
-      (ready-sense one.item (option_map_or (λ f. f) (sensed agent (one.item).action) 0) value (is-awaited agent journal device taken one.item one.is))
+      (ready-sense one.item (option_map_or (λ f. f) (fluent_sensed agent (one.item).action) 0) value (is-awaited agent journal device taken one.item one.is))
   ready-posted item.Unreadable none = absurd (let k = (fine agent journal device taken item.Unreadable none).good in cc)
   ready-posted item.Silent none = absurd (let k = (fine agent journal device taken item.Silent none).good in cc)
   ready-posted item.Close none = absurd (cc)

@@ -4,7 +4,7 @@ use Rattle.std.specs.Prelude.{◌≡◌, ℕ, ◌+◌, Bool, true, false, Option
 use Rattle.golog_tree.specs.declared.agent.Agent.{Agent}
 use Rattle.golog_semantics.specs.declared.journal.Item.{Item}
 use Rattle.golog_semantics.specs.declared.journal.Item.TheVariants as item
-use Rattle.golog_semantics.specs.Journal.{sensed}
+use Rattle.golog_semantics.specs.Journal.{fluent_sensed}
 use Rattle.golog_semantics.specs.Text.{action_text}
 use Rattle.golog_semantics.specs.Inline.{posted_action}
 use Rattle.golog_semantics.specs.Dealt.{Meaning, value_item}
@@ -48,7 +48,7 @@ abbrev pub answer_item : Agent → ℕ → ℕ → Bool → Served → Option It
 answer_item agent device action true Nothing = Some item.Silent
 answer_item agent device action false Nothing = None
 answer_item agent device action true (Value bytes) =
-    Some (value_item agent device (sensed agent action) bytes)
+    Some (value_item agent device (fluent_sensed agent action) bytes)
 answer_item agent device action false (Value bytes) = Some item.Unreadable
 
 -- what a device posts without a command

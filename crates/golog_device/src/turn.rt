@@ -4,7 +4,7 @@ ghost use Rattle.std.specs.Option.{option_copied};
 ghost use Rattle.golog_tree.specs.Ground.{ground_count, action_args};
 ghost use Rattle.golog_semantics.specs.WellFormed.{WellFormed};
 ghost use Rattle.golog_semantics.specs.Values.{fluent_sort};
-ghost use Rattle.golog_semantics.specs.Journal.{sensed, is_sensing, is_open};
+ghost use Rattle.golog_semantics.specs.Journal.{fluent_sensed, is_sensing, is_open};
 ghost use Rattle.golog_semantics.specs.Dealt.{Script, value_item as item_of_sensed};
 ghost use Rattle.golog_journal.specs.Taken.{IsDriven, IsReady};
 ghost use Rattle.golog_journal.specs.Boards.{IsBoardList};
@@ -158,7 +158,7 @@ fn item_of_answer(agent: &Agent, action: u32, asked: bool, served: &Served) -> O
 fn item_of_value(agent: &Agent, action: u32, bytes: &[u8]) -> Item
     requires well_formed { WellFormed agent.now }
     requires number { action < ground_count agent.now (action_args agent.now) }
-    ensures { (device : ℕ) → result ≡ item_of_sensed agent.now device (sensed agent.now action) bytes.now }
+    ensures { (device : ℕ) → result ≡ item_of_sensed agent.now device (fluent_sensed agent.now action) bytes.now }
 {
     let Some(sort) = sort_sensed(agent, action) else {
         return Item::Unreadable;
@@ -173,7 +173,7 @@ fn item_of_value(agent: &Agent, action: u32, bytes: &[u8]) -> Item
 fn sort_sensed(agent: &Agent, action: u32) -> Option<u32>
     requires well_formed { WellFormed agent.now }
     requires number { action < ground_count agent.now (action_args agent.now) }
-    ensures { result ≡ option_map (fluent_sort agent.now) (sensed agent.now action) }
+    ensures { result ≡ option_map (fluent_sort agent.now) (fluent_sensed agent.now action) }
 {
     let item = action_of(agent, action).item;
     match sense_for(agent.senses.as_slice(), item) {

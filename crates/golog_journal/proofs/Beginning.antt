@@ -17,7 +17,7 @@ use Rattle.golog_semantics.specs.declared.journal.Item.TheVariants as item
 use Rattle.golog_semantics.specs.declared.journal.Reason.{Reason}
 use Rattle.golog_semantics.specs.Ways.{is_empty}
 use Rattle.golog_semantics.specs.Journal.{Journal, Command, device_of, commands, poster_of, is_result_of}
-use Rattle.golog_semantics.specs.Posts.{awaited, result_of, entry_of, closing, posted_entry}
+use Rattle.golog_semantics.specs.Posts.{awaited_command, result_of, entry_of, closing, posted_entry}
 use Rattle.golog_semantics.specs.Online.{is_result}
 use Rattle.golog_semantics.specs.Reports.{is_device, is_value, is_exogenous, place_limit, fits_entry}
 use Rattle.golog_semantics.specs.WellFormed.{is_device_no, are_sorts, action_item_fits}
@@ -136,7 +136,7 @@ module _ (agent : Agent) where
 
         of-item : (i : Item) → poster_of (entry_of agent journal device taken i) ≡ Some device
         of-item (item.Exo action) = refl
-        of-item (item.Value value) = by-awaited value (awaited agent journal device taken)
+        of-item (item.Value value) = by-awaited value (awaited_command agent journal device taken)
         of-item item.Rest = refl
         of-item item.Close = refl
         of-item item.Unreadable = refl

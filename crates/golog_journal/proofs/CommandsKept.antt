@@ -7,8 +7,8 @@ use Rattle.std.proofs.lemmas.Option.{slice_get-map}
 use Rattle.golog_tree.specs.declared.agent.Agent.{Agent}
 use Rattle.golog_semantics.specs.declared.journal.Entry.{Entry}
 use Rattle.golog_semantics.specs.declared.journal.Entry.TheVariants.{Do, Test, Exo, Sense, Rest, Close, End}
-use Rattle.golog_semantics.specs.Journal.{Journal, Command, commands, posted, last_of, is_rest_after, is_outstanding, poster_of}
-use Rattle.golog_semantics.specs.Posts.{awaited, awaited_by}
+use Rattle.golog_semantics.specs.Journal.{Journal, Command, commands, entries_by, last_of, is_rest_after, is_outstanding, poster_of}
+use Rattle.golog_semantics.specs.Posts.{awaited_command, awaited_by}
 use Rattle.golog_journal.specs.declared.commands.Commands.{Commands}
 use Rattle.golog_journal.specs.declared.commands.Kept.{Kept}
 use Rattle.golog_journal.specs.declared.standing.Standing.{Standing}
@@ -34,7 +34,7 @@ pub counted-resting : (agent : Agent) (journal : Journal) (ts : List Standing) �
 counted-resting agent journal ts kept d standing inside at taken =
     let one = kept.tallied.one_each in
     let is = subst (IsTally agent journal d) (sym at) (kept.tallied.each d standing (omega (arith, inside, one))) in
-    ap (λ o. option_map_or (λ n. n == taken) o false) is.has_rested ∙ resting-of taken (last_of (posted d journal))
+    ap (λ o. option_map_or (λ n. n == taken) o false) is.has_rested ∙ resting-of taken (last_of (entries_by d journal))
 
 module _ (agent : Agent) (journal : Journal) (devices : List Commands) (are : AreKept agent journal devices) (d : ℕ) (own : Commands)
     (inside : d < length agent.devices) (at : own ≡ get_or devices d own) where
@@ -58,12 +58,12 @@ module _ (agent : Agent) (journal : Journal) (devices : List Commands) (are : Ar
 module _ (agent : Agent) (journal : Journal) (d taken : ℕ) where
   -- the last command taken is awaited where its result does not stand
   pub awaited-some : (c : Command) → (taken ≡ 0 → ⊥) → slice_get (commands agent d journal) (taken - 1) ≡ Some c
-      → awaited agent journal d taken ≡ (if is_outstanding agent journal c then Some c else None)
+      → awaited_command agent journal d taken ≡ (if is_outstanding agent journal c then Some c else None)
   awaited-some c some here =
       ap (λ b. if b then None else awaited_by agent journal d taken (slice_get (commands agent d journal) (taken - 1))) (ne_eqb taken 0 some)
       ∙ ap (awaited_by agent journal d taken) here
 
-  pub awaited-none : (taken ≡ 0 → ⊥) → slice_get (commands agent d journal) (taken - 1) ≡ None → awaited agent journal d taken ≡ None
+  pub awaited-none : (taken ≡ 0 → ⊥) → slice_get (commands agent d journal) (taken - 1) ≡ None → awaited_command agent journal d taken ≡ None
   awaited-none some past =
       ap (λ b. if b then None else awaited_by agent journal d taken (slice_get (commands agent d journal) (taken - 1))) (ne_eqb taken 0 some)
       ∙ ap (awaited_by agent journal d taken) past

@@ -14,7 +14,7 @@ use Rattle.golog_tree.specs.Ground.{Ground, sort_size, ground_actions, action_ar
 use Rattle.golog_tree.specs.Numbered.{args, IsGround}
 use Rattle.golog_semantics.specs.Values.{fluent_sort}
 use Rattle.golog_semantics.specs.Ways.{is_empty}
-use Rattle.golog_semantics.specs.Journal.{action_item, sensed, sensed_by}
+use Rattle.golog_semantics.specs.Journal.{action_item, fluent_sensed, sensed_by}
 use Rattle.golog_semantics.specs.WellFormed.{is_device_no, are_sorts, action_item_fits}
 use Rattle.golog_journal.specs.declared.facts.ActionFact.{ActionFact}
 use Rattle.golog_journal.specs.Agents.{ServesDevices}
@@ -58,7 +58,7 @@ module _ (agent : Agent) where
     values = λ fluent h. absurd (let k : None ≡ Some fluent = sym not-sensed ∙ h in cc);
   }
     where
-      not-sensed : sensed agent action ≡ None
+      not-sensed : fluent_sensed agent action ≡ None
       not-sensed = ap (option_and_then (λ (at : Ground). option_map (sensed_by agent at) (find (λ item. item.action == at.0) agent.senses))) none
 
   -- what is read of the table is so, also past its end
@@ -81,7 +81,7 @@ module _ (agent : Agent) where
     item-is : action_item agent number ≡ Some item
     item-is = ap (option_and_then (λ (g : Ground). slice_get agent.actions g.0)) is.named ∙ at
 
-    pub sensed-is : sensed agent number ≡ option_map (sensed_by agent (ground.item, args ground)) (find (λ s. s.action == ground.item) agent.senses)
+    pub sensed-is : fluent_sensed agent number ≡ option_map (sensed_by agent (ground.item, args ground)) (find (λ s. s.action == ground.item) agent.senses)
     sensed-is = ap (option_and_then (λ (g : Ground). option_map (sensed_by agent g) (find (λ s. s.action == g.0) agent.senses))) is.named
 
     fits : action_item_fits agent item ≡ true

@@ -17,8 +17,8 @@ use Rattle.golog_semantics.specs.declared.journal.Reason.TheVariants as reason
 use Rattle.golog_tree.specs.Ground.{sort_size, ground_fluents}
 use Rattle.golog_semantics.specs.Values.{fluent_sort}
 use Rattle.golog_semantics.specs.Ways.{is_empty}
-use Rattle.golog_semantics.specs.Journal.{Journal, Command, action_item, may_post, sensed, commands, is_outstanding, outstanding_commands, has_end, is_counted, is_full, count, limit}
-use Rattle.golog_semantics.specs.Posts.{awaited, awaited_by, is_value_for, is_bad, later_reason, result_of, entry_of, posted_entry}
+use Rattle.golog_semantics.specs.Journal.{Journal, Command, action_item, may_post, fluent_sensed, commands, is_outstanding, outstanding_commands, has_end, is_counted, is_full, count, limit}
+use Rattle.golog_semantics.specs.Posts.{awaited_command, awaited_by, is_value_for, is_bad, later_reason, result_of, entry_of, posted_entry}
 use Rattle.golog_semantics.specs.Online.{may_have_taken, may_close, is_result}
 use Rattle.golog_semantics.specs.Reports.{place_limit, is_device}
 use Rattle.golog_semantics.proofs.CausesKeep.{has}
@@ -60,7 +60,7 @@ module _ (agent : Agent) (journal : Journal) (device taken : ℕ) where
     pub at : slice_get mine (taken - 1) ≡ Some c
     pub open_still : is_outstanding agent journal c ≡ true
 
-  pub is-awaited : (c : Command) → awaited agent journal device taken ≡ Some c → IsAwaited c
+  pub is-awaited : (c : Command) → awaited_command agent journal device taken ≡ Some c → IsAwaited c
   is-awaited c h = go (taken == 0) refl h
     where
       by-some : (o : Option Command) → slice_get mine (taken - 1) ≡ o → 0 < taken → awaited_by agent journal device taken o ≡ Some c → IsAwaited c
@@ -120,7 +120,7 @@ module _ (agent : Agent) (journal : Journal) (device taken : ℕ) where
         → IsBoardList agent (journal ++ Exo device action ∷ [])
     exo-list action goes_on room good =
         let may : may_post agent device action ≡ true = not-false (may_post agent device action)
-        (or_parts (not (may_post agent device action)) (is_some (awaited agent journal device taken)) good).0 in
+        (or_parts (not (may_post agent device action)) (is_some (awaited_command agent journal device taken)) good).0 in
         lawful-push agent journal (Exo device action) list
         (lawful-from agent journal (Exo device action) (record {
           of_agent = and_from _ _ is-number (some-poster device (action_item agent action) may);
@@ -140,7 +140,7 @@ module _ (agent : Agent) (journal : Journal) (device taken : ℕ) where
         go true h = absurd (cc)
         go false h = refl
 
-    pub none-awaited : is_some (awaited agent journal device taken) ≡ false → list_any (is_outstanding agent journal) (take taken mine) ≡ false
+    pub none-awaited : is_some (awaited_command agent journal device taken) ≡ false → list_any (is_outstanding agent journal) (take taken mine) ≡ false
     none-awaited none = go (taken == 0) refl none
       where
         go : (b : Bool) → (taken == 0) ≡ b → is_some (if b then None else awaited_by agent journal device taken (slice_get mine (taken - 1))) ≡ false
@@ -158,7 +158,7 @@ module _ (agent : Agent) (journal : Journal) (device taken : ℕ) where
             ∙ list_any_more (is_outstanding agent journal) mine (taken - 1) d inside
             ∙ or_from _ _ firsts done
 
-    rest-list : has_end journal ≡ false → is_full journal ≡ false → is_some (awaited agent journal device taken) ≡ false
+    rest-list : has_end journal ≡ false → is_full journal ≡ false → is_some (awaited_command agent journal device taken) ≡ false
         → IsBoardList agent (journal ++ Rest device taken ∷ [])
     rest-list goes_on room good =
         lawful-push agent journal (Rest device taken) list
@@ -172,9 +172,9 @@ module _ (agent : Agent) (journal : Journal) (device taken : ℕ) where
         }))
         (counted-room (Rest device taken) refl room)
 
-    module _ (inside : (action fluent : ℕ) → sensed agent action ≡ Some fluent → fluent < length (ground_fluents agent)) where
+    module _ (inside : (action fluent : ℕ) → fluent_sensed agent action ≡ Some fluent → fluent < length (ground_fluents agent)) where
       sense-list : (value : ℕ) (c : Command) (fluent : ℕ) → has_end journal ≡ false → is_full journal ≡ false → IsAwaited c
-          → sensed agent c.action ≡ Some fluent → nat_lt value (sort_size agent (fluent_sort agent fluent)) ≡ true
+          → fluent_sensed agent c.action ≡ Some fluent → nat_lt value (sort_size agent (fluent_sort agent fluent)) ≡ true
           → IsBoardList agent (journal ++ Sense device c.place fluent value ∷ [])
       sense-list value c fluent goes_on room is senses fitting =
           lawful-push agent journal (Sense device c.place fluent value) list
@@ -207,10 +207,10 @@ module _ (agent : Agent) (journal : Journal) (device taken : ℕ) where
       value-list : (value : ℕ) → has_end journal ≡ false → is_full journal ≡ false → is_bad agent journal device taken (item.Value value) ≡ false
           → IsBoardList agent (journal ++ entry_of agent journal device taken (item.Value value) ∷ [])
       value-list value goes_on room good =
-          let one = has (is_value_for agent journal device taken value) (awaited agent journal device taken)
-          (not-false (option_map_or (is_value_for agent journal device taken value) (awaited agent journal device taken) false) good) in
+          let one = has (is_value_for agent journal device taken value) (awaited_command agent journal device taken)
+          (not-false (option_map_or (is_value_for agent journal device taken value) (awaited_command agent journal device taken) false) good) in
           let c : Command = one.item in
-          let two = has (λ f. nat_lt value (sort_size agent (fluent_sort agent f))) (sensed agent c.action) one.passes in
+          let two = has (λ f. nat_lt value (sort_size agent (fluent_sort agent f))) (fluent_sensed agent c.action) one.passes in
           let entry : Sense device c.place two.item value ≡ entry_of agent journal device taken (item.Value value)
           = sym (ap (λ o. option_map_or (result_of agent journal device taken value) o (Rest device taken)) one.is
           ∙ ap (λ o. Sense device c.place (option_map_or (λ f. f) o 0) value) two.is) in

@@ -3,7 +3,7 @@ use Rattle.std.proofs.Common.{◌≡◌, ℕ, suc, ◌+◌, ◌<◌, Bool, false
 use Rattle.std.specs.List.{list_all, range_with_len}
 use Rattle.std.specs.Option.{option_map_or}
 use Rattle.golog_tree.specs.declared.agent.Agent.{Agent}
-use Rattle.golog_semantics.specs.Journal.{Journal, commands, is_at_rest, is_open, is_quiet, is_rest_after, last_of, posted}
+use Rattle.golog_semantics.specs.Journal.{Journal, commands, is_at_rest, is_open, is_quiet, is_rest_after, last_of, entries_by}
 use Rattle.golog_journal.specs.declared.standing.Standing.{Standing}
 use Rattle.golog_journal.specs.Tallies.{IsTally, AreTallies}
 use Rattle.golog_journal.specs.Quiet.{is_quiet_by}
@@ -22,8 +22,8 @@ module _ (agent : Agent) (journal : Journal) where
   one_quiet d t is =
       ap (λ b. not b || option_map_or (λ rested. rested == t.commands) t.rested false) is.has_open
       ∙ ap (λ o. not (is_open d journal) || option_map_or (λ rested. rested == t.commands) o false) is.has_rested
-      ∙ ap (λ b. not (is_open d journal) || b) (resting-of t.commands (last_of (posted d journal)))
-      ∙ ap (λ n. not (is_open d journal) || option_map_or (is_rest_after n) (last_of (posted d journal)) false) is.has_commands
+      ∙ ap (λ b. not (is_open d journal) || b) (resting-of t.commands (last_of (entries_by d journal)))
+      ∙ ap (λ n. not (is_open d journal) || option_map_or (is_rest_after n) (last_of (entries_by d journal)) false) is.has_commands
 
   pub quiet_by : (ts : List Standing) → AreTallies agent journal ts → list_all is_quiet_by ts ≡ is_quiet agent journal
   quiet_by ts are =

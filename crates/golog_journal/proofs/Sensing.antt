@@ -18,7 +18,7 @@ use Rattle.golog_semantics.specs.Truth.{env_of, arg_value}
 use Rattle.golog_semantics.specs.Ways.{is_empty}
 use Rattle.golog_semantics.specs.Fits.{bound_from, arg_fits, args_fit}
 use Rattle.golog_semantics.specs.WellFormed.{sense_fits_for, sense_fits}
-use Rattle.golog_semantics.specs.Journal.{sensed, sensed_by}
+use Rattle.golog_semantics.specs.Journal.{fluent_sensed, sensed_by}
 use Rattle.golog_semantics.proofs.GroundNumbers.{action_is}
 use Rattle.golog_semantics.proofs.ActionNames.{args_at-map}
 use Rattle.golog_semantics.proofs.NumbersStand.{fluent_args-at}
@@ -118,7 +118,7 @@ module _ (agent : Agent) where
       sense-names sense args is.keeps (subst (λ n. AreWithin (sizes agent (args_at (action_args agent) n)) args) (sym same) within)
 
   -- what the result of an action tells is a ground fluent of the agent
-  pub sensed-inside : ServesDevices agent → (action fluent : ℕ) → sensed agent action ≡ Some fluent → fluent < length (ground_fluents agent)
+  pub sensed-inside : ServesDevices agent → (action fluent : ℕ) → fluent_sensed agent action ≡ Some fluent → fluent < length (ground_fluents agent)
   sensed-inside serves action fluent h = by-ground (slice_get (ground_actions agent) action) refl h
     where
       by-sense : (at : Ground) (o : Option SenseItem) → find (λ s. s.action == at.0) agent.senses ≡ o → AreWithin (sizes agent (args_at (action_args agent) at.0)) at.1

@@ -10,8 +10,8 @@ use Rattle.std.proofs.lemmas.List.Folds.{list_any-append}
 use Rattle.golog_tree.specs.declared.agent.Agent.{Agent}
 use Rattle.golog_semantics.specs.declared.journal.Entry.{Entry}
 use Rattle.golog_semantics.specs.declared.journal.Entry.TheVariants.{Do, Test, Exo, Sense, Rest, Close, End}
-use Rattle.golog_semantics.specs.Journal.{Journal, Command, command_at, commands, is_carried_by, is_sensing, is_posted_by, posted, is_close, is_open, is_result_of, is_outstanding}
-use Rattle.golog_semantics.specs.Posts.{awaited, awaited_by}
+use Rattle.golog_semantics.specs.Journal.{Journal, Command, command_at, commands, is_carried_by, is_sensing, is_posted_by, entries_by, is_close, is_open, is_result_of, is_outstanding}
+use Rattle.golog_semantics.specs.Posts.{awaited_command, awaited_by}
 use Rattle.golog_semantics.specs.Online.{told_taken}
 use Rattle.golog_semantics.proofs.GroundNumbers.{slice_get-left}
 use Rattle.golog_journal.specs.Boards.{IsBoardList}
@@ -147,11 +147,11 @@ module _ (agent : Agent) where
         or_from _ _ (still-answered c parts.0) (none-later cs parts.1)
 
     module _ (device : ℕ) (foreign : AreNotOf device others) where
-      pub posted-same : posted device (journal ++ others) ≡ posted device journal
+      pub posted-same : entries_by device (journal ++ others) ≡ entries_by device journal
       posted-same =
           filter-append (is_posted_by device) journal others
-          ∙ ap (λ es. posted device journal ++ es) (filter-none (is_posted_by device) others foreign)
-          ∙ append-nil (posted device journal)
+          ∙ ap (λ es. entries_by device journal ++ es) (filter-none (is_posted_by device) others foreign)
+          ∙ append-nil (entries_by device journal)
 
       pub open-same : is_open device (journal ++ others) ≡ is_open device journal
       open-same = ap (λ es. not (list_any is_close es)) posted-same
@@ -164,7 +164,7 @@ module _ (agent : Agent) where
         few = nat_le taken (length mine)
 
         abbrev told : Bool
-        told = list_all (λ e. nat_le (told_taken agent journal e) taken) (posted device journal)
+        told = list_all (λ e. nat_le (told_taken agent journal e) taken) (entries_by device journal)
 
         abbrev pending : Bool
         pending = list_any (is_outstanding agent journal) (take (taken - 1) mine)
@@ -182,7 +182,7 @@ module _ (agent : Agent) where
             ap (λ cs. nat_le taken (length cs)) (commands-append device)
             ∙ le-leb taken (length (mine ++ from device (0 + length journal) others)) (omega (arith, low, l))
 
-        told-later : list_all (λ e. nat_le (told_taken agent (journal ++ others) e) taken) (posted device (journal ++ others)) ≡ true
+        told-later : list_all (λ e. nat_le (told_taken agent (journal ++ others) e) taken) (entries_by device (journal ++ others)) ≡ true
         told-later =
             ap (list_all (λ e. nat_le (told_taken agent (journal ++ others) e) taken)) posted-same
             ∙ told-all taken (is_posted_by device) journal (results-within agent journal list)
@@ -198,7 +198,7 @@ module _ (agent : Agent) where
         pub fits-later : fits agent (journal ++ others) device taken ≡ true
         fits-later = and_from _ _ (and_from _ _ few-later told-later) (not_from_false _ pending-later)
 
-        awaited-later : awaited agent journal device taken ≡ None → awaited agent (journal ++ others) device taken ≡ None
+        awaited-later : awaited_command agent journal device taken ≡ None → awaited_command agent (journal ++ others) device taken ≡ None
         awaited-later none = go (taken == 0) refl none
           where
             by-one : (o : Option Command) → awaited_by agent journal device taken o ≡ None → awaited_by agent (journal ++ others) device taken o ≡ None

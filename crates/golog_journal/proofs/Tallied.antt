@@ -9,7 +9,7 @@ use Rattle.std.proofs.lemmas.List.Sums.{sum_by-set, sum_by-cons, count_by-le-len
 use Rattle.golog_tree.specs.declared.agent.Agent.{Agent}
 use Rattle.golog_semantics.specs.declared.journal.Entry.{Entry}
 use Rattle.golog_semantics.specs.declared.journal.Entry.TheVariants.{Do}
-use Rattle.golog_semantics.specs.Journal.{Journal, Command, device_of, command_at, commands, is_posted_by, posted, is_close, is_open, is_end, has_end, count, last_of}
+use Rattle.golog_semantics.specs.Journal.{Journal, Command, device_of, command_at, commands, is_posted_by, entries_by, is_close, is_open, is_end, has_end, count, last_of}
 use Rattle.golog_semantics.proofs.Pushed.{fold-push}
 use Rattle.golog_semantics.proofs.Grown.{posted-push, posts_grow, commands-push, entries_grow}
 use Rattle.golog_journal.specs.declared.standing.Standing.{Standing}
@@ -37,12 +37,12 @@ module _ (agent : Agent) (journal : Journal) (e : Entry) where
   abbrev after : Journal
   after = journal ++ e ∷ []
 
-  posted-other : (d : ℕ) → is_posted_by d e ≡ false → posted d after ≡ posted d journal
+  posted-other : (d : ℕ) → is_posted_by d e ≡ false → entries_by d after ≡ entries_by d journal
   posted-other d other =
-      posted-push journal e d ∙ ap (λ b. posted d journal ++ (if b then e ∷ [] else [])) other ∙ append-nil (posted d journal)
+      posted-push journal e d ∙ ap (λ b. entries_by d journal ++ (if b then e ∷ [] else [])) other ∙ append-nil (entries_by d journal)
 
-  posted-own : (d : ℕ) → is_posted_by d e ≡ true → posted d after ≡ posted d journal ++ e ∷ []
-  posted-own d own = posted-push journal e d ∙ ap (λ b. posted d journal ++ (if b then e ∷ [] else [])) own
+  posted-own : (d : ℕ) → is_posted_by d e ≡ true → entries_by d after ≡ entries_by d journal ++ e ∷ []
+  posted-own d own = posted-push journal e d ∙ ap (λ b. entries_by d journal ++ (if b then e ∷ [] else [])) own
 
   pub commands-same : (d : ℕ) → command_at agent d (length journal, e) ≡ None → commands agent d after ≡ commands agent d journal
   commands-same d none =
@@ -79,7 +79,7 @@ module _ (agent : Agent) (journal : Journal) (e : Entry) where
       → IsTally agent journal d t → IsTally agent after d new
   tally-noted d t new own none same rested still is = record {
     has_commands = same ∙ is.has_commands ∙ ap length (sym (commands-same d none));
-    has_rested = rested ∙ ap rested_after (sym (fold-push _ None (posted d journal) e)) ∙ ap (λ es. rested_after (last_of es)) (sym (posted-own d own));
+    has_rested = rested ∙ ap rested_after (sym (fold-push _ None (entries_by d journal) e)) ∙ ap (λ es. rested_after (last_of es)) (sym (posted-own d own));
     has_open =
         still ∙ ap (λ b. b && not (is_close e)) is.has_open
         ∙ ap (λ b. is_open d journal && not (b && is_close e)) (sym own) ∙ sym (posts_grow journal e d).open_still;

@@ -5,7 +5,7 @@ use Rattle.std.specs.Option.{option_map_or}
 use Rattle.golog_tree.specs.declared.agent.Agent.{Agent}
 use Rattle.golog_tree.specs.Ground.{sort_size}
 use Rattle.golog_semantics.specs.Values.{fluent_sort}
-use Rattle.golog_semantics.specs.Journal.{Journal, sensed}
+use Rattle.golog_semantics.specs.Journal.{Journal, fluent_sensed}
 use Rattle.golog_semantics.specs.declared.journal.Entry.{Entry}
 use Rattle.golog_journal.specs.declared.facts.ActionFact.{ActionFact}
 use Rattle.golog_journal.specs.Boards.{AgentJournal, IsBoardList}
@@ -28,10 +28,10 @@ grown agent entries new value e is more =
 -- a value fits where it is below the number of values that is kept
 pub value-fits : (agent : Agent) (action value : ℕ) (fact : ActionFact) → IsFactOf agent action fact
     → (is_some fact.sensed && nat_lt value fact.values)
-    ≡ option_map_or (λ fluent. nat_lt value (sort_size agent (fluent_sort agent fluent))) (sensed agent action) false
-value-fits agent action value fact is = go (sensed agent action) refl
+    ≡ option_map_or (λ fluent. nat_lt value (sort_size agent (fluent_sort agent fluent))) (fluent_sensed agent action) false
+value-fits agent action value fact is = go (fluent_sensed agent action) refl
   where
-    go : (o : Option ℕ) → sensed agent action ≡ o
+    go : (o : Option ℕ) → fluent_sensed agent action ≡ o
         → (is_some fact.sensed && nat_lt value fact.values)
         ≡ option_map_or (λ fluent. nat_lt value (sort_size agent (fluent_sort agent fluent))) o false
     go None none = ap (λ p. is_some p && nat_lt value fact.values) (is.sensed ∙ none)

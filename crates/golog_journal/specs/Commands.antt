@@ -2,14 +2,14 @@
 use Rattle.std.specs.Prelude.{◌≡◌, ℕ, Bool, false, if◌then◌else◌, Option, Some, None, [], slice_get}
 use Rattle.std.specs.Option.{option_map_or}
 use Rattle.golog_tree.specs.declared.agent.Agent.{Agent}
-use Rattle.golog_semantics.specs.Journal.{Journal, Command, commands, is_sensing, posted, has_end, last_of, is_rest_after}
+use Rattle.golog_semantics.specs.Journal.{Journal, Command, commands, is_sensing, entries_by, has_end, last_of, is_rest_after}
 use Rattle.golog_journal.specs.declared.board.Next.{Next}
 use Rattle.golog_journal.specs.declared.board.Next.TheVariants as next
 
 module _ (agent : Agent) (journal : Journal) (device taken : ℕ) where
   -- the last entry of the device is a Rest with so many commands taken
   abbrev pub is_resting : Bool
-  is_resting = option_map_or (is_rest_after taken) (last_of (posted device journal)) false
+  is_resting = option_map_or (is_rest_after taken) (last_of (entries_by device journal)) false
 
   -- without a command the device has nothing to do, or stops after the end
   abbrev pub next_by : Option Command → Next

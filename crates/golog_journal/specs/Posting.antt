@@ -4,7 +4,7 @@ use Rattle.golog_tree.specs.declared.agent.Agent.{Agent}
 use Rattle.golog_semantics.specs.declared.journal.Item.{Item}
 use Rattle.golog_semantics.specs.declared.journal.Item.TheVariants.{Stop, Refused}
 use Rattle.golog_semantics.specs.declared.journal.Reason.{Reason}
-use Rattle.golog_semantics.specs.Journal.{Journal, commands, posted, has_end}
+use Rattle.golog_semantics.specs.Journal.{Journal, commands, entries_by, has_end}
 use Rattle.golog_semantics.specs.Posts.{closing, posted_entry}
 use Rattle.golog_journal.specs.declared.board.Posted.{Posted}
 use Rattle.golog_journal.specs.declared.board.Posted.TheVariants.{At, Closed}
@@ -19,7 +19,7 @@ module _ (agent : Agent) (journal : Journal) (device taken : ℕ) where
   -- a device is stopped after the end, with all its commands taken; it is refused before all else
   abbrev pub IsItsTime : Item → Type 0
   IsItsTime Stop = IsTrue (has_end journal) × (taken ≡ length (commands agent device journal))
-  IsItsTime Refused = (taken ≡ 0) × (posted device journal ≡ []) × (commands agent device journal ≡ [])
+  IsItsTime Refused = (taken ≡ 0) × (entries_by device journal ≡ []) × (commands agent device journal ≡ [])
   IsItsTime item = Unit {0}
 
   -- an open device may post, at the number of commands that it has taken

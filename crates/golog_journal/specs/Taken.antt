@@ -4,7 +4,7 @@ use Rattle.std.specs.List.{list_any}
 use Rattle.golog_tree.specs.declared.agent.Agent.{Agent}
 use Rattle.golog_semantics.specs.Journal.{Journal, commands, is_outstanding, is_open}
 use Rattle.golog_semantics.specs.Online.{may_have_taken}
-use Rattle.golog_semantics.specs.Posts.{awaited}
+use Rattle.golog_semantics.specs.Posts.{awaited_command}
 
 module _ (agent : Agent) (journal : Journal) (device taken : ℕ) where
   -- the device has so many commands, no entry of it tells of more, and only the last of so many may still
@@ -23,4 +23,4 @@ module _ (agent : Agent) (journal : Journal) (device taken : ℕ) where
   -- and the result of the last of them is not awaited
   pub record IsReady : Type 0 where
     pub driven : IsDriven
-    pub answered : awaited agent journal device taken ≡ None
+    pub answered : awaited_command agent journal device taken ≡ None

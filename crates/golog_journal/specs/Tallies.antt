@@ -3,7 +3,7 @@ use Rattle.std.specs.Prelude.{◌≡◌, ℕ, ◌+◌, ◌<◌, not, if◌then�
 use Rattle.golog_tree.specs.declared.agent.Agent.{Agent}
 use Rattle.golog_semantics.specs.declared.journal.Entry.{Entry}
 use Rattle.golog_semantics.specs.declared.journal.Entry.TheVariants.{Do, Test, Rest, End}
-use Rattle.golog_semantics.specs.Journal.{Journal, device_of, commands, posted, is_open, last_of, has_end, count}
+use Rattle.golog_semantics.specs.Journal.{Journal, device_of, commands, entries_by, is_open, last_of, has_end, count}
 use Rattle.golog_journal.specs.declared.standing.Standing.{Standing}
 use Rattle.golog_journal.specs.Agents.{ServesDevices}
 use Rattle.golog_journal.specs.Boards.{IsBoardList}
@@ -24,7 +24,7 @@ module _ (agent : Agent) (journal : Journal) where
   -- how many commands the device has, the number at its last entry if that is a Rest, and whether it is open
   pub record IsTally (device : ℕ) (standing : Standing) : Type 0 where
     pub has_commands : standing.commands ≡ length (commands agent device journal)
-    pub has_rested : standing.rested ≡ rested_after (last_of (posted device journal))
+    pub has_rested : standing.rested ≡ rested_after (last_of (entries_by device journal))
     pub has_open : standing.is_open ≡ is_open device journal
 
   -- how many devices are closed

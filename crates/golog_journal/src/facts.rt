@@ -3,7 +3,7 @@ ghost use Rattle.std.specs.Prelude.{◌≡◌, ◌<◌, IfOk, false, nat_lt};
 ghost use Rattle.std.specs.Option.{option_map_or};
 ghost use Rattle.golog_tree.specs.Ground.{sort_size as size_of_sort};
 ghost use Rattle.golog_semantics.specs.Values.{fluent_sort};
-ghost use Rattle.golog_semantics.specs.Journal.{device_of as carrier, may_post as may_be_posted, sensed as fluent_sensed, is_sensing as does_sense, device_limit};
+ghost use Rattle.golog_semantics.specs.Journal.{device_of as carrier, may_post as may_be_posted, fluent_sensed, is_sensing as does_sense, device_limit};
 ghost use Rattle.golog_journal.specs.Agents.{ServesDevices};
 
 use crate::table::action_facts;

@@ -3,7 +3,7 @@ ghost use Rattle.std.specs.Prelude.{◌≡◌, ◌<◌, ◌≤◌, [], ◌∷◌
 ghost use Rattle.std.specs.Option.{option_map_or};
 ghost use Rattle.golog_semantics.specs.Journal.{commands, is_open as is_open_in, is_full as is_full_in, is_quiet as is_quiet_in, longest};
 ghost use Rattle.golog_journal.specs.Quiet.{asked_of as asked_of_device};
-ghost use Rattle.golog_semantics.specs.Posts.{awaited as awaited_in, is_bad as is_bad_in, later_reason as later_reason_in, closing as closing_in, entry_of as entry_in};
+ghost use Rattle.golog_semantics.specs.Posts.{awaited_command, is_bad as is_bad_in, later_reason as later_reason_in, closing as closing_in, entry_of as entry_in};
 ghost use Rattle.golog_semantics.specs.declared.journal.Entry.TheVariants.{Close};
 ghost use Rattle.golog_journal.specs.Agents.{ServesDevices};
 ghost use Rattle.golog_journal.specs.Boards.{IsBoardList};
@@ -147,7 +147,7 @@ impl Journal {
     // The last command taken, where its result is still to come.
     fn awaited(&self, poster: u8, taken: u32) -> Option<Kept>
         requires { poster < length self.now.agent.devices }
-        ensures { option_map command_of result ≡ awaited_in self.now.agent self.now.entries poster taken }
+        ensures { option_map command_of result ≡ awaited_command self.now.agent self.now.entries poster taken }
     {
         if taken == 0 {
             return None;

@@ -13,7 +13,7 @@ use Rattle.golog_semantics.specs.declared.journal.Entry.{Entry}
 use Rattle.golog_semantics.specs.declared.journal.Entry.TheVariants.{Do, Test, Exo, Sense, Rest, Close, End}
 use Rattle.golog_semantics.specs.Values.{fluent_sort}
 use Rattle.golog_semantics.specs.Ways.{is_empty}
-use Rattle.golog_semantics.specs.Journal.{Journal, Command, command_at, commands, device_of, is_carried_by, is_held, is_open, is_outstanding, is_result_of, is_sensing, is_settled, is_waiting_for, outstanding_commands, sensed}
+use Rattle.golog_semantics.specs.Journal.{Journal, Command, command_at, commands, device_of, is_carried_by, is_held, is_open, is_outstanding, is_result_of, is_sensing, is_settled, is_waiting_for, outstanding_commands, fluent_sensed}
 use Rattle.golog_semantics.specs.Online.{is_result, keeps_place, told_taken}
 use Rattle.golog_semantics.specs.Answer.{is_unanswered}
 use Rattle.golog_semantics.specs.OneMore.{and_then, new_command}
@@ -147,7 +147,7 @@ module _ (agent : Agent) (journal : Journal) where
   place-own p at f a one own =
       ap (λ d. firsts d at f) (sym own)
       ∙ ap (λ cs. option_map_or (is_result agent journal at f) (slice_get cs 0) false) one.own
-      ∙ ap (λ n. (n == at) && option_map_or (λ g. g == f) (sensed agent one.command.action) false) one.place_so
+      ∙ ap (λ n. (n == at) && option_map_or (λ g. g == f) (fluent_sensed agent one.command.action) false) one.place_so
       ∙ ap (λ o. (a.place == at) && option_map_or (λ g. g == f) o false) one.senses
 
   pub place-by : (o : Option Awaited) → AwaitsFrom agent journal o → (p at f v : ℕ) → nat_lt v (sort_size agent (fluent_sort agent f)) ≡ true
@@ -332,7 +332,7 @@ module _ (agent : Agent) (journal : Journal) (action : ℕ) (none : (d : ℕ) �
       grows agent journal (Do action) d
       ∙ ap (λ cs. filter (λ (x : Command). not false) cs ++ filter (is_outstanding agent next) (new_command agent journal (Do action) d)) (none d)
 
-  pub asks-nothing : sensed agent action ≡ None → (d : ℕ) → outstanding_commands agent d next ≡ []
+  pub asks-nothing : fluent_sensed agent action ≡ None → (d : ℕ) → outstanding_commands agent d next ≡ []
   asks-nothing h d = go (is_carried_by agent d action) refl
     where
       out : is_outstanding agent next c ≡ false
@@ -342,7 +342,7 @@ module _ (agent : Agent) (journal : Journal) (action : ℕ) (none : (d : ℕ) �
       go true e = only-new d ∙ ap (filter (is_outstanding agent next)) (new-if d true e) ∙ filter-one (is_outstanding agent next) c false out
       go false e = only-new d ∙ ap (filter (is_outstanding agent next)) (new-if d false e)
 
-  module _ (serves : ServesDevices agent) (results : AreEarlier journal) (device fluent : ℕ) (sent : device_of agent action ≡ Some device) (senses : sensed agent action ≡ Some fluent) where
+  module _ (serves : ServesDevices agent) (results : AreEarlier journal) (device fluent : ℕ) (sent : device_of agent action ≡ Some device) (senses : fluent_sensed agent action ≡ Some fluent) where
     out : is_outstanding agent next c ≡ true
     out =
         (commands_grow agent journal (Do action) device).each c

@@ -11,7 +11,7 @@ use Rattle.golog_semantics.specs.declared.journal.Answer.{Answer}
 use Rattle.golog_semantics.specs.declared.journal.Entry.{Entry}
 use Rattle.golog_semantics.specs.declared.journal.Entry.TheVariants.{Do, Test, Exo, Sense, Rest, Close, End}
 use Rattle.golog_semantics.specs.Ways.{is_empty}
-use Rattle.golog_semantics.specs.Journal.{Journal, Command, commands, command_at, device_of, has_end, is_at_rest, is_carried_by, is_close, is_open, is_posted_by, is_quiet, is_rest_after, is_result_of, last_of, posted, poster_of}
+use Rattle.golog_semantics.specs.Journal.{Journal, Command, commands, command_at, device_of, has_end, is_at_rest, is_carried_by, is_close, is_open, is_posted_by, is_quiet, is_rest_after, is_result_of, last_of, entries_by, poster_of}
 use Rattle.golog_semantics.specs.Online.{is_whole, may_have_taken, told_taken}
 use Rattle.golog_semantics.specs.OneMore.{and_then, new_command}
 use Rattle.golog_semantics.proofs.Grown.{commands_grow, posts_grow, posted-push}
@@ -53,7 +53,7 @@ module _ (agent : Agent) (journal : Journal) where
 
   pub may-by : (d taken : ℕ) (t : Tracked) → IsTracked agent journal d t → may_have_taken agent journal d taken ≡ (nat_le taken t.commands && nat_le t.told taken)
   may-by d taken t is =
-      ap (λ n. nat_le taken n && list_all (λ e. nat_le (told_taken agent journal e) taken) (posted d journal)) (sym is.commands_so)
+      ap (λ n. nat_le taken n && list_all (λ e. nat_le (told_taken agent journal e) taken) (entries_by d journal)) (sym is.commands_so)
       ∙ ap (λ b. nat_le taken t.commands && b) (is.told_so taken)
 
   resting : (n : ℕ) (o : Option Entry) → option_map_or (λ rested. rested == n) (rested_after o) false ≡ option_map_or (is_rest_after n) o false
@@ -70,8 +70,8 @@ module _ (agent : Agent) (journal : Journal) where
   one-quiet d t is =
       ap (λ b. not b || option_map_or (λ rested. rested == t.commands) t.rested false) is.open_so
       ∙ ap (λ o. not (is_open d journal) || option_map_or (λ rested. rested == t.commands) o false) is.rested_so
-      ∙ ap (λ b. not (is_open d journal) || b) (resting t.commands (last_of (posted d journal)))
-      ∙ ap (λ n. not (is_open d journal) || option_map_or (is_rest_after n) (last_of (posted d journal)) false) is.commands_so
+      ∙ ap (λ b. not (is_open d journal) || b) (resting t.commands (last_of (entries_by d journal)))
+      ∙ ap (λ n. not (is_open d journal) || option_map_or (is_rest_after n) (last_of (entries_by d journal)) false) is.commands_so
 
   all-of : (f : Tracked → Bool) (g : ℕ → Bool) (ts : List Tracked) (a : ℕ) → ((k : ℕ) (d : Tracked) → k < length ts → f (get_or ts k d) ≡ g (a + k))
       → list_all f ts ≡ list_all g (range_with_len a (length ts))
@@ -144,16 +144,16 @@ module _ (agent : Agent) (journal : Journal) (e : Entry) (results : AreEarlier j
   longer : length after ≡ length journal + 1
   longer = length-append journal (e ∷ [])
 
-  posted-other : (d : ℕ) → is_posted_by d e ≡ false → posted d after ≡ posted d journal
-  posted-other d other = posted-push journal e d ∙ ap (λ b. posted d journal ++ (if b then e ∷ [] else [])) other ∙ append-nil (posted d journal)
+  posted-other : (d : ℕ) → is_posted_by d e ≡ false → entries_by d after ≡ entries_by d journal
+  posted-other d other = posted-push journal e d ∙ ap (λ b. entries_by d journal ++ (if b then e ∷ [] else [])) other ∙ append-nil (entries_by d journal)
 
-  posted-own : (d : ℕ) → is_posted_by d e ≡ true → posted d after ≡ posted d journal ++ e ∷ []
-  posted-own d own = posted-push journal e d ∙ ap (λ b. posted d journal ++ (if b then e ∷ [] else [])) own
+  posted-own : (d : ℕ) → is_posted_by d e ≡ true → entries_by d after ≡ entries_by d journal ++ e ∷ []
+  posted-own d own = posted-push journal e d ∙ ap (λ b. entries_by d journal ++ (if b then e ∷ [] else [])) own
 
   same-commands : (d : ℕ) → new_command agent journal e d ≡ [] → commands agent d after ≡ commands agent d journal
   same-commands d none = (commands_grow agent journal e d).all ∙ ap (λ cs. commands agent d journal ++ cs) none ∙ append-nil (commands agent d journal)
 
-  told-still : (d taken : ℕ) → list_all (λ x. nat_le (told_taken agent after x) taken) (posted d journal) ≡ list_all (λ x. nat_le (told_taken agent journal x) taken) (posted d journal)
+  told-still : (d taken : ℕ) → list_all (λ x. nat_le (told_taken agent after x) taken) (entries_by d journal) ≡ list_all (λ x. nat_le (told_taken agent journal x) taken) (entries_by d journal)
   told-still d taken = told-all agent journal (e ∷ []) taken (is_posted_by d) journal results
 
   -- the entry is not the device's, whose commands are these then
@@ -182,17 +182,17 @@ module _ (agent : Agent) (journal : Journal) (e : Entry) (results : AreEarlier j
       → IsTracked agent journal d t → IsTracked agent after d new
   own-so d t new own none tells opened silent commands told rested is = record {
     open_so = opened ∙ ap (λ b. b && not (is_close e)) is.open_so ∙ ap (λ b. is_open d journal && not (b && is_close e)) (sym own) ∙ sym (posts_grow journal e d).open_still;
-    silent_so = silent ∙ sym (ap is_empty (posted-own d own) ∙ some (posted d journal));
+    silent_so = silent ∙ sym (ap is_empty (posted-own d own) ∙ some (entries_by d journal));
     commands_so = commands ∙ is.commands_so ∙ ap (λ (cs : List Command). length cs) (sym (same-commands d none));
     few = let k = is.few in let l = longer in omega (arith, commands, k, l);
     told_so = λ taken.
         ap (list_all (λ x. nat_le (told_taken agent after x) taken)) (posted-own d own)
-        ∙ list_all-append (λ x. nat_le (told_taken agent after x) taken) (posted d journal) (e ∷ [])
+        ∙ list_all-append (λ x. nat_le (told_taken agent after x) taken) (entries_by d journal) (e ∷ [])
         ∙ ap (λ b. b && (nat_le (told_taken agent after e) taken && true)) (told-still d taken ∙ is.told_so taken)
         ∙ ap (λ k. nat_le t.told taken && (nat_le k taken && true)) (tells ∙ ap (told_by e) (sym is.commands_so))
         ∙ ap (λ b. nat_le t.told taken && b) (and-true (nat_le (told_by e t.commands) taken))
         ∙ max-below t.told (told_by e t.commands) taken ∙ ap (λ k. nat_le k taken) (sym told);
-    rested_so = rested ∙ ap rested_after (sym (fold-push _ None (posted d journal) e)) ∙ ap (λ es. rested_after (last_of es)) (sym (posted-own d own));
+    rested_so = rested ∙ ap rested_after (sym (fold-push _ None (entries_by d journal) e)) ∙ ap (λ es. rested_after (last_of es)) (sym (posted-own d own));
   }
     where
       and-true : (b : Bool) → (b && true) ≡ b

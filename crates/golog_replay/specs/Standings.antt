@@ -7,7 +7,7 @@ use Rattle.golog_semantics.specs.declared.journal.Entry.{Entry}
 use Rattle.golog_semantics.specs.declared.journal.Entry.TheVariants.{End, Rest, Sense}
 use Rattle.golog_semantics.specs.declared.journal.Answer.{Answer}
 use Rattle.golog_semantics.specs.Ways.{is_empty}
-use Rattle.golog_semantics.specs.Journal.{Journal, Command, commands, count, has_end, is_open, is_outstanding, is_result_of, last_of, outstanding_commands, posted, sensed}
+use Rattle.golog_semantics.specs.Journal.{Journal, Command, commands, count, has_end, is_open, is_outstanding, is_result_of, last_of, outstanding_commands, entries_by, fluent_sensed}
 use Rattle.golog_semantics.specs.Online.{told_taken}
 use Rattle.golog_journal.specs.Agents.{ServesDevices}
 use Rattle.golog_journal.specs.Tallies.{rested_after}
@@ -55,13 +55,13 @@ module _ (agent : Agent) (journal : Journal) where
   -- entries tell of at most, and the number at its last entry if that is a Rest
   pub record IsTracked (device : ℕ) (t : Tracked) : Type 0 where
     pub open_so : t.is_open ≡ is_open device journal
-    pub silent_so : t.is_silent ≡ is_empty (posted device journal)
+    pub silent_so : t.is_silent ≡ is_empty (entries_by device journal)
     pub commands_so : t.commands ≡ length (commands agent device journal)
     pub few : t.commands ≤ length journal
     pub told_so : (taken : ℕ)
-        → list_all (λ e. nat_le (told_taken agent journal e) taken) (posted device journal)
+        → list_all (λ e. nat_le (told_taken agent journal e) taken) (entries_by device journal)
         ≡ nat_le t.told taken
-    pub rested_so : t.rested ≡ rested_after (last_of (posted device journal))
+    pub rested_so : t.rested ≡ rested_after (last_of (entries_by device journal))
 
   -- one for each device
   pub record AreTracked (tracked : List Tracked) : Type 0 where
@@ -75,7 +75,7 @@ module _ (agent : Agent) (journal : Journal) where
     pub command : Command
     pub earlier : List Command
     pub place_so : command.place ≡ a.place
-    pub senses : sensed agent command.action ≡ Some a.fluent
+    pub senses : fluent_sensed agent command.action ≡ Some a.fluent
     pub last : commands agent a.device journal ≡ earlier ++ command ∷ []
     pub first : filter (λ c. nat_lt c.place a.place) (commands agent a.device journal) ≡ earlier
     pub come : list_any (is_outstanding agent journal) earlier ≡ false

@@ -3,7 +3,7 @@ ghost use Rattle.std.specs.Prelude.{◌≡◌, ◌==◌, ◌<◌, ◌≤◌, ℕ
 ghost use Rattle.std.specs.List.{list_any};
 ghost use Rattle.std.specs.Option.{option_map_or};
 ghost use Rattle.golog_semantics.specs.declared.journal.Entry.TheVariants.{Do, End};
-ghost use Rattle.golog_semantics.specs.Journal.{Journal, commands, has_end, is_full as is_full_in, is_open as is_open_in, is_outstanding, is_quiet as is_quiet_in, is_settled as is_settled_in, posted, poster_of as posted_by};
+ghost use Rattle.golog_semantics.specs.Journal.{Journal, commands, has_end, is_full as is_full_in, is_open as is_open_in, is_outstanding, is_quiet as is_quiet_in, is_settled as is_settled_in, entries_by, poster_of as posted_by};
 ghost use Rattle.golog_semantics.specs.Ways.{is_empty};
 ghost use Rattle.golog_semantics.specs.Answer.{is_unanswered as is_unanswered_in};
 ghost use Rattle.golog_semantics.specs.Online.{is_declared, is_whole as is_whole_in, keeps_after as keeps_after_in, keeps_close as keeps_close_in, keeps_place as keeps_place_in, keeps_poster as keeps_poster_in, keeps_taken as keeps_taken_in, may_close as may_close_in, may_have_taken as may_have_taken_in};
@@ -90,7 +90,7 @@ impl Standing {
     fn is_silent(&self, agent: &Agent, before: &[Entry], device: u8) -> bool
         requires standing { IsStanding agent.now before.now self.now }
         requires device { device < length agent.now.devices }
-        ensures { result ≡ is_empty (posted device before.now) }
+        ensures { result ≡ is_empty (entries_by device before.now) }
     {
         self.tracked(agent, before, device).is_silent
     }

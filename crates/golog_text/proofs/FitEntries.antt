@@ -14,7 +14,7 @@ use Rattle.golog_tree.specs.declared.prog.Label.TheVariants.{Quiet, Do as Doing}
 use Rattle.golog_tree.specs.Ground.{sort_size, ground_fluents}
 use Rattle.golog_semantics.specs.declared.journal.Entry.{Entry}
 use Rattle.golog_semantics.specs.declared.journal.Entry.TheVariants.{Do, Test, Exo, Sense, Rest, Close, End}
-use Rattle.golog_semantics.specs.Journal.{Journal, Command, command_at, commands, is_carried_by, sensed}
+use Rattle.golog_semantics.specs.Journal.{Journal, Command, command_at, commands, is_carried_by, fluent_sensed}
 use Rattle.golog_semantics.specs.Online.{is_result, label_of}
 use Rattle.golog_semantics.specs.Reports.{fits_entry, fits_label, is_device, is_exogenous, is_own, is_value}
 use Rattle.golog_semantics.specs.Text.{Text, constant_text}
@@ -46,7 +46,7 @@ module _ (agent : Agent) where
   or-true false b e = absurd (cc)
 
   listed : (journal : Journal) (device fluent action first place : ℕ) (entries : Journal) (i : ℕ) → place ≡ first + i → slice_get entries i ≡ Some (Do action)
-      → is_carried_by agent device action ≡ true → sensed agent action ≡ Some fluent
+      → is_carried_by agent device action ≡ true → fluent_sensed agent action ≡ Some fluent
       → list_any (is_result agent journal place fluent) (filter_map (command_at agent device) (enumerate_from first entries)) ≡ true
   listed journal device fluent action first place [] i at e carried senses = absurd (cc)
   listed journal device fluent action first place (x ∷ entries) zero at e carried senses =
@@ -54,7 +54,7 @@ module _ (agent : Agent) where
       let rest = filter_map (command_at agent device) (enumerate_from (first + 1) entries) in
       let c : Command = record { place = first; action = action } in
       let here : is_result agent journal place fluent c ≡ true =
-      and-both (first == place) (option_map_or (λ f. f == fluent) (sensed agent action) false) (eq-eqb first place (omega (arith, at)))
+      and-both (first == place) (option_map_or (λ f. f == fluent) (fluent_sensed agent action) false) (eq-eqb first place (omega (arith, at)))
       (ap (λ o. option_map_or (λ f. f == fluent) o false) senses ∙ eq-eqb fluent fluent refl) in
       ap (λ y. list_any (is_result agent journal place fluent) (cons_option (command_at agent device (first, y)) rest)) is
       ∙ ap (λ b. list_any (is_result agent journal place fluent) (cons_option (cond b (Some c) None) rest)) carried

@@ -13,7 +13,7 @@ use Rattle.golog_tree.specs.declared.prog.Label.{Label}
 use Rattle.golog_semantics.specs.declared.journal.Entry.{Entry}
 use Rattle.golog_semantics.specs.declared.journal.PlacedRun.{PlacedRun}
 use Rattle.golog_semantics.specs.declared.journal.Report.{Report}
-use Rattle.golog_semantics.specs.InlineText.{placed}
+use Rattle.golog_semantics.specs.InlineText.{placed_run}
 use Rattle.golog_semantics.specs.Journal.{Journal}
 use Rattle.golog_semantics.specs.Online.{label_of}
 use Rattle.golog_semantics.specs.ReportLaws.{TellsApart}
@@ -84,7 +84,7 @@ module _ (agent : Agent) where
   -- The runs at a place and behind it: that of the place, if there is one, and those behind it.
   record RunsGoOn (place : ℕ) (runs : List PlacedRun) (run : Option (List Label)) : Type 0 where
     behind : List PlacedRun
-    are : runs ≡ placed place run ++ behind
+    are : runs ≡ placed_run place run ++ behind
     grow : AreFrom (place + 1) behind
 
   first-apart : (place : ℕ) (r : PlacedRun) (runs : List PlacedRun) → AreFrom place (r ∷ runs) → r.place ≢ place → AreFrom (place + 1) (r ∷ runs)
@@ -125,13 +125,13 @@ run_at-behind (r ∷ runs) others k h = go (r.place == k) h (run_at-behind runs 
     go true h later = absurd (cc)
     go false h later = later h
 
-pub placed-elsewhere : (n : ℕ) (run : Option (List Label)) (k : ℕ) → n ≢ k → run_at (placed n run) k ≡ None
+pub placed-elsewhere : (n : ℕ) (run : Option (List Label)) (k : ℕ) → n ≢ k → run_at (placed_run n run) k ≡ None
 placed-elsewhere n None k h = refl
 placed-elsewhere n (Some labels) k h =
     ap (λ b. option_map (λ (q : PlacedRun). q.labels) (cond b (Some (record { place = n; labels = labels })) None)) (ne_eqb n k h)
 
-pub clear-next : (n : ℕ) (runs : List PlacedRun) (run : Option (List Label)) → Clear n runs → Clear (n + 1) (runs ++ placed n run)
-clear-next n runs run clear k h = run_at-behind runs (placed n run) k (clear k (omega (arith, h))) ∙ placed-elsewhere n run k (omega (arith, h))
+pub clear-next : (n : ℕ) (runs : List PlacedRun) (run : Option (List Label)) → Clear n runs → Clear (n + 1) (runs ++ placed_run n run)
+clear-next n runs run clear k h = run_at-behind runs (placed_run n run) k (clear k (omega (arith, h))) ∙ placed-elsewhere n run k (omega (arith, h))
 
 module _ (agent : Agent) (well : WellFormed agent) (apart : TellsApart agent) (report : Report) (fits : IsReport agent report) where
   -- behind the last entry no run stands
@@ -198,10 +198,10 @@ module _ (agent : Agent) (well : WellFormed agent) (apart : TellsApart agent) (r
       let same : run ≡ run_at behind n = ap (λ rs. run_at rs n) rs ∙ run_at-behind runs behind n (clear n (omega arith)) in
       let on : RunsGoOn agent n behind run = subst (RunsGoOn agent n behind) (sym same) (go-on agent n behind from) in
       let count : length (before ++ e ∷ []) ≡ n + 1 = length-append before (e ∷ []) in
-      let next = lines-read (before ++ e ∷ []) entries (runs ++ placed n run) on.behind rest
+      let next = lines-read (before ++ e ∷ []) entries (runs ++ placed_run n run) on.behind rest
       (es ∙ sym (append_assoc before (e ∷ []) entries))
-      (rs ∙ ap (λ xs. runs ++ xs) on.are ∙ sym (append_assoc runs (placed n run) on.behind))
-      (subst (λ m. Clear m (runs ++ placed n run)) (sym count) (clear-next n runs run clear))
+      (rs ∙ ap (λ xs. runs ++ xs) on.are ∙ sym (append_assoc runs (placed_run n run) on.behind))
+      (subst (λ m. Clear m (runs ++ placed_run n run)) (sym count) (clear-next n runs run clear))
       (subst (λ m. AreFrom m on.behind) (sym count) on.grow)
       (and-right (fits_entry agent before e) later fit)
       (subst (λ m. AreLines agent report.runs m entries rest) (sym count) lines.4) in

@@ -11,7 +11,7 @@ use Rattle.golog_tree.specs.declared.agent.Agent.{Agent}
 use Rattle.golog_tree.specs.declared.prog.Label.{Label}
 use Rattle.golog_semantics.specs.declared.journal.PlacedRun.{PlacedRun}
 use Rattle.golog_semantics.specs.declared.journal.Report.{Report}
-use Rattle.golog_semantics.specs.InlineText.{placed}
+use Rattle.golog_semantics.specs.InlineText.{placed_run}
 use Rattle.golog_semantics.specs.Journal.{Journal}
 use Rattle.golog_semantics.specs.Online.{same_line}
 use Rattle.golog_semantics.specs.Reports.{SpellsReport, place_limit}
@@ -49,11 +49,11 @@ module _ (agent : Agent) (well : WellFormed agent) where
       let r = is_read agent before text line e in
       let number = r.said.number in
       let forms = said-only text r.said r.said_is in
-      let placed = and-left (is_small number && nat_eq (amount number) n) (has_small r.said.body) r.in_place in
-      let low = leb-true (amount number) place_limit (and-left (is_small number) (nat_eq (amount number) n) placed) in
+      let its_place = and-left (is_small number && nat_eq (amount number) n) (has_small r.said.body) r.in_place in
+      let low = leb-true (amount number) place_limit (and-left (is_small number) (nat_eq (amount number) n) its_place) in
       let same : number ≡ decimal n =
       sym (decimal-amount number (and-left (is_natural number) (is_body r.said.body) forms.0) (omega (arith, low)))
-      ∙ ap decimal (eqb-true (amount number) n (and-right (is_small number) (nat_eq (amount number) n) placed)) in
+      ∙ ap decimal (eqb-true (amount number) n (and-right (is_small number) (nat_eq (amount number) n) its_place)) in
       let has = line-only agent well before r.what line r.line_is in
       let body : r.said.body ≡ body_of_entry agent line.run has.0 line.entry =
       named-only agent r.said.body r.what (and-right (is_natural number) (is_body r.said.body) forms.0)
@@ -73,7 +73,7 @@ module _ (agent : Agent) (well : WellFormed agent) where
       go true e = refl
       go false e = e
 
-  placed-here : (n : ℕ) (run : Option (List Label)) → run_at (placed n run) n ≡ run
+  placed-here : (n : ℕ) (run : Option (List Label)) → run_at (placed_run n run) n ≡ run
   placed-here n None = refl
   placed-here n (Some labels) = ap (λ b. option_map (λ (q : PlacedRun). q.labels) (cond b (Some (record { place = n; labels = labels })) None)) (eq-eqb n n refl)
 
@@ -113,15 +113,15 @@ module _ (agent : Agent) (well : WellFormed agent) where
       let line = r.0 in
       let one = line-says report.entries text line r.1 in
       let count : length (report.entries ++ line.entry ∷ []) ≡ n + 1 = length-append report.entries (line.entry ∷ []) in
-      let rest = lines-say (with_line report line) (next ∷ texts) whole (subst (λ m. Clear m (report.runs ++ placed n line.run)) (sym count) (clear-next n report.runs line.run clear)) r.2 in
+      let rest = lines-say (with_line report line) (next ∷ texts) whole (subst (λ m. Clear m (report.runs ++ placed_run n line.run)) (sym count) (clear-next n report.runs line.run clear)) r.2 in
       let here : run_at whole.runs n ≡ line.run =
-      rest.runs n (omega (arith, count)) ∙ run_at-behind report.runs (placed n line.run) n (clear n (omega arith)) ∙ placed-here n line.run in
+      rest.runs n (omega (arith, count)) ∙ run_at-behind report.runs (placed_run n line.run) n (clear n (omega arith)) ∙ placed-here n line.run in
       let es : whole.entries ≡ report.entries ++ line.entry ∷ rest.added = rest.entries ∙ append_assoc report.entries (line.entry ∷ []) rest.added in
       let joined = join_with_byte 10 (next ∷ texts) in
       record {
         added = line.entry ∷ rest.added;
         entries = es;
-        runs = λ k h. rest.runs k (omega (arith, count, h)) ∙ run_at-before report.runs (placed n line.run) k (placed-elsewhere n line.run k (omega (arith, h)));
+        runs = λ k h. rest.runs k (omega (arith, count, h)) ∙ run_at-before report.runs (placed_run n line.run) k (placed-elsewhere n line.run k (omega (arith, h)));
         lines = (
           one.old,
           joined,

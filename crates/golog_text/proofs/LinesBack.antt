@@ -14,7 +14,7 @@ use Rattle.golog_tree.specs.declared.prog.Label.{Label}
 use Rattle.golog_tree.specs.Ground.{ground_actions, sort_size}
 use Rattle.golog_semantics.specs.declared.journal.Entry.{Entry}
 use Rattle.golog_semantics.specs.declared.journal.Entry.TheVariants.{Do, Test, Exo, Sense, Rest, Close, End}
-use Rattle.golog_semantics.specs.Journal.{Command, Journal, action_item, command_at, commands, device_of, is_carried_by, sensed}
+use Rattle.golog_semantics.specs.Journal.{Command, Journal, action_item, command_at, commands, device_of, is_carried_by, fluent_sensed}
 use Rattle.golog_semantics.specs.Online.{is_result, label_of}
 use Rattle.golog_semantics.specs.ReportLaws.{TellsApart}
 use Rattle.golog_semantics.specs.Reports.{fits_entry, is_device, is_exogenous, is_value, place_limit}
@@ -73,12 +73,12 @@ module _ (agent : Agent) where
   unfolding sensed_by_entry
   entry-senses journal device first place fluent (Do action) c h k = go (is_carried_by agent device action) h
     where
-      go : (b : Bool) → cond b (Some (record { place = first; action = action })) None ≡ Some c → (place ≡ first) × (if_so b (sensed agent action) ≡ Some fluent)
+      go : (b : Bool) → cond b (Some (record { place = first; action = action })) None ≡ Some c → (place ≡ first) × (if_so b (fluent_sensed agent action) ≡ Some fluent)
       go false h = absurd (cc)
       go true h =
           let same : ◌≡◌ {A = Command} (record { place = first; action = action }) c = cc in
-          let here : (first == place && option_map_or (λ f. f == fluent) (sensed agent action) false) ≡ true = ap (is_result agent journal place fluent) same ∙ k in
-          (sym (eqb-true first place (and-left (first == place) _ here)), senses-it agent fluent (sensed agent action) (and-right (first == place) _ here))
+          let here : (first == place && option_map_or (λ f. f == fluent) (fluent_sensed agent action) false) ≡ true = ap (is_result agent journal place fluent) same ∙ k in
+          (sym (eqb-true first place (and-left (first == place) _ here)), senses-it agent fluent (fluent_sensed agent action) (and-right (first == place) _ here))
   entry-senses journal device first place fluent Test c h k = absurd (cc)
   entry-senses journal device first place fluent (Exo p a) c h k = absurd (cc)
   entry-senses journal device first place fluent (Sense p at f v) c h k = absurd (cc)

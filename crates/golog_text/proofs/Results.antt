@@ -6,7 +6,7 @@ use Rattle.golog_tree.specs.Ground.{fluent_args, ground_count, ground_fluents}
 use Rattle.golog_tree.proofs.Numbers.{length-all_from}
 use Rattle.golog_semantics.specs.declared.journal.Entry.{Entry}
 use Rattle.golog_semantics.specs.declared.journal.Entry.TheVariants.{Do, Test, Exo, Sense, Rest, Close, End}
-use Rattle.golog_semantics.specs.Journal.{Journal, is_carried_by, sensed}
+use Rattle.golog_semantics.specs.Journal.{Journal, is_carried_by, fluent_sensed}
 use Rattle.golog_semantics.specs.WellFormed.{WellFormed}
 use Rattle.golog_journal.proofs.Sensing.{sensed-inside}
 use Rattle.golog_journal.proofs.Serving.{well_formed_serves}
@@ -28,12 +28,12 @@ module _ (agent : Agent) where
     pub action : ℕ
     pub is : e ≡ Do action
     pub carried : is_carried_by agent device action ≡ true
-    pub senses : sensed agent action ≡ Some fluent
+    pub senses : fluent_sensed agent action ≡ Some fluent
 
   pub entry_senses : (device fluent : ℕ) (e : Entry) → sensed_by_entry agent device e ≡ Some fluent → IsSensing device fluent e
   unfolding sensed_by_entry
   entry_senses device fluent (Do action) h =
-      let both = if-so (is_carried_by agent device action) (sensed agent action) fluent h in
+      let both = if-so (is_carried_by agent device action) (fluent_sensed agent action) fluent h in
       record { action = action; is = refl; carried = both.0; senses = both.1 }
   entry_senses device fluent Test h = absurd (cc)
   entry_senses device fluent (Exo poster action) h = absurd (cc)

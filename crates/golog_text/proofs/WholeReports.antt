@@ -15,7 +15,7 @@ use Rattle.golog_tree.specs.declared.prog.Label.{Label}
 use Rattle.golog_semantics.specs.declared.journal.Entry.{Entry}
 use Rattle.golog_semantics.specs.declared.journal.PlacedRun.{PlacedRun}
 use Rattle.golog_semantics.specs.declared.journal.Report.{Report}
-use Rattle.golog_semantics.specs.InlineText.{placed}
+use Rattle.golog_semantics.specs.InlineText.{placed_run}
 use Rattle.golog_semantics.specs.Journal.{Journal}
 use Rattle.golog_semantics.specs.Online.{label_of}
 use Rattle.golog_semantics.specs.Reports.{IsReport, fits_entry, fits_label, fits_run, grow_from, place_limit}
@@ -100,14 +100,14 @@ module _ (agent : Agent) where
         ∙ and-both (list_all (λ (b : Bool). b) (at_each (fits_entry agent) [] report.entries)) (fits_entry agent report.entries line.entry && true) fits.entries
         (and-both (fits_entry agent report.entries line.entry) true told.entry refl)
 
-    new-run : (run : Option (List Label)) → RunFits agent run → StepsOnly agent line.entry run → list_all (fits_run agent entries) (placed here run) ≡ true
+    new-run : (run : Option (List Label)) → RunFits agent run → StepsOnly agent line.entry run → list_all (fits_run agent entries) (placed_run here run) ≡ true
     new-run None r s = refl
     new-run (Some labels) r s =
         let stands = ap (λ o. option_map_or (λ x. is_some (label_of x)) o false) (last-at report.entries line.entry) ∙ s in
         and-both (fits_run agent entries (record { place = here; labels = labels })) true
         (and-both (not (is_empty labels) && list_all (fits_label agent) labels) (option_map_or (λ x. is_some (label_of x)) (slice_get entries here) false) r stands) refl
 
-    places-grow : (run : Option (List Label)) → grow_from 0 (map (λ (r : PlacedRun). r.place) (report.runs ++ placed here run)) ≡ true
+    places-grow : (run : Option (List Label)) → grow_from 0 (map (λ (r : PlacedRun). r.place) (report.runs ++ placed_run here run)) ≡ true
     places-grow None = ap (λ rs. grow_from 0 (map (λ (r : PlacedRun). r.place) rs)) (append-nil report.runs) ∙ fits.in_order
     places-grow (Some labels) =
         ap (grow_from 0) (map_push (λ (r : PlacedRun). r.place) report.runs (record { place = here; labels = labels }))
@@ -117,8 +117,8 @@ module _ (agent : Agent) where
     one_more_line = record {
       entries = entries-fit;
       runs =
-          list_all-append (fits_run agent entries) report.runs (placed here line.run)
-          ∙ and-both (list_all (fits_run agent entries) report.runs) (list_all (fits_run agent entries) (placed here line.run))
+          list_all-append (fits_run agent entries) report.runs (placed_run here line.run)
+          ∙ and-both (list_all (fits_run agent entries) report.runs) (list_all (fits_run agent entries) (placed_run here line.run))
           (runs-kept report.entries line.entry report.runs fits.runs) (new-run line.run told.labels told.steps);
       in_order = places-grow line.run;
       in_bounds = le-leb (length entries) (place_limit + 1) (omega (arith, few, length-append report.entries (line.entry ∷ [])));

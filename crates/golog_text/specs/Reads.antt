@@ -11,8 +11,8 @@ use Rattle.golog_tree.specs.Ground.{action_args, ground_count, sort_size}
 use Rattle.golog_semantics.specs.declared.journal.Entry.{Entry}
 use Rattle.golog_semantics.specs.declared.journal.Entry.TheVariants.{Do, Test, Exo, Sense, Rest, Close, End}
 use Rattle.golog_semantics.specs.declared.journal.Report.{Report}
-use Rattle.golog_semantics.specs.InlineText.{placed}
-use Rattle.golog_semantics.specs.Journal.{Journal, device_of, is_carried_by, sensed}
+use Rattle.golog_semantics.specs.InlineText.{placed_run}
+use Rattle.golog_semantics.specs.Journal.{Journal, device_of, is_carried_by, fluent_sensed}
 use Rattle.golog_semantics.specs.Reports.{is_own, is_exogenous, place_limit}
 use Rattle.golog_semantics.specs.Text.{Text, action_text, constant_text, device_text}
 use Rattle.golog_semantics.specs.Values.{fluent_sort}
@@ -134,7 +134,7 @@ module _ (agent : Agent) where
 
   -- the fluent that an entry senses, where it is a command of this device
   unfoldable pub sensed_by_entry : ℕ → Entry → Option ℕ
-  sensed_by_entry device (Do action) = if_so (is_carried_by agent device action) (sensed agent action)
+  sensed_by_entry device (Do action) = if_so (is_carried_by agent device action) (fluent_sensed agent action)
   sensed_by_entry device _ = None
 
   -- the fluent that the command of this device at a place senses
@@ -175,7 +175,7 @@ module _ (agent : Agent) (before : Journal) where
 abbrev pub with_line : Report → Line → Report
 with_line report line = record {
   entries = report.entries ++ line.entry ∷ [];
-  runs = report.runs ++ placed (length report.entries) line.run;
+  runs = report.runs ++ placed_run (length report.entries) line.run;
 }
 
 module _ (agent : Agent) where

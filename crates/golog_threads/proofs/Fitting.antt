@@ -9,7 +9,7 @@ use Rattle.golog_semantics.specs.declared.journal.Item.{Item}
 use Rattle.golog_semantics.specs.declared.journal.Item.TheVariants as item
 use Rattle.golog_semantics.specs.declared.journal.Reason.{Reason}
 use Rattle.golog_semantics.specs.Journal.{Journal, Command, count, limit}
-use Rattle.golog_semantics.specs.Posts.{awaited, closing, result_of, entry_of, posted_entry}
+use Rattle.golog_semantics.specs.Posts.{awaited_command, closing, result_of, entry_of, posted_entry}
 use Rattle.golog_journal.specs.declared.board.Commit.{Commit as Committed}
 use Rattle.golog_journal.specs.declared.board.Commit.TheVariants.{Taken, Moved}
 use Rattle.golog_journal.specs.Boards.{IsBoardList}
@@ -90,7 +90,7 @@ party-of-posted agent journal device taken i = by (closing agent journal device 
 
     entry : (x : Item) → party_of (entry_of agent journal device taken x) ≡ device
     entry (item.Exo action) = refl
-    entry (item.Value value) = result value (awaited agent journal device taken)
+    entry (item.Value value) = result value (awaited_command agent journal device taken)
     entry item.Rest = refl
     entry item.Close = refl
     entry item.Unreadable = refl

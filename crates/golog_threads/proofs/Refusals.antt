@@ -10,8 +10,8 @@ use Rattle.golog_semantics.specs.declared.journal.Entry.TheVariants.{Do, Test, E
 use Rattle.golog_semantics.specs.declared.journal.Item.{Item}
 use Rattle.golog_semantics.specs.declared.journal.Item.TheVariants as item
 use Rattle.golog_semantics.specs.declared.journal.Reason.TheVariants as reason
-use Rattle.golog_semantics.specs.Journal.{Journal, Command, is_posted_by, posted, is_close, is_open, has_end, is_full}
-use Rattle.golog_semantics.specs.Posts.{awaited, is_bad, result_of, entry_of, posted_entry}
+use Rattle.golog_semantics.specs.Journal.{Journal, Command, is_posted_by, entries_by, is_close, is_open, has_end, is_full}
+use Rattle.golog_semantics.specs.Posts.{awaited_command, is_bad, result_of, entry_of, posted_entry}
 use Rattle.golog_journal.specs.Laws.{AreNotOf}
 use Rattle.golog_threads.specs.Driving.{is_refusal_of, has_refused}
 
@@ -65,10 +65,10 @@ module _ (device : ℕ) where
   not-closing (End a) h = refl
 
   open-step : (e : Entry) (es : Journal) (b : Bool) → is_posted_by device e ≡ b
-      → not (list_any is_close (if b then e ∷ posted device es else posted device es)) ≡ true
+      → not (list_any is_close (if b then e ∷ entries_by device es else entries_by device es)) ≡ true
       → (is_open device es ≡ true → has_refused device es ≡ false) → (is_refusal_of device e || has_refused device es) ≡ false
   open-step e es true is opened rest =
-      let parts = or_parts (is_close e) (list_any is_close (posted device es)) (not-true (is_close e || list_any is_close (posted device es)) opened) in
+      let parts = or_parts (is_close e) (list_any is_close (entries_by device es)) (not-true (is_close e || list_any is_close (entries_by device es)) opened) in
       or_from _ _ (not-closing e parts.0) (rest (ap not parts.1))
   open-step e es false is opened rest = or_from _ _ (not-of-one e is) (rest opened)
 
@@ -104,7 +104,7 @@ module _ (device : ℕ) where
 
     pub entry-unrefused : (x : Item) → x ≢ item.Refused → is_refusal_of device (posted_entry agent journal device n x) ≡ false
     entry-unrefused (item.Exo action) h = later-plain (item.Exo action) refl
-    entry-unrefused (item.Value value) h = later-plain (item.Value value) (result-plain value (awaited agent journal device n))
+    entry-unrefused (item.Value value) h = later-plain (item.Value value) (result-plain value (awaited_command agent journal device n))
     entry-unrefused item.Rest h = later-plain item.Rest refl
     entry-unrefused item.Close h = refl
     entry-unrefused item.Unreadable h = later-plain item.Unreadable refl

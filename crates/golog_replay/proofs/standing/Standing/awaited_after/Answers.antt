@@ -1,6 +1,6 @@
 use Rattle.std.proofs.Common.{◌≡◌, ℕ, [], ◌∷◌, ◌++◌, length, refl, sym, ap, ◌∙◌, subst}
 use Rattle.golog_semantics.specs.declared.journal.Entry.{Entry}
-use Rattle.golog_semantics.specs.Journal.{device_of, outstanding_commands, sensed}
+use Rattle.golog_semantics.specs.Journal.{device_of, outstanding_commands, fluent_sensed}
 use Rattle.golog_semantics.specs.Online.{keeps_place}
 use Rattle.golog_tree.specs.declared.agent.Agent.{Agent}
 use Rattle.golog_replay.specs.declared.standing.Awaited.{Awaited}
@@ -27,7 +27,7 @@ returns-in_err-fluent-in-Do c =
     let none = none-awaited agent before c.args.self.now.awaited c.requires.standing.awaits (c.requires.settled action c.in-Do.is) in
     subst (AwaitsFrom agent (before ++ c.args.entry ∷ [])) (sym c.from_residual-in_err-fluent-in-Do.ensures)
     (subst (λ (e : Entry). (d : ℕ) → outstanding_commands agent d (before ++ e ∷ []) ≡ []) (sym c.in-Do.is)
-    (asks-nothing agent before action none (sym (c.in_err-fluent-in-Do.ensures ∙ ap (λ (a : Agent). sensed a action) c.requires.standing.facts_so))))
+    (asks-nothing agent before action none (sym (c.in_err-fluent-in-Do.ensures ∙ ap (λ (a : Agent). fluent_sensed a action) c.requires.standing.facts_so))))
 
 pub returns-in_ok-fluent-in-Do : goal.returns-in_ok-fluent-in-Do
 returns-in_ok-fluent-in-Do c =
@@ -40,7 +40,7 @@ returns-in_ok-fluent-in-Do c =
     subst (λ (e : Entry). IsAwaited agent (before ++ e ∷ []) a) (sym c.in-Do.is)
     (asks agent before action none c.requires.standing.serves c.requires.standing.results c.in_ok-device-in-Do.device c.in_ok-fluent-in-Do.fluent
     (sym (c.in_ok-device-in-Do.ensures ∙ ap (λ (a : Agent). device_of a action) facts))
-    (sym (c.in_ok-fluent-in-Do.ensures ∙ ap (λ (a : Agent). sensed a action) facts)) a refl refl refl)
+    (sym (c.in_ok-fluent-in-Do.ensures ∙ ap (λ (a : Agent). fluent_sensed a action) facts)) a refl refl refl)
 
 pub returns-in-Sense : goal.returns-in-Sense
 returns-in-Sense c =
