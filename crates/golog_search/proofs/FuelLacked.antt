@@ -16,7 +16,7 @@ use Rattle.golog_semantics.specs.Truth.{Values, constants}
 use Rattle.golog_semantics.specs.Program.{put_arg, body_of}
 use Rattle.golog_semantics.specs.Guarded.{front, IsGuarded}
 use Rattle.golog_semantics.specs.Blocks.{is_kept}
-use Rattle.golog_semantics.specs.Heavy.{Reached, blocks_step, is_above, reached}
+use Rattle.golog_semantics.specs.Heavy.{Reached, blocks_step, is_above, block_reached}
 use Rattle.golog_semantics.proofs.Tests.{and_cases}
 use Rattle.golog_ways.specs.Lacking.{Wants, lacks_step, lacks_to, wants_at}
 use Rattle.golog_search.specs.BlockSteps.{wants_more}
@@ -86,7 +86,7 @@ module _ (bounded : Bool) (agent : Agent) (values : Values) (stepless : Bool) wh
   Asks near higher = near ≡ true → (stepless || higher) ≡ true
 
   told_block : (near higher : Bool) → Asks near higher → (depth fuel : ℕ) (body : Prog) (rest : List Way) → wants_at wants near depth fuel body rest ≡ true
-      → (is_kept agent values body rest ≡ false) × Told (reached depth fuel body higher)
+      → (is_kept agent values body rest ≡ false) × Told (block_reached depth fuel body higher)
   told_block near higher asks depth fuel body rest e =
       let block : Block = record { depth = depth; fuel = fuel; body = body } in
       let w = wanting (is_kept agent values body rest) bounded (is_above agent values Must block) (is_above agent values Near block) near (stepless || higher) asks e in
@@ -135,7 +135,7 @@ module _ (bounded : Bool) (agent : Agent) (values : Values) (stepless : Bool) wh
     in_layer n deep near higher asks (Search depth fuel p) h = (told_block near higher asks depth fuel p [] h).1
     in_layer n deep near higher asks (Follow depth fuel p rest) h =
         let k = told_block near higher asks depth fuel p rest h in
-        (k.1.0, ap (λ b. list_any test (if b then [] else reached depth fuel p higher)) k.0 ∙ k.1.1)
+        (k.1.0, ap (λ b. list_any test (if b then [] else block_reached depth fuel p higher)) k.0 ∙ k.1.1)
 
     -- searches that want more are bounded, and some block at the front of the program weighs
     pub lacks-told : (n : ℕ) (near higher : Bool) → Asks near higher → (p : Prog) → lacks_to agent wants n near p ≡ true → Told (blocks_at agent values higher p)

@@ -26,3 +26,4 @@ pub mod FoundInWorlds
 pub mod RunsKept
 pub mod Steadies
 pub mod ToldRuns
+pub mod Visiting

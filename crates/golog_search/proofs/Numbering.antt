@@ -25,12 +25,13 @@ use Rattle.golog_semantics.proofs.GroundNumbers.{slice_get-left, some-same}
 use Rattle.golog_semantics.proofs.Levels.{same_values-eq}
 use Rattle.golog_semantics.proofs.SameLaws.{same_prog-eq, same_prog-same}
 use Rattle.golog_semantics.proofs.Tests.{and_cases}
+use Rattle.golog_ways.specs.Searched.{IsSearched}
 use Rattle.golog_memo.specs.Numbered.{AreOnce, IsAddedTo}
 use Rattle.golog_memo.specs.SeenPairs.{is_seen}
 use Rattle.golog_memo.specs.declared.seen.Seen.{Seen}
 use Rattle.golog_search.specs.declared.level.Level.{Level as AnyLevel}
 use Rattle.golog_search.specs.declared.numbered.Numbered.{Numbered}
-use Rattle.golog_search.specs.Levels.{Level, Looked, Reached, is_there, reached_by, start_of, state_of, with_state, with_steps, with_way}
+use Rattle.golog_search.specs.Levels.{AreSearched, Level, Looked, Reached, is_there, reached_by, start_of, state_of, with_state, with_steps, with_way}
 use Rattle.golog_search.specs.Numbers.{GoesOn, HaveNumbers, IsLevel, Sees, all_meant, is_pair, level_of, meant, with_numbered}
 use Rattle.golog_search.proofs.LevelParts.{any-append, map-append, or-false, or-true}
 
@@ -165,7 +166,8 @@ module _ (old new : Seen) (states : List Numbered) (n : Numbered) (h : Sees old 
           let other = same_values-eq values n.state k.1 in
           or-true (is_seen old prog values) ∙ sym ((λ i. is_seen old (one i) (other i)) ∙ known)
 
-at-mapped : {A B : Type 0} (P : B → Type 0) (f : A → B) (xs : List A) (i : ℕ) (d : A) → i < length xs → All P (map f xs) → P (f (get_or xs i d))
+-- what is so of each that is mapped is so of the one at a place
+pub at-mapped : {A B : Type 0} (P : B → Type 0) (f : A → B) (xs : List A) (i : ℕ) (d : A) → i < length xs → All P (map f xs) → P (f (get_or xs i d))
 at-mapped P f [] i d l h = absurd (omega arith)
 at-mapped P f (x ∷ xs) zero d l h = All-head P (f x) (map f xs) h
 at-mapped P f (x ∷ xs) (suc i) d l h = at-mapped P f xs i d (omega arith) (All-tail P (f x) (map f xs) h)
@@ -177,6 +179,12 @@ module _ (progs : List Prog) (states : List Numbered) (place : ℕ) (n : Numbere
 
   pub meant-at : (P : Reached → Type 0) → All P (all_meant progs states) → P (meant progs n)
   meant-at P h = subst (λ (m : Numbered). P (meant progs m)) (sym e) (at-mapped P (meant progs) states place n l h)
+
+  -- what is so of the states is so of it, once more programs have numbers
+  pub searched-at : (agent : Agent) (more : List Prog) → GoesOn progs more → HaveNumbers progs states → AreSearched agent (all_meant progs states)
+      → IsSearched agent (meant more n).way.left n.state
+  searched-at agent more h k searched =
+      subst (λ (r : Reached). IsSearched agent r.way.left r.state) (sym (meant-stays progs more n h (number-at k))) (meant-at (λ (r : Reached). IsSearched agent r.way.left r.state) searched)
 
   pub drop-at : all_meant progs (drop place states) ≡ meant progs n ∷ all_meant progs (drop (place + 1) states)
   drop-at = ap (all_meant progs) (drop_more states place n l ∙ ap (λ (m : Numbered). m ∷ drop (place + 1) states) (sym e))
@@ -255,8 +263,9 @@ sees-known seen n e = not-false (is_seen seen n.left n.state) e
 -- a level with the state that a way leads to
 module _ (old more : List Prog) (level next : AnyLevel) (n : Numbered) (w : Way) (h : GoesOn old more) (k : IsLevel old level) (named : slice_get more n.left ≡ Some w.left)
     (states : next.states ≡ with_numbered level.states n) where
-  pub added-level : Sees next.seen next.states → IsLevel more next
-  added-level seen = record {
+  pub added-level : AreOnce more → Sees next.seen next.states → IsLevel more next
+  added-level once seen = record {
+    once = once;
     numbers = subst (HaveNumbers more) (sym states) (numbers-with more level.states n (numbers-stay old more level.states h k.numbers) (slice_get_within more n.left w.left named));
     seen = seen;
   }
@@ -268,6 +277,10 @@ module _ (old more : List Prog) (level next : AnyLevel) (n : Numbered) (w : Way)
       ∙ with_numbered-is old more level.states level.cut n w.left h once k.numbers named
       ∙ ap (with_state (level_of old level)) means
       ∙ ap (λ (b : Bool). if b then with_state (level_of old level) (reached_by agent from values w) else level_with true (all_meant old level.states)) (sym followed)
+
+-- a number below the count is that of a program
+pub named-at : (progs : List Prog) (number : ℕ) → number < length progs → slice_get progs number ≡ Some (unwrap_or (slice_get progs number) Nil)
+named-at progs number l = named-again (slice_get progs number) (get_or progs number Nil) (slice_get-get_or progs number Nil l)
 
 -- a state by the parts of the step that led there
 abbrev stepped : ℕ → Label → Values → Prog → Reached

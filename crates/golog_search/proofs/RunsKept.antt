@@ -14,7 +14,7 @@ use Rattle.golog_semantics.specs.Search.{Run, best, final}
 use Rattle.golog_semantics.specs.Ways.{final_step, moves_step}
 use Rattle.golog_semantics.specs.Blocks.{beginning, block_moves, going_on, goes_through, moves}
 use Rattle.golog_semantics.specs.Guarded.{IsGuarded}
-use Rattle.golog_semantics.specs.Heavy.{blocks_step, front_blocks, heavy, reached, weighs}
+use Rattle.golog_semantics.specs.Heavy.{blocks_step, front_blocks, heavy, block_reached, weighs}
 use Rattle.golog_semantics.specs.World.{Refines}
 use Rattle.golog_semantics.proofs.Unfolded.{block_moves-out, final-out}
 use Rattle.golog_certain.proofs.RunsStay.{runs_stay}
@@ -55,7 +55,7 @@ module _ (agent : Agent) (g : IsGuarded agent) (values : Values) (depth fuel : �
   no_block =
       front_blocks-out agent values g false p
       ∙ ap (blocks_step agent values (blocks_at agent values) false) layer
-      ∙ ap (λ b. if b then [] else reached depth fuel body false) kept
+      ∙ ap (λ b. if b then [] else block_reached depth fuel body false) kept
 
   light : heavy agent values p ≡ false
   unfolding heavy

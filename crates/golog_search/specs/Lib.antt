@@ -9,3 +9,4 @@ pub mod InWorlds
 pub mod Kept
 pub mod Steady
 pub mod Told
+pub mod Visits

@@ -6,6 +6,7 @@ use Rattle.golog_tree.specs.declared.prog.Prog.{Prog}
 use Rattle.golog_tree.specs.declared.prog.Prog.TheVariants.{Nil}
 use Rattle.golog_semantics.specs.Same.{same_values}
 use Rattle.golog_semantics.specs.Truth.{Values}
+use Rattle.golog_memo.specs.Numbered.{AreOnce}
 use Rattle.golog_memo.specs.SeenPairs.{is_seen}
 use Rattle.golog_memo.specs.declared.seen.Seen.{Seen}
 use Rattle.golog_search.specs.declared.level.Level.{Level as AnyLevel}
@@ -45,16 +46,18 @@ with_numbered states n = if list_any (is_pair n.left n.state) states then states
 pub record Sees (seen : Seen) (states : List Numbered) : Type 0 where
   pub pairs : (prog : ℕ) (values : Values) → is_seen seen prog values ≡ list_any (is_pair prog values) states
 
--- a level whose states have numbers, and whose pairs were seen
+-- a level whose states have numbers, equal programs one, and whose pairs were seen
 pub record IsLevel (progs : List Prog) (level : AnyLevel) : Type 0 where
+  pub once : AreOnce progs
   pub numbers : HaveNumbers progs level.states
   pub seen : Sees level.seen level.states
 
 abbrev pub level_of : List Prog → AnyLevel → Level
 level_of progs level = record { states = all_meant progs level.states; cut = level.cut }
 
--- a search whose states have numbers
+-- a search whose states have numbers, equal programs one
 pub record IsNumbered (search : Search) : Type 0 where
+  pub once : AreOnce search.nodes
   pub before : All (HaveNumbers search.nodes) search.before
   pub last : HaveNumbers search.nodes search.last
 

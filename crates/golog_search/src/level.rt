@@ -1,4 +1,5 @@
 ghost use Rattle.std.specs.Prelude.{◌≡◌, ◌<◌, [], IfOk, IsTrue, OnOk, false, fold, length};
+ghost use Rattle.golog_memo.specs.Numbered.{AreOnce};
 ghost use Rattle.golog_semantics.specs.Reports.{fits_label};
 ghost use Rattle.golog_semantics.specs.Search.{plain_ways};
 ghost use Rattle.golog_semantics.specs.SortLaws.{AreInSorts};
@@ -7,15 +8,17 @@ ghost use Rattle.golog_ways.specs.Searched.{IsSearched};
 ghost use Rattle.golog_search.specs.Levels.{AreSearched, next_level as next_of, with_way};
 ghost use Rattle.golog_search.specs.Numbers.{GoesOn, HaveNumbers, IsLevel, Sees};
 ghost use Rattle.golog_search.specs.Numbers.{all_meant, level_of, meant, with_numbered};
+ghost use Rattle.golog_search.specs.Visits.{AreKept, IsOfAgent, IsNumberedFront, IsOpened, meant_front, prog_at};
 
 use crate::NEST_LIMIT;
 use crate::numbered::Numbered;
+use crate::visits::{NumberedFront, Opened, Visits, holds_in};
 use golog_base::{List, NoMemory};
 use golog_memo::{Nodes, Seen};
 use golog_progress::State;
 use golog_semantics::Mode;
 use golog_tree::{Agent, Way, nest};
-use golog_ways::ways_of;
+use golog_ways::{state_after, ways_of};
 use std::alloc::Global;
 
 /// The distinct states that are so many steps away, and whether some step that would lead there is not
@@ -94,8 +97,71 @@ impl Level {
         }
     }
 
-    /// Adds the states that one step leads to from this one, which stands at the place `from`.
-    fn add_steps(
+    /// Adds the state that a kept step leads to from this one, unless what the step leaves nests too deep.
+    fn add_front(
+        &mut self,
+        alloc: Global,
+        agent: &Agent,
+        _nodes: &Nodes,
+        from: usize,
+        state: &State,
+        front: &NumberedFront,
+    ) -> Result<(), NoMemory>
+        requires agent { WellFormed agent.now }
+        requires sorts { AreInSorts agent.now state.now }
+        requires front { IsNumberedFront _nodes.now front.now }
+        requires agents { IsOfAgent agent.now (meant_front _nodes.now front.now) }
+        requires level { IsLevel _nodes.now self.old }
+        ensures level { OnOk result (IsLevel _nodes.now self.new) }
+        ensures means { OnOk result (level_of _nodes.now self.new
+            ≡ with_way agent.now from state.now (level_of _nodes.now self.old) (meant_front _nodes.now front.now).way) }
+    {
+        if front.followed {
+            let state = state_after(alloc, agent, state, front.label)?;
+            let reached = Numbered {
+                label: front.label,
+                left: front.left,
+                state,
+                from,
+            };
+            self.add_state(reached)?;
+            Ok(())
+        } else {
+            self.cut = true;
+            Ok(())
+        }
+    }
+
+    /// Adds the states that one step leads to from this one, of a program whose steps are kept.
+    fn add_fronts(
+        &mut self,
+        alloc: Global,
+        agent: &Agent,
+        mode: Mode,
+        nodes: &Nodes,
+        from: usize,
+        state: &State,
+        opened: &Opened,
+    ) -> Result<(), NoMemory>
+        requires agent { WellFormed agent.now }
+        requires sorts { AreInSorts agent.now state.now }
+        requires opened { IsOpened agent.now nodes.now opened.now }
+        requires level { IsLevel nodes.now self.old }
+        ensures level { OnOk result (IsLevel nodes.now self.new) }
+        ensures means { OnOk result (level_of nodes.now self.new
+            ≡ fold (with_way agent.now from state.now) (level_of nodes.now self.old)
+            (plain_ways agent.now state.now mode (prog_at nodes.now opened.now.prog))) }
+    {
+        for front in opened.fronts.as_slice() {
+            if holds_in(agent, mode, &front.cond, state) {
+                self.add_front(alloc, agent, nodes, from, state, front)?;
+            }
+        }
+        Ok(())
+    }
+
+    /// Adds the states that one step leads to from this one, of a program whose steps are listed anew.
+    fn add_ways(
         &mut self,
         alloc: Global,
         agent: &Agent,
@@ -120,27 +186,63 @@ impl Level {
         }
         Ok(())
     }
+
+    /// Adds the states that one step leads to from this one, which stands at the place `from`.
+    fn add_steps(
+        &mut self,
+        alloc: Global,
+        agent: &Agent,
+        mode: Mode,
+        nodes: &mut Nodes,
+        visits: &Visits,
+        from: usize,
+        reached: &Numbered,
+    ) -> Result<(), NoMemory>
+        requires agent { WellFormed agent.now }
+        requires number { reached.now.left < length nodes.old }
+        requires searched { IsSearched agent.now (meant nodes.old reached.now).way.left reached.now.state }
+        requires kept { AreKept agent.now nodes.old visits.now }
+        requires level { IsLevel nodes.old self.old }
+        ensures level { OnOk result (IsLevel nodes.new self.new) }
+        ensures goes_on { OnOk result (GoesOn nodes.old nodes.new) }
+        ensures means { OnOk result (level_of nodes.new self.new
+            ≡ fold (with_way agent.now from reached.now.state) (level_of nodes.old self.old)
+            (plain_ways agent.now reached.now.state mode (meant nodes.old reached.now).way.left)) }
+    {
+        match visits.of(reached.left) {
+            Some(opened) => {
+                self.add_fronts(alloc, agent, mode, nodes, from, &reached.state, opened)
+            }
+            None => self.add_ways(alloc, agent, mode, nodes, from, reached),
+        }
+    }
 }
 
-/// The distinct states that one step leads to from these.
+/// The distinct states that one step leads to from these. The steps of a program that was visited before are
+/// kept.
 pub fn next_level(
     alloc: Global,
     agent: &Agent,
     mode: Mode,
     nodes: &mut Nodes,
+    visits: &mut Visits,
     states: &[Numbered],
 ) -> Result<Level, NoMemory>
     requires agent { WellFormed agent.now }
     requires numbers { HaveNumbers nodes.old states.now }
+    requires once { AreOnce nodes.old }
+    requires kept { AreKept agent.now nodes.old visits.old }
     requires searched { AreSearched agent.now (all_meant nodes.old states.now) }
     ensures goes_on { OnOk result (GoesOn nodes.old nodes.new) }
+    ensures kept { OnOk result (AreKept agent.now nodes.new visits.new) }
     ensures level { IfOk result (λ level. IsLevel nodes.new level) }
     ensures next { IfOk result (λ level. level_of nodes.new level
         ≡ next_of agent.now mode (all_meant nodes.old states.now)) }
 {
     let mut level = Level::new(alloc)?;
     for (from, reached) in states.iter().enumerate() {
-        level.add_steps(alloc, agent, mode, nodes, from, reached)?;
+        visits.visit(alloc, agent, nodes, reached.left)?;
+        level.add_steps(alloc, agent, mode, nodes, visits, from, reached)?;
     }
     Ok(level)
 }

@@ -14,6 +14,7 @@ mod search;
 mod searches;
 mod steady;
 mod told;
+mod visits;
 mod weighing;
 
 pub use deciding::{

@@ -33,6 +33,7 @@ impl Numbered {
     ) -> Result<Numbered, NoMemory>
         ensures program { IfOk result (λ start. slice_get nodes.new start.left ≡ Some prog.now) }
         ensures means { IfOk result (λ start. meant nodes.new start ≡ start_of prog.now state.now) }
+        ensures once { OnOk result (AreOnce nodes.new) }
     {
         let left = nodes.number(prog)?;
         let state = state.copy(alloc)?;

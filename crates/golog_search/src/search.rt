@@ -1,12 +1,16 @@
-ghost use Rattle.std.specs.Prelude.{◌≡◌, [], ◌∷◌, ◌++◌, ◌||◌, All, IfOk, OnOk, false, length, map, not, reverse};
+ghost use Rattle.std.specs.Prelude.{◌≡◌, ◌<◌, [], ◌∷◌, ◌++◌, ◌||◌, All, IfOk, OnOk, false, length, map, not, reverse};
 ghost use Rattle.std.specs.List.{position_from};
 ghost use Rattle.golog_semantics.specs.Ways.{is_empty};
 ghost use Rattle.golog_semantics.specs.WellFormed.{WellFormed};
 ghost use Rattle.golog_search.specs.Levels.{AreSearched, ends_at, next_level as next_of, run_to as run_of, start_of};
-ghost use Rattle.golog_search.specs.Numbers.{HaveNumbers, IsNumbered, all_meant, looked_of};
+ghost use Rattle.golog_search.specs.Numbers.{HaveNumbers, IsNumbered, all_meant, looked_of, meant};
+ghost use Rattle.golog_search.specs.Visits.{AreKept};
+ghost use Rattle.golog_tree.specs.declared.agent.Agent.{Agent as AnyAgent};
+ghost use Rattle.golog_ways.specs.Searched.{IsSearched};
 
 use crate::level::{Level, next_level};
 use crate::numbered::Numbered;
+use crate::visits::{Visits, holds_in};
 use golog_base::{List, NoMemory};
 use golog_memo::Nodes;
 use golog_progress::State;
@@ -16,11 +20,13 @@ use golog_ways::is_final;
 use std::alloc::Global;
 use std::mem;
 
-/// What a search has seen: the programs by their numbers, the states of each number of steps from none on,
-/// those of the last number by themselves, and whether some step was not followed.
+/// What a search has seen: the programs by their numbers, what is kept of those that it has visited, the states
+/// of each number of steps from none on, those of the last number by themselves, and whether some step was not
+/// followed.
 #[derive(Drop)]
 pub struct Search {
     pub nodes: Nodes,
+    pub visits: Visits,
     pub before: List<List<Numbered>>,
     pub last: List<Numbered>,
     pub cut: bool,
@@ -61,6 +67,7 @@ impl Search {
         ensures looked { IfOk result (λ search. looked_of search
             ≡ record { before = []; last = start_of prog.now state.now ∷ []; cut = false }) }
         ensures numbers { IfOk result IsNumbered }
+        ensures kept { (agent : AnyAgent) → IfOk result (λ search. AreKept agent search.nodes search.visits) }
     {
         let mut nodes = Nodes::new(alloc)?;
         let start = Numbered::start(alloc, &mut nodes, prog, state)?;
@@ -69,6 +76,7 @@ impl Search {
         last.push(start)?;
         Ok(Search {
             nodes,
+            visits: Visits::new(alloc),
             before,
             last,
             cut: false,
@@ -94,6 +102,7 @@ impl Search {
     pub fn deepen(&mut self, alloc: Global, agent: &Agent, mode: Mode) -> Result<(), NoMemory>
         requires agent { WellFormed agent.now }
         requires numbers { IsNumbered self.old }
+        requires kept { AreKept agent.now self.old.nodes self.old.visits }
         requires searched { AreSearched agent.now (looked_of self.old).last }
         ensures before { OnOk result ((looked_of self.new).before
             ≡ (looked_of self.old).before ++ (looked_of self.old).last ∷ []) }
@@ -103,14 +112,45 @@ impl Search {
             ≡ (self.old.cut || (next_of agent.now mode (looked_of self.old).last).cut)) }
         ensures searched { OnOk result (AreSearched agent.now (looked_of self.new).last) }
         ensures numbers { OnOk result (IsNumbered self.new) }
+        ensures kept { OnOk result (AreKept agent.now self.new.nodes self.new.visits) }
     {
-        let next = next_level(alloc, agent, mode, &mut self.nodes, self.last.as_slice())?;
+        let next = next_level(
+            alloc,
+            agent,
+            mode,
+            &mut self.nodes,
+            &mut self.visits,
+            self.last.as_slice(),
+        )?;
         let Level { states, seen, cut } = next;
         drop(seen);
         let last = mem::replace(&mut self.last, states);
         self.cut = self.cut || cut;
         self.before.push(last)?;
         Ok(())
+    }
+
+    /// Whether the program may end in a state.
+    fn may_end(
+        &self,
+        alloc: Global,
+        agent: &Agent,
+        mode: Mode,
+        reached: &Numbered,
+    ) -> Result<bool, NoMemory>
+        requires agent { WellFormed agent.now }
+        requires number { reached.now.left < length self.now.nodes }
+        requires kept { AreKept agent.now self.now.nodes self.now.visits }
+        requires searched { IsSearched agent.now (meant self.now.nodes reached.now).way.left reached.now.state }
+        ensures { IfOk result (λ b. b ≡ ends_at agent.now mode (meant self.now.nodes reached.now)) }
+    {
+        match self.visits.of(reached.left) {
+            Some(opened) => Ok(holds_in(agent, mode, &opened.end, &reached.state)),
+            None => {
+                let left = self.nodes.prog(reached.left);
+                is_final(alloc, agent, mode, left, &reached.state)
+            }
+        }
     }
 
     /// The place of the first state of the last level in which the program may end.
@@ -122,14 +162,14 @@ impl Search {
     ) -> Result<Option<usize>, NoMemory>
         requires agent { WellFormed agent.now }
         requires numbers { IsNumbered self.now }
+        requires kept { AreKept agent.now self.now.nodes self.now.visits }
         requires searched { AreSearched agent.now (looked_of self.now).last }
         ensures { IfOk result (λ place. place
             ≡ position_from (ends_at agent.now mode) 0 (looked_of self.now).last) }
     {
         let last = self.last.as_slice();
         for (place, reached) in last.iter().enumerate() {
-            let left = self.nodes.prog(reached.left);
-            if is_final(alloc, agent, mode, left, &reached.state)? {
+            if self.may_end(alloc, agent, mode, reached)? {
                 return Ok(Some(place));
             }
         }

@@ -1,7 +1,8 @@
 use Rattle.golog_search.specs.Numbers.{IsNumbered, looked_of}
+use Rattle.golog_search.specs.Visits.{AreKept}
 use Rattle.golog_search.proofs.Searching.{IsSearching}
 use Rattle.golog_search.proofs.finding.search_block.Given as goal
 
 abbrev pub invariant-loop-step : goal.invariant-loop-step
 invariant-loop-step l =
-    IsNumbered l.search × IsSearching l.bounded l.agent l.mode l.block l.state l._step l.fuel (looked_of l.search)
+    IsNumbered l.search × AreKept l.agent l.search.nodes l.search.visits × IsSearching l.bounded l.agent l.mode l.block l.state l._step l.fuel (looked_of l.search)

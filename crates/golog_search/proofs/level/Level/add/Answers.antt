@@ -6,7 +6,7 @@ use Rattle.golog_search.proofs.Numbering.{added-is, added-level, cut-is, goes_on
 use Rattle.golog_search.proofs.level.Level.add.Goals as goal
 
 pub returns-then-nest-gt-NEST_LIMIT-clause-level : goal.returns-then-nest-gt-NEST_LIMIT-clause-level
-returns-then-nest-gt-NEST_LIMIT-clause-level c = record { numbers = c.requires.level.numbers; seen = c.requires.level.seen }
+returns-then-nest-gt-NEST_LIMIT-clause-level c = record { once = c.requires.level.once; numbers = c.requires.level.numbers; seen = c.requires.level.seen }
 
 pub returns-then-nest-gt-NEST_LIMIT-clause-goes_on : goal.returns-then-nest-gt-NEST_LIMIT-clause-goes_on
 returns-then-nest-gt-NEST_LIMIT-clause-goes_on c = goes_on-same c.args.nodes.now
@@ -24,7 +24,7 @@ pub returns-in_ok-add_state-clause-level : goal.returns-in_ok-add_state-clause-l
 returns-in_ok-add_state-clause-level c =
     let made = c.in_ok-reached.ensures in
     let done = c.in_ok-add_state.ensures in
-    added-level c.args.nodes.now c.by.new.nodes c.args.self.now c.add_state.new.self c.in_ok-reached.reached c.args.way.now made.goes_on c.requires.level made.program done.states done.seen
+    added-level c.args.nodes.now c.by.new.nodes c.args.self.now c.add_state.new.self c.in_ok-reached.reached c.args.way.now made.goes_on c.requires.level made.program done.states made.once done.seen
 
 pub returns-in_ok-add_state-clause-means : goal.returns-in_ok-add_state-clause-means
 returns-in_ok-add_state-clause-means c =

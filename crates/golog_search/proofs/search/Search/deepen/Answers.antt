@@ -47,6 +47,7 @@ returns-clause-numbers c =
     let nodes = c.next_level.new.nodes in
     let added : c.push.new.self ≡ old.before ++ old.last ∷ [] = c.in_ok-push.ensures.ok ∙ ap (λ (ns : List Numbered). old.before ++ ns ∷ []) c.replace-last.ensures.value in
     record {
+      once = c.in_ok-next.ensures.level.once;
       before = subst (All (HaveNumbers nodes)) (sym added) (before-numbers old.nodes nodes old.before old.last c.in_ok-next.ensures.goes_on c.requires.numbers.before c.requires.numbers.last);
       last = subst (HaveNumbers nodes) (sym c.replace-last.ensures.after) c.in_ok-next.ensures.level.numbers;
     }

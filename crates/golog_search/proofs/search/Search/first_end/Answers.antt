@@ -1,11 +1,6 @@
-use Rattle.std.proofs.Common.{◌≡◌, true, false, List, Option, refl, sym, ap, ◌∙◌, subst, arith}
-use Rattle.std.specs.Prelude.{unwrap_or}
+use Rattle.std.proofs.Common.{◌≡◌, true, false, List, refl, sym, ap, ◌∙◌, subst, arith}
 use Rattle.std.specs.List.{position_from}
 use Rattle.std.proofs.lemmas.List.{at_drop_all}
-use Rattle.golog_tree.specs.declared.prog.Prog.{Prog}
-use Rattle.golog_tree.specs.declared.prog.Prog.TheVariants.{Nil}
-use Rattle.golog_semantics.specs.Search.{final}
-use Rattle.golog_ways.specs.Closed.{IsClosed}
 use Rattle.golog_ways.specs.Searched.{IsSearched}
 use Rattle.golog_search.specs.declared.numbered.Numbered.{Numbered}
 use Rattle.golog_search.specs.Levels.{AreSearched, Reached, ends_at}
@@ -13,30 +8,18 @@ use Rattle.golog_search.specs.Numbers.{HaveNumbers, all_meant, meant}
 use Rattle.golog_search.proofs.Numbering.{end-at, meant-at, number-at}
 use Rattle.golog_search.proofs.search.Search.first_end.Goals as goal
 
-pub prog-left-requires : goal.prog-left-requires
-prog-left-requires c =
+pub may_end-requires-clause-number : goal.may_end-requires-clause-number
+may_end-requires-clause-number c =
     let nodes = c.args.self.now.nodes in
     number-at nodes c.as_slice-last.result.now c.loop-place.place c.index-last-place.result (omega arith) c.index-last-place.is
     (subst (HaveNumbers nodes) (sym c.as_slice-last.ensures) c.requires.numbers.last)
 
-pub is_final-requires-clause-program : goal.is_final-requires-clause-program
-is_final-requires-clause-program c =
+pub may_end-requires-clause-searched : goal.may_end-requires-clause-searched
+may_end-requires-clause-searched c =
     let agent = c.args.agent.now in
     let nodes = c.args.self.now.nodes in
-    let last = c.as_slice-last.result.now in
-    let n = c.index-last-place.result in
-    let left : (meant nodes n).way.left ≡ c.prog-left.result.now = ap (λ (o : Option Prog). unwrap_or o Nil) c.prog-left.ensures in
-    let searched = meant-at nodes last c.loop-place.place n (omega arith) c.index-last-place.is (λ (r : Reached). IsSearched agent r.way.left r.state)
-    (subst (λ (ns : List Numbered). AreSearched agent (all_meant nodes ns)) (sym c.as_slice-last.ensures) c.requires.searched) in
-    subst (IsClosed agent) left (record { in_block = false; fits = searched.program })
-
-pub is_final-requires-clause-sorts : goal.is_final-requires-clause-sorts
-is_final-requires-clause-sorts c =
-    let agent = c.args.agent.now in
-    let nodes = c.args.self.now.nodes in
-    let last = c.as_slice-last.result.now in
-    (meant-at nodes last c.loop-place.place c.index-last-place.result (omega arith) c.index-last-place.is (λ (r : Reached). IsSearched agent r.way.left r.state)
-    (subst (λ (ns : List Numbered). AreSearched agent (all_meant nodes ns)) (sym c.as_slice-last.ensures) c.requires.searched)).sorts
+    meant-at nodes c.as_slice-last.result.now c.loop-place.place c.index-last-place.result (omega arith) c.index-last-place.is (λ (r : Reached). IsSearched agent r.way.left r.state)
+    (subst (λ (ns : List Numbered). AreSearched agent (all_meant nodes ns)) (sym c.as_slice-last.ensures) c.requires.searched)
 
 pub loop-place-init : goal.loop-place-init
 loop-place-init c = refl
@@ -47,8 +30,7 @@ returns-then-branch c =
     let nodes = c.args.self.now.nodes in
     let ends = ends_at agent c.args.mode in
     let n = c.index-last-place.result in
-    let left : (meant nodes n).way.left ≡ c.prog-left.result.now = ap (λ (o : Option Prog). unwrap_or o Nil) c.prog-left.ensures in
-    let ended : ends (meant nodes n) ≡ true = ap (final agent n.state c.args.mode) left ∙ sym c.in_ok-is_final.ensures.end ∙ c.if-branch.true in
+    let ended : ends (meant nodes n) ≡ true = sym c.in_ok-may_end.ensures ∙ c.if-branch.true in
     sym (ap (λ (ns : List Numbered). position_from ends 0 (all_meant nodes ns)) (sym c.as_slice-last.ensures)
     ∙ c.loop-place.invariant
     ∙ end-at nodes c.as_slice-last.result.now c.loop-place.place n (omega arith) c.index-last-place.is ends true ended)
@@ -59,8 +41,7 @@ loop-place-preserved c =
     let nodes = c.args.self.now.nodes in
     let ends = ends_at agent c.args.mode in
     let n = c.index-last-place.result in
-    let left : (meant nodes n).way.left ≡ c.prog-left.result.now = ap (λ (o : Option Prog). unwrap_or o Nil) c.prog-left.ensures in
-    let goes_on : ends (meant nodes n) ≡ false = ap (final agent n.state c.args.mode) left ∙ sym c.in_ok-is_final.ensures.end ∙ c.if-branch.false in
+    let goes_on : ends (meant nodes n) ≡ false = sym c.in_ok-may_end.ensures ∙ c.if-branch.false in
     c.loop-place.invariant ∙ end-at nodes c.as_slice-last.result.now c.loop-place.place n (omega arith) c.index-last-place.is ends false goes_on
 
 pub returns : goal.returns

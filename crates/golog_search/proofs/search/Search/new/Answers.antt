@@ -19,6 +19,10 @@ returns-clause-numbers c =
     let start = c.in_ok-start.start in
     let one = c.in_ok-push.ensures.ok ∙ ap (λ (ns : List Numbered). ns ++ start ∷ []) c.new-last.ensures in
     record {
+      once = c.in_ok-start.ensures.once;
       before = subst (All (HaveNumbers nodes)) (sym c.new-before.ensures) (All-nil (HaveNumbers nodes));
       last = begun-numbers nodes c.push.new.self start c.args.prog.now one c.in_ok-start.ensures.program;
     }
+
+pub returns-clause-kept : goal.returns-clause-kept
+returns-clause-kept c agent = c.new-2.ensures agent c.start.new.nodes

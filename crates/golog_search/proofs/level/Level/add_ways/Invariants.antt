@@ -3,7 +3,7 @@ use Rattle.std.specs.List.{list_all}
 use Rattle.golog_search.specs.Levels.{with_way}
 use Rattle.golog_search.specs.Numbers.{GoesOn, IsLevel, level_of}
 use Rattle.golog_ways.proofs.SearchedWays.{label_is}
-use Rattle.golog_search.proofs.level.Level.add_steps.Given as goal
+use Rattle.golog_search.proofs.level.Level.add_ways.Given as goal
 
 -- the ways still to come decide; they are the agent's
 abbrev pub invariant-loop-way : goal.invariant-loop-way

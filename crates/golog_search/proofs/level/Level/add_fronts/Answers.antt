@@ -1,0 +1,53 @@
+use Rattle.std.proofs.Common.{◌≡◌, ◌+◌, true, false, List, sym, ap, ◌∙◌, subst, drop, fold, arith}
+use Rattle.std.specs.Prelude.{All}
+use Rattle.golog_semantics.specs.Fronts.{open_ways}
+use Rattle.golog_search.specs.declared.level.Level.{Level as AnyLevel}
+use Rattle.golog_search.specs.declared.visits.NumberedFront.{NumberedFront}
+use Rattle.golog_search.specs.Levels.{Level, with_way}
+use Rattle.golog_search.specs.Numbers.{IsLevel, level_of}
+use Rattle.golog_search.specs.Visits.{IsNumberedFront, IsOfAgent, meant_fronts}
+use Rattle.golog_search.proofs.Visiting.{front-at, front-fits}
+use Rattle.golog_search.proofs.level.Level.add_fronts.Goals as goal
+use Rattle.golog_search.proofs.level.Level.add_fronts.Goals.{then-holds_in+in_ok-add_front, else-holds_in}
+
+pub holds_in-requires-clause-closed : goal.holds_in-requires-clause-closed
+holds_in-requires-clause-closed c =
+    let agent = c.args.agent.now in
+    let nodes = c.args.nodes.now in
+    let same = sym c.as_slice-front-items.ensures in
+    let opened = c.requires.opened.fronts in
+    (front-fits nodes agent c.as_slice-front-items.result.now c.loop-front.front-index c.front-item.result c.loop-front-test.true c.front-item.is
+    (subst (All (IsNumberedFront nodes)) same opened.numbered)
+    (subst (λ (fs : List NumberedFront). All (IsOfAgent agent) (meant_fronts nodes fs)) same opened.agents)).1.closed
+
+pub add_front-requires-clause-agents : goal.add_front-requires-clause-agents
+add_front-requires-clause-agents c =
+    let agent = c.args.agent.now in
+    let nodes = c.args.nodes.now in
+    let same = sym c.as_slice-front-items.ensures in
+    let opened = c.requires.opened.fronts in
+    (front-fits nodes agent c.as_slice-front-items.result.now c.loop-front.front-index c.front-item.result c.loop-front-test.true c.front-item.is
+    (subst (All (IsNumberedFront nodes)) same opened.numbered)
+    (subst (λ (fs : List NumberedFront). All (IsOfAgent agent) (meant_fronts nodes fs)) same opened.agents)).1
+
+pub loop-front-preserved : goal.loop-front-preserved
+loop-front-preserved c =
+    let agent = c.args.agent.now in
+    let nodes = c.args.nodes.now in
+    let values = c.args.state.now in
+    let m = c.args.mode in
+    let fs = c.as_slice-front-items.result.now in
+    let i = c.loop-front.front-index in
+    let f = c.front-item.result in
+    let step = with_way agent c.args.from values in
+    let before = c.loop-front.self in
+    let inv = c.loop-front.invariant in
+    let rest = λ (l : Level). fold step l (open_ways agent values m (meant_fronts nodes (drop (i + 1) fs))) in
+    let keeps = λ (level : AnyLevel). (fold step (level_of nodes c.args.self.now) (open_ways agent values m (meant_fronts nodes fs)) ≡ rest (level_of nodes level)) × IsLevel nodes level in
+    let at = front-at nodes agent values m step (level_of nodes before) fs i f c.loop-front-test.true c.front-item.is in
+    elim c.if-holds_in.branch [
+      | then-holds_in+in_ok-add_front w ↦
+          subst keeps (sym w.self-is)
+          (inv.0 ∙ at true (sym c.holds_in.ensures ∙ w.if-holds_in.true) ∙ ap rest (sym w.in_ok-add_front.ensures.means), w.in_ok-add_front.ensures.level)
+      | else-holds_in w ↦ subst keeps (sym w.self-is) (inv.0 ∙ at false (sym c.holds_in.ensures ∙ w.if-holds_in.false), inv.1)
+    ]
