@@ -10,12 +10,12 @@ use Rattle.golog_semantics.specs.declared.journal.Entry.TheVariants.{End}
 use Rattle.golog_semantics.specs.declared.journal.Answer.{Answer}
 use Rattle.golog_semantics.specs.declared.journal.Item.TheVariants as item
 use Rattle.golog_semantics.specs.Blocks.{moves}
-use Rattle.golog_semantics.specs.Journal.{Journal, Command, commands, has_end, is_at_rest, is_open, sensed}
+use Rattle.golog_semantics.specs.Journal.{Journal, Command, commands, has_end, is_at_rest, is_open, fluent_sensed}
 use Rattle.golog_semantics.specs.Progress.{values_after, left_after}
 use Rattle.golog_semantics.specs.Answer.{answer_after}
 use Rattle.golog_semantics.specs.Online.{may_step}
 use Rattle.golog_semantics.specs.Text.{Text}
-use Rattle.golog_semantics.specs.Inline.{Scripted, Stage, answering, entry_for, idling, lead, led, posting, round, rounds, served, step_by, turn, turn_by, turns_from}
+use Rattle.golog_semantics.specs.Inline.{Scripted, Stage, answering, entry_for, idling, lead, after_lead, posting, round, rounds, after_service, step_by, turn, turn_by, turns_from}
 
 -- the new journal is the old one with more entries, or with none
 abbrev pub Adds : Journal → Journal → Type 0
@@ -45,7 +45,7 @@ module _ (agent : Agent) where
     answering-adds d fluent [] = (_, refl)
     answering-adds d fluent (a ∷ answers) = (_, refl)
 
-    served-adds : (d : Scripted) (o : Option ℕ) → Adds journal (served agent journal device d o).0
+    served-adds : (d : Scripted) (o : Option ℕ) → Adds journal (after_service agent journal device d o).0
     served-adds d None = adds_none journal
     served-adds d (Some fluent) = answering-adds d fluent d.answers
 
@@ -54,7 +54,7 @@ module _ (agent : Agent) where
     idling-adds d (t ∷ idle) = (_, refl)
 
     turn_by-adds : (d : Scripted) (o : Option Command) → Adds journal (turn_by agent journal device d o).0
-    turn_by-adds d (Some c) = served-adds (record d { taken = d.taken + 1 }) (sensed agent c.action)
+    turn_by-adds d (Some c) = served-adds (record d { taken = d.taken + 1 }) (fluent_sensed agent c.action)
     turn_by-adds d None =
         either-turn journal (has_end journal) (posting agent journal device d item.Stop)
         (if is_at_rest agent journal device then (journal, d) else idling agent journal device d d.idle) (_, refl)
@@ -109,16 +109,16 @@ module _ (agent : Agent) where
       (ended-adds journal (answer_after agent journal) stepped
       (step_by-adds journal (moves agent (values_after agent journal) Must (left_after agent journal))))
 
-  pub led_adds : (after : Journal × List Scripted) → Adds after.0 (led agent after).journal
+  pub led_adds : (after : Journal × List Scripted) → Adds after.0 (after_lead agent after).journal
   led_adds (journal, ds) = lead_adds journal
 
-  led-keeps : (after : Journal × List Scripted) → (led agent after).devices ≡ after.1
+  led-keeps : (after : Journal × List Scripted) → (after_lead agent after).devices ≡ after.1
   led-keeps (journal, ds) = refl
 
   pub round_adds : (s : Stage) → Adds s.journal (round agent s).journal
   round_adds s =
       let after = turns_from agent 0 s.journal s.devices in
-      adds_both s.journal after.0 (led agent after).journal (turns_add 0 s.journal s.devices) (led_adds after)
+      adds_both s.journal after.0 (after_lead agent after).journal (turns_add 0 s.journal s.devices) (led_adds after)
 
   pub round_keeps : (s : Stage) → length (round agent s).devices ≡ length s.devices
   round_keeps s = ap (λ ds. length ds) (led-keeps (turns_from agent 0 s.journal s.devices)) ∙ turns_keep 0 s.journal s.devices

@@ -19,7 +19,7 @@ use Rattle.golog_semantics.specs.Same.{same_label, same_run}
 use Rattle.golog_semantics.specs.Journal.{Journal, count, is_counted}
 use Rattle.golog_semantics.specs.Progress.{values_after, left_after}
 use Rattle.golog_semantics.specs.Text.{at_each, run_at}
-use Rattle.golog_semantics.specs.InlineText.{begun_runs, placed, report_of, run_after}
+use Rattle.golog_semantics.specs.InlineText.{begun_runs, placed_run, report_of, run_after}
 use Rattle.golog_semantics.specs.OneMore.{BeginFrom, with_runs}
 use Rattle.golog_semantics.specs.Online.{IsOnlineSoFar, first_fault, keeps_run}
 use Rattle.golog_semantics.proofs.Grown.{report_grows}
@@ -32,15 +32,15 @@ use Rattle.golog_agent.specs.Run.{is_step_entry}
 -- ---- a run at its place
 
 -- no run is found at a later place
-find-placed : (place n : ℕ) (o : Option (List Label)) → place < n → find (λ (r : PlacedRun). r.place == n) (placed place o) ≡ None
+find-placed : (place n : ℕ) (o : Option (List Label)) → place < n → find (λ (r : PlacedRun). r.place == n) (placed_run place o) ≡ None
 find-placed place n None h = refl
 find-placed place n (Some labels) h = rw (ne_eqb place n (λ e. omega (arith, e, h))) refl
 
-find-here : (place : ℕ) (o : Option (List Label)) → option_map (λ (r : PlacedRun). r.labels) (find (λ (r : PlacedRun). r.place == place) (placed place o)) ≡ o
+find-here : (place : ℕ) (o : Option (List Label)) → option_map (λ (r : PlacedRun). r.labels) (find (λ (r : PlacedRun). r.place == place) (placed_run place o)) ≡ o
 find-here place None = refl
 find-here place (Some labels) = rw (eq-eqb place place refl) refl
 
-pub from-placed : (place : ℕ) (o : Option (List Label)) → BeginFrom place (placed place o)
+pub from-placed : (place : ℕ) (o : Option (List Label)) → BeginFrom place (placed_run place o)
 from-placed place None = λ i d l. absurd (omega (arith, l))
 from-placed place (Some labels) = one
   where
@@ -85,7 +85,7 @@ module _ (agent : Agent) where
     abbrev now : List PlacedRun
     now = begun_runs agent (j ++ e ∷ [])
 
-    run-here : run_at now (length j) ≡ begun_by agent j e
+    pub run-here : run_at now (length j) ≡ begun_by agent j e
     run-here =
         ap (λ runs. run_at runs (length j)) (begun-push j e)
         ∙ ap (option_map (λ (r : PlacedRun). r.labels))
@@ -143,7 +143,7 @@ module _ (agent : Agent) where
   begun-none j (Close p r t) h = refl
   begun-none j (End a) h = refl
 
-  one-placed : (place : ℕ) (o : Option (List Label)) → length (placed place o) ≤ 1
+  one-placed : (place : ℕ) (o : Option (List Label)) → length (placed_run place o) ≤ 1
   one-placed place None = omega arith
   one-placed place (Some labels) = omega arith
 

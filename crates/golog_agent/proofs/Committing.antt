@@ -35,7 +35,7 @@ use Rattle.golog_agent.specs.Keeping.{IsUnderWay, KeepsRules, begun_by}
 use Rattle.golog_agent.specs.Planned.{IsNextStep}
 use Rattle.golog_agent.specs.UnderWay.{entry_for}
 use Rattle.golog_agent.specs.Turns.{MayAnswer}
-use Rattle.golog_agent.proofs.Kept.{no_fault}
+use Rattle.golog_agent.proofs.StepsKept.{no_fault}
 use Rattle.golog_agent.proofs.Fueling.{never-fuel}
 
 same_label-same : (l : Label) → same_label l l ≡ true

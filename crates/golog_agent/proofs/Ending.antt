@@ -10,9 +10,9 @@ use Rattle.std.proofs.lemmas.List.Folds.{list_any-append, list_all-append}
 use Rattle.golog_tree.specs.declared.agent.Agent.{Agent}
 use Rattle.golog_semantics.specs.declared.journal.Entry.TheVariants.{End}
 use Rattle.golog_semantics.specs.declared.journal.Answer.{Answer}
-use Rattle.golog_semantics.specs.Journal.{Journal, is_close, is_end, is_open, is_posted_by, has_end, commands, posted}
+use Rattle.golog_semantics.specs.Journal.{Journal, is_close, is_end, is_open, is_posted_by, has_end, commands, entries_by}
 use Rattle.golog_semantics.specs.Inline.{Scripted, Stage, turns_from, round, rounds}
-use Rattle.golog_semantics.specs.InlineText.{scripted as begun_script}
+use Rattle.golog_semantics.specs.InlineText.{new_scripted}
 use Rattle.golog_semantics.specs.Dealt.{Script}
 use Rattle.golog_semantics.specs.Online.{IsOnlineSoFar}
 use Rattle.golog_semantics.specs.InlineText.{report_of}
@@ -70,7 +70,7 @@ module _ (agent : Agent) where
   shut-later : (device : ℕ) (journal since : Journal) → is_open device journal ≡ false → is_open device (journal ++ since) ≡ false
   shut-later device journal since shut =
       ap (λ j. not (list_any is_close j)) (filter-append (is_posted_by device) journal since)
-      ∙ ap not (list_any-append is_close (posted device journal) (posted device since) ∙ or_left _ _ (opposite (list_any is_close (posted device journal)) shut))
+      ∙ ap not (list_any-append is_close (entries_by device journal) (entries_by device since) ∙ or_left _ _ (opposite (list_any is_close (entries_by device journal)) shut))
     where
       opposite : (b : Bool) → not b ≡ false → b ≡ true
       opposite true h = refl
@@ -194,38 +194,38 @@ module _ (agent : Agent) where
     few-rounds = let g = made.goes in let p = progress-few now list made.on short in omega (arith, g, p)
 
     tell-scripts : (scripts : List Script) → length scripts ≡ length agent.devices → TellLeft start.standings scripts
-        → AreScripted agent start (map begun_script scripts)
+        → AreScripted agent start (map new_scripted scripts)
     tell-scripts scripts many tell = record {
-      one_each = length-map scripts begun_script ∙ many;
+      one_each = length-map scripts new_scripted ∙ many;
       told = λ j below.
-          one j (slice_get start.standings j) (slice_get scripts j) (slice_get-script j (let l = length-map scripts begun_script in omega (arith, below, l)))
-          (tell j (let l = length-map scripts begun_script in omega (arith, below, l)))
-          ∙ sym (slice_get-map begun_script scripts j);
+          one j (slice_get start.standings j) (slice_get scripts j) (slice_get-script j (let l = length-map scripts new_scripted in omega (arith, below, l)))
+          (tell j (let l = length-map scripts new_scripted in omega (arith, below, l)))
+          ∙ sym (slice_get-map new_scripted scripts j);
     }
       where
         slice_get-script : (j : ℕ) → j < length scripts → (s : Script) × (slice_get scripts j ≡ Some s)
         slice_get-script j within = let none : Script = record { answers = []; idle = [] } in (get_or scripts j none, slice_get-get_or scripts j none within)
 
         one : (j : ℕ) (x : Option Standing) (y : Option Script) → (s : Script) × (y ≡ Some s) → IsSomeAnd x (λ s. s.meaning.left ≡ y)
-            → option_and_then (λ (s : Standing). option_map (λ left. scripted left (taken_by start.taken j)) s.meaning.left) x ≡ option_map begun_script y
+            → option_and_then (λ (s : Standing). option_map (λ left. scripted left (taken_by start.taken j)) s.meaning.left) x ≡ option_map new_scripted y
         one j None y some is = absurd is
         one j (Some a) y some is = ap (option_map (λ left. scripted left (taken_by start.taken j))) is ∙ by y
           where
-            by : (y : Option Script) → option_map (λ left. scripted left (taken_by start.taken j)) y ≡ option_map begun_script y
+            by : (y : Option Script) → option_map (λ left. scripted left (taken_by start.taken j)) y ≡ option_map new_scripted y
             by None = refl
             by (Some s) = ap (λ n. Some (scripted s n)) (none_taken j)
 
-    follows : (scripts : List Script) → length scripts ≡ length agent.devices → RoundsAre agent made.count (record { journal = start.journal; devices = map begun_script scripts }) now
+    follows : (scripts : List Script) → length scripts ≡ length agent.devices → RoundsAre agent made.count (record { journal = start.journal; devices = map new_scripted scripts }) now
         → FollowsRounds agent scripts start.journal now.journal
     follows scripts many (inl stage) =
         let few = few-rounds in
-        let s = rounds agent made.count (record { journal = start.journal; devices = map begun_script scripts }) in
+        let s = rounds agent made.count (record { journal = start.journal; devices = map new_scripted scripts }) in
         follows_whole_at agent scripts start.journal now.journal made.count s refl (omega (arith, few))
         (subst (λ j. IsOverAll j (length scripts)) stage.entries (subst (IsOverAll now.journal) (sym many) over)) stage.entries
     follows scripts many (inr starved) =
         let few = few-rounds in
         let least = starved.earlier in
-        let s = rounds agent starved.before (record { journal = start.journal; devices = map begun_script scripts }) in
+        let s = rounds agent starved.before (record { journal = start.journal; devices = map new_scripted scripts }) in
         follows_starved_at agent scripts start.journal now.journal starved.before s refl (omega (arith, few, least)) starved.closings starved.answer starved.are_closings starved.short starved.is
 
     pub runs-to-end : RunsToEnd agent start.journal now.journal start.standings now.standings
@@ -235,5 +235,5 @@ module _ (agent : Agent) where
       unrefused = made.unrefused;
       online = over_online agent now.journal online over;
       run = ran-each;
-      scripted = λ scripts many tell. follows scripts many (made.scripted (map begun_script scripts) (tell-scripts scripts many tell));
+      scripted = λ scripts many tell. follows scripts many (made.scripted (map new_scripted scripts) (tell-scripts scripts many tell));
     }

@@ -9,7 +9,7 @@ use Rattle.golog_semantics.specs.declared.journal.Answer.{Answer}
 use Rattle.golog_semantics.specs.Journal.{Journal, is_close}
 use Rattle.golog_semantics.specs.Dealt.{Script}
 use Rattle.golog_semantics.specs.Inline.{Stage, rounds, turns_from}
-use Rattle.golog_semantics.specs.InlineText.{scripted}
+use Rattle.golog_semantics.specs.InlineText.{new_scripted}
 use Rattle.golog_agent.specs.Rounds.{FollowsRounds}
 use Rattle.golog_agent.specs.Short.{IsShort}
 use Rattle.golog_agent.proofs.Adding.{Adds, more_rounds, rounds_keep, turns_then_add}
@@ -53,11 +53,11 @@ module _ (agent : Agent) where
 module _ (agent : Agent) (scripts : List Script) (old new : Journal) where
   -- the stage at which the run begins
   abbrev pub begun : Stage
-  begun = record { journal = old; devices = map scripted scripts }
+  begun = record { journal = old; devices = map new_scripted scripts }
 
   pub follows_whole_at : (k : ℕ) (s : Stage) → rounds agent k begun ≡ s → k ≤ 200000 → IsOverAll s.journal (length scripts) → new ≡ s.journal → FollowsRounds agent scripts old new
   follows_whole_at k s is within over same =
-      whole-so agent k 200000 begun s new is within (subst (IsOverAll s.journal) (sym (length-map scripts scripted)) over) same
+      whole-so agent k 200000 begun s new is within (subst (IsOverAll s.journal) (sym (length-map scripts new_scripted)) over) same
 
   pub follows_starved_at : (k : ℕ) (s : Stage) → rounds agent k begun ≡ s → k < 200000 → (closings : Journal) (answer : Answer) → list_all is_close closings ≡ true → IsShort answer
       → new ≡ (turns_from agent 0 s.journal s.devices).0 ++ End answer ∷ closings → FollowsRounds agent scripts old new

@@ -1,4 +1,4 @@
--- What a runner keeps, with one more entry.
+-- What is kept of a program under way, with one more entry.
 use Rattle.std.proofs.Common.{◌≡◌, ℕ, ◌<◌, Bool, true, false, not, ◌&&◌, ◌||◌, List, [], ◌∷◌, ◌++◌, length, Option, Some, None, refl, sym, ap, ◌∙◌, subst, arith}
 use Rattle.std.specs.Prelude.{IsSome, slice_get, option_and_then, unwrap_or, nat_lt}
 use Rattle.std.specs.List.{list_any}
@@ -23,8 +23,8 @@ use Rattle.golog_semantics.specs.Journal.{Journal, action_item, commands, count,
 use Rattle.golog_semantics.specs.Progress.{values_after, left_after}
 use Rattle.golog_semantics.specs.WellFormed.{WellFormed}
 use Rattle.golog_semantics.specs.Online.{IsOnlineSoFar, first_fault, is_first, is_result, keeps_step}
-use Rattle.golog_semantics.specs.OneMore.{and_then, with_runs}
-use Rattle.golog_semantics.specs.InlineText.{begun_runs, placed, report_of}
+use Rattle.golog_semantics.specs.OneMore.{and_then}
+use Rattle.golog_semantics.specs.InlineText.{begun_runs, report_of}
 use Rattle.golog_semantics.specs.Reports.{fits_entry, is_device, is_exogenous, is_value}
 use Rattle.golog_semantics.specs.Blocks.{moves}
 use Rattle.golog_semantics.proofs.Grown.{entries_grow, progress_grows}
@@ -40,8 +40,8 @@ use Rattle.golog_agent.specs.Keeping.{EndsBy, IsUnderWay, KeepsRules, KeepsUp, a
 use Rattle.golog_agent.specs.Run.{is_step_entry}
 use Rattle.golog_agent.specs.Turns.{Course}
 use Rattle.golog_agent.proofs.Awaiting.{awaits-after}
-use Rattle.golog_agent.proofs.Kept.{keeps_its_step}
-use Rattle.golog_agent.proofs.BegunRuns.{begun-push, begun-steps, few-runs, online-grows}
+use Rattle.golog_agent.proofs.StepsKept.{keeps_its_step}
+use Rattle.golog_agent.proofs.BegunRuns.{begun-steps, few-runs, online-grows}
 
 module _ (agent : Agent) (journal : Journal) where
   -- ---- an entry of the agent
@@ -118,11 +118,10 @@ module _ (agent : Agent) (journal : Journal) where
       let three = and_parts (is_settled agent journal && not (final agent values Must p)) (nat_lt (count journal) limit) four.0 in
       (and_parts (is_settled agent journal) (not (final agent values Must p)) three.0).0
 
-  pub keeps-up : (e : Entry) (known : Configuration) (new : Option Prog) (awaited : Option ℕ) (ended : Option Answer) (runs : List PlacedRun) → KeepsUp agent journal known awaited ended runs
+  pub keeps-up : (e : Entry) (known : Configuration) (new : Option Prog) (awaited : Option ℕ) (ended : Option Answer) → KeepsUp agent journal known awaited ended
       → IsBoardList agent (journal ++ e ∷ []) → KeepsRules agent journal e → left_after agent (journal ++ e ∷ []) ≡ unwrap_or new (left_after agent journal)
       → KeepsUp agent (journal ++ e ∷ []) (with_entry known e new) (awaited_by agent awaited e) (ended_by ended e)
-      (runs ++ placed (length journal) (begun_by agent journal e))
-  keeps-up e known new awaited ended runs k lawful h is =
+  keeps-up e known new awaited ended k lawful h is =
       let u = k.under_way in
       record {
         under_way = record {
@@ -136,18 +135,16 @@ module _ (agent : Agent) (journal : Journal) where
             (λ action same. settled-step (values_after agent journal) (left_after agent journal) action
             (subst (λ x. keeps_step agent journal (values_after agent journal) (left_after agent journal) x ≡ true) same (keeps_its_step agent journal e h))) k.awaits;
         ends = ends-after ended e k.ends;
-        runs_so = ap (λ rs. rs ++ placed (length journal) (begun_by agent journal e)) k.runs_so ∙ sym (begun-push agent journal e);
       }
 
 -- the same of equal values
-pub kept-as : (j k : AgentJournal) (c d : Configuration) (a b : Option ℕ) (e f : Option Answer) (r s : List PlacedRun) → k ≡ j → d ≡ c → b ≡ a → f ≡ e → s ≡ r
-    → KeepsUp j.agent j.entries c a e r → KeepsUp k.agent k.entries d b f s
-kept-as j k c d a b e f r s kj dc ba fe sr h =
-    subst (λ (x : AgentJournal). KeepsUp x.agent x.entries d b f s) (sym kj)
-    (subst (λ x. KeepsUp j.agent j.entries x b f s) (sym dc)
-    (subst (λ x. KeepsUp j.agent j.entries c x f s) (sym ba)
-    (subst (λ x. KeepsUp j.agent j.entries c a x s) (sym fe)
-    (subst (λ x. KeepsUp j.agent j.entries c a e x) (sym sr) h))))
+pub kept-as : (j k : AgentJournal) (c d : Configuration) (a b : Option ℕ) (e f : Option Answer) → k ≡ j → d ≡ c → b ≡ a → f ≡ e
+    → KeepsUp j.agent j.entries c a e → KeepsUp k.agent k.entries d b f
+kept-as j k c d a b e f kj dc ba fe h =
+    subst (λ (x : AgentJournal). KeepsUp x.agent x.entries d b f) (sym kj)
+    (subst (λ x. KeepsUp j.agent j.entries x b f) (sym dc)
+    (subst (λ x. KeepsUp j.agent j.entries c x f) (sym ba)
+    (subst (λ x. KeepsUp j.agent j.entries c a x) (sym fe) h)))
 
 -- as contracts see it
 abbrev pub seen_as : Agent → Journal → Course
@@ -156,46 +153,33 @@ seen_as agent list = record { agent = agent; list = list }
 pub lawful-inside : (agent : Agent) (list : Journal) (value : Course) (e : Entry) → seen_as agent list ≡ value → IsBoardList value.agent (value.list ++ e ∷ []) → IsBoardList agent (list ++ e ∷ [])
 lawful-inside agent list value e is lawful = subst (λ (v : Course). IsBoardList v.agent (v.list ++ e ∷ [])) (sym is) lawful
 
--- all that a runner keeps, after one more entry
-pub kept-then : (held after : AgentJournal) (value : Course) (e : Entry) (known later : Configuration) (given : Option Prog) (awaited next : Option ℕ) (ended last : Option Answer) (runs more : List PlacedRun)
-    → seen_as held.agent held.entries ≡ value → KeepsUp held.agent held.entries known awaited ended runs → IsBoardList value.agent (value.list ++ e ∷ [])
+-- all that is kept, after one more entry
+pub kept-then : (held after : AgentJournal) (value : Course) (e : Entry) (known later : Configuration) (given : Option Prog) (awaited next : Option ℕ) (ended last : Option Answer)
+    → seen_as held.agent held.entries ≡ value → KeepsUp held.agent held.entries known awaited ended → IsBoardList value.agent (value.list ++ e ∷ [])
     → KeepsRules value.agent value.list e → left_after value.agent (value.list ++ e ∷ []) ≡ unwrap_or given (left_after value.agent value.list)
     → after ≡ record { agent = held.agent; entries = held.entries ++ e ∷ [] } → later ≡ with_entry known e given → next ≡ awaited_by held.agent awaited e → last ≡ ended_by ended e
-    → more ≡ runs ++ placed (length held.entries) (begun_by held.agent held.entries e)
-    → KeepsUp after.agent after.entries later next last more
-kept-then held after value e known later given awaited next ended last runs more is k lawful online goes ja ka aa ea ma =
+    → KeepsUp after.agent after.entries later next last
+kept-then held after value e known later given awaited next ended last is k lawful online goes ja ka aa ea =
     kept-as (record { agent = held.agent; entries = held.entries ++ e ∷ [] }) after (with_entry known e given) later (awaited_by held.agent awaited e) next (ended_by ended e) last
-    (runs ++ placed (length held.entries) (begun_by held.agent held.entries e)) more ja ka aa ea ma
-    (keeps-up held.agent held.entries e known given awaited ended runs k (lawful-inside held.agent held.entries value e is lawful)
+    ja ka aa ea
+    (keeps-up held.agent held.entries e known given awaited ended k (lawful-inside held.agent held.entries value e is lawful)
     (subst (λ (v : Course). KeepsRules v.agent v.list e) (sym is) online)
     (subst (λ (v : Course). left_after v.agent (v.list ++ e ∷ []) ≡ unwrap_or given (left_after v.agent v.list)) (sym is) goes))
 
 -- there is room for the run that begins
-pub run-room : (agent : Agent) (list : Journal) (value : Course) (e : Entry) (runs : List PlacedRun) (run : Option (List Label)) → seen_as agent list ≡ value
-    → runs ≡ begun_runs agent list → (is_step_entry e ≡ true → count value.list < limit) → run ≡ begun_by value.agent value.list e
+pub run-room : (agent : Agent) (list : Journal) (e : Entry) (runs : List PlacedRun) (run : Option (List Label))
+    → runs ≡ begun_runs agent list → (is_step_entry e ≡ true → count list < limit) → run ≡ begun_by agent list e
     → IsSome run → length runs < limit
-run-room agent list value e runs run is runs_so room begins some =
+run-room agent list e runs run runs_so room begins some =
     let few = few-runs agent list in
     let many : length runs ≡ length (begun_runs agent list) = ap (λ rs. length rs) runs_so in
-    let below : count list < limit =
-    subst (λ (v : Course). count v.list < limit) (sym is) (room (begun-steps value.agent value.list e (subst IsSome begins some))) in
+    let below : count list < limit = room (begun-steps agent list e (subst IsSome begins some)) in
     omega (arith, few, many, below)
 
 -- the same, where the configuration is
-pub kept-same : (agent : Agent) (list : Journal) (known later : Configuration) (awaited : Option ℕ) (ended : Option Answer) (runs : List PlacedRun) → later ≡ known
-    → KeepsUp agent list known awaited ended runs → KeepsUp agent list later awaited ended runs
-kept-same agent list known later awaited ended runs same h = subst (λ k. KeepsUp agent list k awaited ended runs) (sym same) h
-
--- ---- the report
-
-module _ (agent : Agent) (list : Journal) (value : Course) (known : Configuration) (awaited : Option ℕ) (ended : Option Answer) (runs : List PlacedRun)
-    (is : seen_as agent list ≡ value) (k : KeepsUp agent list known awaited ended runs) (es : Journal) (rs : List PlacedRun) (same : es ≡ list) (kept : rs ≡ runs) where
-  pub reported : with_runs rs es ≡ report_of value.agent value.list
-  reported = ap (with_runs rs) same ∙ ap (λ r. with_runs r list) (kept ∙ k.runs_so) ∙ ap (λ (v : Course). report_of v.agent v.list) is
-
-  pub reported-online : IsOnlineSoFar value.agent (with_runs rs es)
-  reported-online =
-      subst (IsOnlineSoFar value.agent) (sym reported) (subst (λ (v : Course). IsOnlineSoFar v.agent (report_of v.agent v.list)) is k.under_way.online)
+pub kept-same : (agent : Agent) (list : Journal) (known later : Configuration) (awaited : Option ℕ) (ended : Option Answer) → later ≡ known
+    → KeepsUp agent list known awaited ended → KeepsUp agent list later awaited ended
+kept-same agent list known later awaited ended same h = subst (λ k. KeepsUp agent list k awaited ended) (sym same) h
 
 -- ---- before any entry
 
@@ -206,14 +190,13 @@ first-online : (agent : Agent) → IsOnlineSoFar agent (report_of agent [])
 unfolding first_fault
 first-online agent = so_far-no-fault agent (report_of agent []) refl
 
-pub kept-first : (agent : Agent) (journal : AgentJournal) (known : Configuration) (runs : List PlacedRun) → WellFormed agent
-    → journal ≡ record { agent = agent; entries = [] } → known ≡ configuration_after agent [] → runs ≡ [] → KeepsUp journal.agent journal.entries known None None runs
-kept-first agent journal known runs formed empty k r =
-    kept-as (record { agent = agent; entries = [] }) journal (configuration_after agent []) known None None None None [] runs empty k refl refl r
+pub kept-first : (agent : Agent) (journal : AgentJournal) (known : Configuration) → WellFormed agent
+    → journal ≡ record { agent = agent; entries = [] } → known ≡ configuration_after agent [] → KeepsUp journal.agent journal.entries known None None
+kept-first agent journal known formed empty k =
+    kept-as (record { agent = agent; entries = [] }) journal (configuration_after agent []) known None None None None empty k refl refl
     (record {
       under_way = record { formed = formed; lawful = first-rules agent; online = first-online agent };
       known_so = refl;
       awaits = λ d. refl;
       ends = refl;
-      runs_so = refl;
     })

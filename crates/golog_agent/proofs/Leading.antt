@@ -27,15 +27,15 @@ use Rattle.golog_semantics.specs.Inline.{entry_for, lead, step_by}
 use Rattle.golog_semantics.specs.Online.{IsOnlineSoFar, is_first, keeps_step, may_step}
 use Rattle.golog_semantics.specs.InlineText.{report_of}
 use Rattle.golog_journal.specs.Growing.{Sight}
-use Rattle.golog_agent.specs.declared.runner.Stepped.{Stepped}
-use Rattle.golog_agent.specs.declared.runner.Stepped.TheVariants.{Step, Waiting, Ended}
+use Rattle.golog_agent.specs.declared.driver.Stepped.{Stepped}
+use Rattle.golog_agent.specs.declared.driver.Stepped.TheVariants.{Step, Waiting, Ended}
 use Rattle.golog_agent.specs.Leading.{AddsOneAlone, LeadsAlone}
 use Rattle.golog_agent.specs.Keeping.{KeepsRules}
 use Rattle.golog_agent.specs.Run.{is_step_entry}
 use Rattle.golog_agent.specs.Short.{EndsShort}
 use Rattle.golog_agent.specs.Waiting.{has_no_step, waits}
 use Rattle.golog_agent.specs.Turns.{CommitsEnd, CommitsStep, EndStood, Follows, MayAnswer, StillWaits, TurnIs}
-use Rattle.golog_agent.proofs.Kept.{keeps_its_step, step-unended}
+use Rattle.golog_agent.proofs.StepsKept.{keeps_its_step, step-unended}
 use Rattle.golog_agent.proofs.BegunRuns.{keeps-rules}
 use Rattle.golog_agent.proofs.Turning.{alone-grows}
 

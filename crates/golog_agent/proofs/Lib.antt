@@ -1,5 +1,5 @@
 mod BegunRuns
-mod Kept
+mod StepsKept
 mod Awaiting
 mod Growth
 mod Resting
@@ -23,3 +23,10 @@ pub mod Following
 mod Leading
 mod Stepping
 mod KeptDecision
+mod RunsBegun
+pub mod RunsFit
+pub mod WrittenLines
+pub mod Writing
+mod Recorded
+mod Printing
+mod Minds

@@ -12,8 +12,8 @@ use Rattle.golog_semantics.specs.declared.journal.Item.{Item}
 use Rattle.golog_semantics.specs.declared.journal.Item.TheVariants as item
 use Rattle.golog_semantics.specs.declared.journal.Reason.{Reason}
 use Rattle.golog_semantics.specs.declared.journal.Reason.TheVariants as reason
-use Rattle.golog_semantics.specs.Journal.{Journal, Command, commands, is_sensing, is_posted_by, posted, is_open, is_full, has_end, last_of, is_rest_after}
-use Rattle.golog_semantics.specs.Posts.{awaited, closing, is_bad, result_of, entry_of, posted_entry}
+use Rattle.golog_semantics.specs.Journal.{Journal, Command, commands, is_sensing, is_posted_by, entries_by, is_open, is_full, has_end, last_of, is_rest_after}
+use Rattle.golog_semantics.specs.Posts.{awaited_command, closing, is_bad, result_of, entry_of, posted_entry}
 use Rattle.golog_semantics.specs.Dealt.{Meaning, Script}
 use Rattle.golog_journal.specs.declared.board.Next.{Next}
 use Rattle.golog_journal.specs.declared.board.Next.TheVariants.{Command as Commanded, Nothing as NoCommand, Ended}
@@ -55,7 +55,7 @@ module _ (agent : Agent) (device : ℕ) where
 
       entry : (x : Item) → is_posted_by device (entry_of agent journal device n x) ≡ true
       entry (item.Exo action) = itself
-      entry (item.Value value) = result value (awaited agent journal device n)
+      entry (item.Value value) = result value (awaited_command agent journal device n)
       entry item.Rest = itself
       entry item.Close = itself
       entry item.Unreadable = itself
@@ -95,7 +95,7 @@ module _ (agent : Agent) (device : ℕ) where
 
       by : (x : Item) → x ≢ item.Refused → is_refusal (posted_entry agent journal device n x) ≡ false
       by (item.Exo action) h = later (item.Exo action) refl
-      by (item.Value value) h = later (item.Value value) (result value (awaited agent journal device n))
+      by (item.Value value) h = later (item.Value value) (result value (awaited_command agent journal device n))
       by item.Rest h = later item.Rest refl
       by item.Close h = refl
       by item.Unreadable h = later item.Unreadable refl
@@ -205,7 +205,7 @@ module _ (agent : Agent) (device : ℕ) where
         at : RestsAt agent mid.seen device
         at = record {
           goes_on = goes_on;
-          at_rest = ap (λ n. option_map_or (is_rest_after n) (last_of (posted device mid.seen)) false) (all-taken agent mid.seen device taken there.driven next) ∙ rests;
+          at_rest = ap (λ n. option_map_or (is_rest_after n) (last_of (entries_by device mid.seen)) false) (all-taken agent mid.seen device taken there.driven next) ∙ rests;
         }
 
     within : (c : Command) → slice_get (commands agent device mid.seen) taken ≡ Some c → taken + 1 ≤ length (commands agent device mid.seen)

@@ -6,7 +6,7 @@ use Rattle.golog_tree.specs.declared.agent.Agent.{Agent}
 use Rattle.golog_semantics.specs.Journal.{Journal, devices, has_end, is_open}
 use Rattle.golog_semantics.specs.Online.{IsOnline, IsOnlineSoFar, is_whole}
 use Rattle.golog_semantics.specs.InlineText.{report_of}
-use Rattle.golog_semantics.specs.Inline.{Scripted, Stage, lead, led, round, rounds, turn, turns_from}
+use Rattle.golog_semantics.specs.Inline.{Scripted, Stage, lead, after_lead, round, rounds, turn, turns_from}
 use Rattle.golog_semantics.proofs.LaterRuns.{whole_is_online}
 
 -- the program has ended, and no device of the first ones, of so many, is open
@@ -34,7 +34,7 @@ module _ (agent : Agent) where
 
   pub over_stays : (s : Stage) → IsOverAll s.journal (length s.devices) → round agent s ≡ s
   over_stays s over =
-      ap (led agent) (turns-over 0 s.journal s.devices (λ d l. over.shut d (omega (arith, l))))
+      ap (after_lead agent) (turns-over 0 s.journal s.devices (λ d l. over.shut d (omega (arith, l))))
       ∙ ap (λ j. record { journal = j; devices = s.devices }) (lead-over s.journal over.ended)
 
   pub over_rests : (n : ℕ) (s : Stage) → IsOverAll s.journal (length s.devices) → rounds agent n s ≡ s

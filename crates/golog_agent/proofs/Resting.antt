@@ -8,7 +8,7 @@ use Rattle.std.proofs.lemmas.List.{append-nil, take-append-le}
 use Rattle.golog_tree.specs.declared.agent.Agent.{Agent}
 use Rattle.golog_semantics.specs.declared.journal.Entry.{Entry}
 use Rattle.golog_semantics.specs.declared.journal.Entry.TheVariants.{Do, Test, Exo, Sense, Rest, Close, End}
-use Rattle.golog_semantics.specs.Journal.{Journal, Command, commands, is_outstanding, is_posted_by, is_rest_after, is_at_rest, is_result_of, last_of, outstanding_commands, posted}
+use Rattle.golog_semantics.specs.Journal.{Journal, Command, commands, is_outstanding, is_posted_by, is_rest_after, is_at_rest, is_result_of, last_of, outstanding_commands, entries_by}
 use Rattle.golog_semantics.specs.Text.{at_each}
 use Rattle.golog_semantics.specs.Online.{may_have_taken}
 use Rattle.golog_semantics.specs.OneMore.{new_command}
@@ -93,19 +93,19 @@ module _ (agent : Agent) (device : ℕ) where
   own-entry journal (End a) own l = tt
 
   last-after : (journal : Journal) (e : Entry) (b : Bool) → is_posted_by device e ≡ b
-      → last_of (posted device (journal ++ e ∷ [])) ≡ (if b then Some e else last_of (posted device journal))
+      → last_of (entries_by device (journal ++ e ∷ [])) ≡ (if b then Some e else last_of (entries_by device journal))
   last-after journal e true own =
-      ap last_of (posted-push journal e device ∙ ap (λ b. posted device journal ++ (if b then e ∷ [] else [])) own)
-      ∙ fold-push (λ last x. Some x) None (posted device journal) e
+      ap last_of (posted-push journal e device ∙ ap (λ b. entries_by device journal ++ (if b then e ∷ [] else [])) own)
+      ∙ fold-push (λ last x. Some x) None (entries_by device journal) e
   last-after journal e false own =
-      ap last_of (posted-push journal e device ∙ ap (λ b. posted device journal ++ (if b then e ∷ [] else [])) own ∙ append-nil (posted device journal))
+      ap last_of (posted-push journal e device ∙ ap (λ b. entries_by device journal ++ (if b then e ∷ [] else [])) own ∙ append-nil (entries_by device journal))
 
   abbrev Told : Journal → Type 0
-  Told journal = ByLast journal (last_of (posted device journal))
+  Told journal = ByLast journal (last_of (entries_by device journal))
 
   told-push : (journal : Journal) (e : Entry) (b : Bool) → is_posted_by device e ≡ b → Lawful agent journal e → Told journal → Told (journal ++ e ∷ [])
   told-push journal e true own l told = subst (ByLast (journal ++ e ∷ [])) (sym (last-after journal e true own)) (own-entry journal e own l)
-  told-push journal e false own l told = subst (ByLast (journal ++ e ∷ [])) (sym (last-after journal e false own)) (last-still journal e (last_of (posted device journal)) told)
+  told-push journal e false own l told = subst (ByLast (journal ++ e ∷ [])) (sym (last-after journal e false own)) (last-still journal e (last_of (entries_by device journal)) told)
 
   told-from : (before rest : Journal) → list_all (λ b. b) (at_each (is_lawful agent) before rest) ≡ true → Told before → Told (before ++ rest)
   told-from before [] h told = subst Told (sym (append-nil before)) told
@@ -128,4 +128,4 @@ module _ (agent : Agent) (device : ℕ) where
   by-last journal (Some (End x)) a h = absurd (cc)
 
   pub rest-is-answered : (journal : Journal) → IsBoardList agent journal → is_at_rest agent journal device ≡ true → outstanding_commands agent device journal ≡ []
-  rest-is-answered journal list h = by-last journal (last_of (posted device journal)) (told-from [] journal list.lawful tt) h
+  rest-is-answered journal list h = by-last journal (last_of (entries_by device journal)) (told-from [] journal list.lawful tt) h

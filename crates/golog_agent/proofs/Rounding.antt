@@ -11,7 +11,7 @@ use Rattle.golog_semantics.specs.declared.journal.Entry.{Entry}
 use Rattle.golog_semantics.specs.declared.journal.Entry.TheVariants.{Do, Test, Exo, Sense, Rest, Close, End}
 use Rattle.golog_semantics.specs.declared.journal.Answer.{Answer}
 use Rattle.golog_semantics.specs.Journal.{Journal, devices, is_posted_by, is_open, is_at_rest, is_quiet, has_end}
-use Rattle.golog_semantics.specs.Inline.{Scripted, lead, led, turns_from}
+use Rattle.golog_semantics.specs.Inline.{Scripted, lead, after_lead, turns_from}
 use Rattle.golog_semantics.specs.Online.{is_whole}
 use Rattle.golog_journal.specs.Boards.{IsBoardList}
 use Rattle.golog_journal.specs.Growing.{Sight}
@@ -22,8 +22,8 @@ use Rattle.golog_device.specs.Dealing.{scripted, DealtNow}
 use Rattle.golog_device.specs.Slots.{Standing, EachSlot, ChangesIf}
 use Rattle.golog_device.proofs.DealtFirst.{dealt_stays}
 use Rattle.golog_device.proofs.Standings.{EachSlot-then, EachSlot-same}
-use Rattle.golog_agent.specs.declared.runner.Stepped.{Stepped}
-use Rattle.golog_agent.specs.declared.runner.Stepped.TheVariants.{Step, Waiting, Ended}
+use Rattle.golog_agent.specs.declared.driver.Stepped.{Stepped}
+use Rattle.golog_agent.specs.declared.driver.Stepped.TheVariants.{Step, Waiting, Ended}
 use Rattle.golog_agent.specs.Run.{is_step_entry}
 use Rattle.golog_agent.specs.Waiting.{waits}
 use Rattle.golog_agent.specs.Laws.{quiet_goes_on}
@@ -214,7 +214,7 @@ module _ (agent : Agent) where
         by (j, es) is stage (inl leads) =
             let own : AreScripted agent new es = scripted-still es (subst (AreScripted agent mid) (ap (λ (m : Journal × List Scripted). m.1) is) stage.devices) in
             let here : mid.journal ≡ j = stage.entries ∙ ap (λ (m : Journal × List Scripted). m.0) is in
-            inl (subst (IsStage agent new) (ap (led agent) (sym is)) (record { entries = leads ∙ ap (lead agent) here; devices = own }))
+            inl (subst (IsStage agent new) (ap (after_lead agent) (sym is)) (record { entries = leads ∙ ap (lead agent) here; devices = own }))
         by (j, es) is stage (inr ends) = inr (subst (λ l. EndsShort l new.journal) stage.entries ends)
 
   -- where all devices are closed or rest, and the program does nothing, the run is over

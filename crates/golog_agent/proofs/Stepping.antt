@@ -18,7 +18,7 @@ use Rattle.golog_journal.specs.Commits.{IsOfProgram}
 use Rattle.golog_journal.specs.Growing.{Sight}
 use Rattle.golog_agent.specs.declared.plan.Plan.{Plan}
 use Rattle.golog_agent.specs.declared.plan.Plan.TheVariants as plan
-use Rattle.golog_agent.specs.declared.runner.Stepped.TheVariants.{Step, Waiting, Ended}
+use Rattle.golog_agent.specs.declared.driver.Stepped.TheVariants.{Step, Waiting, Ended}
 use Rattle.golog_agent.specs.Keeping.{IsUnderWay, KeepsRules, begun_by}
 use Rattle.golog_agent.specs.Planned.{IsNextStep, PlanIs}
 use Rattle.golog_agent.specs.Run.{is_step_entry}

@@ -2,7 +2,7 @@
 use Rattle.std.proofs.Common.{◌≡◌, ℕ, zero, suc, ◌+◌, ◌<◌, Bool, true, false, [], ◌∷◌, ◌++◌, length, take, drop, get_or, None, refl, sym, ap, ◌∙◌, subst, arith, append_assoc}
 use Rattle.std.specs.List.{list_any}
 use Rattle.std.proofs.lemmas.Bool.{or_parts}
-use Rattle.std.proofs.lemmas.List.{take_more, take-append-drop}
+use Rattle.std.proofs.lemmas.List.{append-nil, take_more, take-append-drop}
 use Rattle.golog_semantics.specs.declared.journal.Entry.{Entry}
 use Rattle.golog_semantics.specs.declared.journal.Entry.TheVariants.{Do, Test, Exo, Sense, Rest, Close, End}
 use Rattle.golog_semantics.specs.Journal.{Journal, count, limit}
@@ -15,6 +15,7 @@ use Rattle.golog_agent.specs.Turns.{Course}
 use Rattle.golog_agent.proofs.Committing.{device-left, device-online}
 use Rattle.golog_agent.proofs.Copying.{lawful-prefix}
 use Rattle.golog_agent.proofs.BegunRuns.{begun-none}
+use Rattle.golog_agent.proofs.Growth.{seen_as}
 
 any-at : (p : Entry → Bool) (xs : Journal) (i : ℕ) (d : Entry) → list_any p xs ≡ false → i < length xs → p (get_or xs i d) ≡ false
 any-at p [] i d h inside = absurd (omega (arith, inside))
@@ -30,6 +31,10 @@ no-step (Sense p at f v) h = refl
 no-step (Rest p t) h = refl
 no-step (Close p r t) h = refl
 no-step (End a) h = refl
+
+-- none of them is taken
+pub taken-none : (first : Course) (entries : Journal) → first ≡ record { agent = first.agent; list = first.list ++ take 0 entries }
+taken-none first entries = ap (seen_as first.agent) (sym (append-nil first.list))
 
 module _ (first : Course) (entries : Journal) (i : ℕ) (d : Entry) (inside : i < length entries) where
   abbrev e : Entry
@@ -66,3 +71,8 @@ module _ (first : Course) (entries : Journal) (i : ℕ) (d : Entry) (inside : i 
 
     pub taken-run : list_any is_of_program entries ≡ false → None ≡ begun_by course.agent course.list (get_or entries i d)
     taken-run devices = sym (begun-none course.agent course.list (get_or entries i d) (taken-no-step devices))
+
+    -- one more is taken
+    pub taken-more : (later : Course) → later ≡ record { agent = course.agent; list = course.list ++ get_or entries i d ∷ [] }
+        → later ≡ record { agent = first.agent; list = first.list ++ take (i + 1) entries }
+    taken-more later is = is ∙ ap (λ (c : Course). seen_as c.agent (c.list ++ get_or entries i d ∷ [])) so ∙ ap (seen_as first.agent) one-more

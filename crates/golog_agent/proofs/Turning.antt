@@ -14,16 +14,17 @@ use Rattle.golog_semantics.specs.Answer.{answer_after}
 use Rattle.golog_journal.specs.declared.lead.Led.TheVariants as led
 use Rattle.golog_journal.specs.Growing.{Sight, program}
 use Rattle.golog_journal.specs.Leading.{AddsEndAtMost, IsBehind, Leads, Mind, SameMind, TakesTurn, Watches, may_come}
-use Rattle.golog_agent.specs.declared.runner.Stepped.{Stepped}
-use Rattle.golog_agent.specs.declared.runner.Stepped.TheVariants.{Step, Waiting, Ended}
+use Rattle.golog_agent.specs.declared.driver.Stepped.{Stepped}
+use Rattle.golog_agent.specs.declared.driver.Stepped.TheVariants.{Step, Waiting, Ended}
 use Rattle.golog_agent.specs.Keeping.{EndsBy}
+use Rattle.golog_agent.specs.Leading.{led_for}
 use Rattle.golog_agent.specs.Run.{is_step_entry}
 use Rattle.golog_agent.specs.Waiting.{waits}
 use Rattle.golog_agent.specs.Turns.{AttemptIs, CommitsEnd, Course, EndStood, Follows, HasEnded, IsCurrent, IsOver, IsOvertaken, LacksFuel, MayAnswer, StillWaits, TurnIs}
 use Rattle.golog_semantics.specs.Online.{IsOnlineSoFar}
 use Rattle.golog_semantics.specs.InlineText.{report_of}
 use Rattle.golog_semantics.proofs.Among.{among-contains, any-among}
-use Rattle.golog_agent.proofs.Kept.{step-unended, stepping-ends-waits}
+use Rattle.golog_agent.proofs.StepsKept.{step-unended, stepping-ends-waits}
 use Rattle.golog_agent.proofs.BegunRuns.{keeps-rules}
 use Rattle.golog_agent.proofs.Boarding.{compose, end-as-before, no-change, others-come, over-whole, seen-so}
 
@@ -283,3 +284,11 @@ module _ (first later : Course) (old new : Sight) (agent : first.agent ≡ old.a
 
   pub lead-more : (s ≡ Step) ⊎ (s ≡ Waiting) → (led.More ≡ led.Ended) ↔ IsTrue (has_end new.seen)
   lead-more is = (λ e. absurd (cc), λ h. absurd (let k = sym h ∙ goes-on-so (other-than-end is) in cc))
+
+-- what it tells
+module _ (first later : Course) (old new : Sight) (agent : first.agent ≡ old.agent) (held : old.holds program ≡ true) (same : later.agent ≡ first.agent)
+    (whole : later.list ≡ new.seen) (online : IsOnlineSoFar later.agent (report_of later.agent later.list)) where
+  pub lead-so : (s : Stepped) → TurnIs old new s → (led_for s ≡ led.Ended) ↔ IsTrue (has_end new.seen)
+  lead-so Step t = lead-more first later old new agent held same whole online Step t (inl refl)
+  lead-so Waiting t = lead-more first later old new agent held same whole online Waiting t (inr refl)
+  lead-so (Ended answer) t = lead-ended first later old new agent held same whole online (Ended answer) t answer refl

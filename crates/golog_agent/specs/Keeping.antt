@@ -5,7 +5,6 @@ use Rattle.golog_tree.specs.declared.prog.Label.{Label}
 use Rattle.golog_semantics.specs.declared.journal.Entry.{Entry}
 use Rattle.golog_semantics.specs.declared.journal.Entry.TheVariants.{Do, Sense, End}
 use Rattle.golog_semantics.specs.declared.journal.Answer.{Answer}
-use Rattle.golog_semantics.specs.declared.journal.PlacedRun.{PlacedRun}
 use Rattle.golog_semantics.specs.Journal.{Journal, Command, has_end, outstanding_commands}
 use Rattle.golog_semantics.specs.Progress.{values_after, left_after}
 use Rattle.golog_semantics.specs.Online.{IsOnlineSoFar, run_begun, fault_at}
@@ -59,12 +58,9 @@ module _ (agent : Agent) (journal : Journal) where
     pub lawful : IsBoardList agent journal
     pub online : IsOnlineSoFar agent (report_of agent journal)
 
-  -- the configuration, the result that is still to come, the answer and the runs are those of the entries
-  pub record KeepsUp
-      (known : Configuration) (awaited : Option ℕ) (ended : Option Answer) (runs : List PlacedRun)
-      : Type 0 where
+  -- the configuration, the result that is still to come and the answer are those of the entries
+  pub record KeepsUp (known : Configuration) (awaited : Option ℕ) (ended : Option Answer) : Type 0 where
     pub under_way : IsUnderWay
     pub known_so : known ≡ configuration_after agent journal
     pub awaits : AwaitsFrom agent journal awaited
     pub ends : EndsBy journal ended
-    pub runs_so : runs ≡ begun_runs agent journal

@@ -11,3 +11,5 @@ pub mod Short
 pub mod Rounds
 pub mod Leading
 pub mod Configuration
+pub mod Written
+pub mod Recording

@@ -10,7 +10,7 @@ use Rattle.golog_semantics.specs.declared.journal.Answer.{Answer}
 use Rattle.golog_semantics.specs.Journal.{Journal, is_open, is_close}
 use Rattle.golog_semantics.specs.Online.{IsOnline}
 use Rattle.golog_semantics.specs.Inline.{rounds, round_limit}
-use Rattle.golog_semantics.specs.InlineText.{report_of, scripted}
+use Rattle.golog_semantics.specs.InlineText.{report_of, new_scripted}
 use Rattle.golog_semantics.specs.Dealt.{Script, WasDealtWith}
 use Rattle.golog_journal.specs.Taken.{IsReady}
 use Rattle.golog_device.specs.Dealing.{DealtNow}
@@ -54,7 +54,7 @@ TellLeft standings scripts =
 -- the first of those stand, with the end and the closings behind it.
 abbrev pub FollowsRounds : Agent → List Script → Journal → Journal → Type 0
 FollowsRounds agent scripts old new =
-    let whole = (rounds agent round_limit (record { journal = old; devices = map scripted scripts })).journal in
+    let whole = (rounds agent round_limit (record { journal = old; devices = map new_scripted scripts })).journal in
     (new ≡ whole)
     ⊎ ((before later closings : Journal) × (answer : Answer) × IsShort answer × (whole ≡ before ++ later)
     × IsTrue (list_all is_close closings) × (new ≡ before ++ End answer ∷ closings))

@@ -11,8 +11,8 @@ use Rattle.golog_semantics.specs.Progress.{values_after, left_after}
 use Rattle.golog_semantics.specs.Answer.{answer_after, is_unanswered}
 use Rattle.golog_journal.specs.Growing.{Sight, AreOthers, program}
 use Rattle.golog_journal.specs.Leading.{IsBehind}
-use Rattle.golog_agent.specs.declared.runner.Stepped.{Stepped}
-use Rattle.golog_agent.specs.declared.runner.Stepped.TheVariants.{Step, Waiting, Ended}
+use Rattle.golog_agent.specs.declared.driver.Stepped.{Stepped}
+use Rattle.golog_agent.specs.declared.driver.Stepped.TheVariants.{Step, Waiting, Ended}
 use Rattle.golog_agent.specs.Run.{is_step_entry}
 use Rattle.golog_agent.specs.Waiting.{waits}
 

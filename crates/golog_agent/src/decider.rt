@@ -109,6 +109,20 @@ impl<'a> Decider<'a> {
         })
     }
 
+    /// The agent that it was made with.
+    pub(crate) fn agent(&self) -> &'a Agent
+        ensures { result.now ≡ self.now.agent }
+    {
+        self.agent
+    }
+
+    /// What is known.
+    pub(crate) fn state(&self) -> &State
+        ensures { result.now ≡ self.now.values }
+    {
+        &self.state
+    }
+
     /// Takes one more entry, and the program that it leaves, if that is another. What was decided of the program
     /// left before is no longer kept then.
     pub(crate) fn take(&mut self, entry: Entry, left: Option<Prog>)

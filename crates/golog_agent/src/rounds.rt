@@ -4,16 +4,16 @@ ghost use Rattle.golog_semantics.specs.Journal.{is_open, longest};
 ghost use Rattle.golog_semantics.specs.Online.{is_whole};
 ghost use Rattle.golog_semantics.specs.WellFormed.{WellFormed};
 ghost use Rattle.golog_journal.specs.Boards.{IsBoardList};
-ghost use Rattle.golog_journal.specs.Leading.{IsBehind};
+ghost use Rattle.golog_journal.specs.Leading.{IsBehind, SameMind};
 ghost use Rattle.golog_journal.specs.Taken.{IsReady};
 ghost use Rattle.golog_device.specs.Turns.{SameBoard};
 ghost use Rattle.golog_device.specs.Slots.{standings, OnlySlot};
 ghost use Rattle.golog_agent.specs.Moments.{moment, MayGoOn, TurnMade, DeviceMade, TurnsMade, RoundMade};
 ghost use Rattle.golog_agent.specs.Rounds.{AreReady, RunsToEnd};
 
-use crate::Runner;
+use crate::OnlineLead;
 use golog_device::{Device, one_turn};
-use golog_journal::{Board, Lead};
+use golog_journal::Board;
 use golog_tree::Agent;
 
 /// The most devices.
@@ -24,94 +24,96 @@ const DEVICES: usize = 16;
 /// has one. The boxes that no device needs stay as they are. Returns where the calls of the devices and of
 /// the board do. Takes memory in the program's turns alone; where it is wanted the program ends with
 /// `Memory`.
-pub fn run_inline<D: Device, B: Board>(
-    runner: &mut Runner<'_>,
+pub fn run_inline<L: OnlineLead, D: Device, B: Board>(
+    lead: &mut L,
     devices: &mut [D],
     agent: &Agent,
     board: &mut B,
 )
-    requires agent { runner.old.agent ≡ agent.now }
+    requires agent { (L.mind lead.old).agent ≡ agent.now }
     requires board { (B.sight board.old).agent ≡ agent.now }
     requires alone { (B.sight board.old).alone ≡ true }
     requires lawful { IsBoardList agent.now (B.sight board.old).seen }
-    requires behind { IsBehind runner.old.list (B.sight board.old).seen }
+    requires behind { IsBehind (L.mind lead.old).list (B.sight board.old).seen }
     requires boxes { length agent.now.devices ≤ length devices.old }
     requires ready { AreReady agent.now (B.sight board.old).seen }
-    ensures same { runner.new.agent ≡ agent.now }
+    ensures same { SameMind (L.mind lead.old) (L.mind lead.new) }
+    ensures stands { L.stands lead.old → L.stands lead.new }
     ensures same_board { SameBoard (B.sight board.old) (B.sight board.new) }
     ensures lawful { IsBoardList agent.now (B.sight board.new).seen }
-    ensures whole { runner.new.list ≡ (B.sight board.new).seen }
+    ensures whole { (L.mind lead.new).list ≡ (B.sight board.new).seen }
     ensures ran { RunsToEnd agent.now (B.sight board.old).seen (B.sight board.new).seen
         (standings D.fresh D.meaning devices.old) (standings D.fresh D.meaning devices.new) }
 {
-    runner.gather(board);
-    runner.keeps_rules();
+    lead.gather(board);
+    lead.keeps_rules();
     let mut taken = [0; DEVICES];
-    while !is_over(runner, agent) {
-        round(runner, devices, agent, &mut taken, board);
+    while !is_over(lead, agent) {
+        round(lead, devices, agent, &mut taken, board);
     }
-    runner.keeps_rules();
+    lead.keeps_rules();
 }
 
 // Whether the program has ended and each device is closed.
-fn is_over(runner: &Runner<'_>, agent: &Agent) -> bool
+fn is_over<L: OnlineLead>(lead: &L, agent: &Agent) -> bool
     requires well_formed { WellFormed agent.now }
-    requires agent { runner.now.agent ≡ agent.now }
-    ensures { result ≡ is_whole agent.now runner.now.list }
+    requires agent { (L.mind lead.now).agent ≡ agent.now }
+    ensures { result ≡ is_whole agent.now (L.mind lead.now).list }
 {
     for device in 0..agent.devices.len() {
-        if runner.is_open(device as u8) {
+        if lead.is_open(device as u8) {
             return false;
         }
     }
-    runner.has_ended()
+    lead.has_ended()
 }
 
 // Each open device in order has one turn, and then the program has one.
-fn round<D: Device, B: Board>(
-    runner: &mut Runner<'_>,
+fn round<L: OnlineLead, D: Device, B: Board>(
+    lead: &mut L,
     devices: &mut [D],
     agent: &Agent,
     taken: &mut [u32; DEVICES],
     board: &mut B,
 )
     requires well_formed { WellFormed agent.now }
-    requires agent { runner.old.agent ≡ agent.now }
+    requires agent { (L.mind lead.old).agent ≡ agent.now }
     requires board { (B.sight board.old).agent ≡ agent.now }
     requires alone { (B.sight board.old).alone ≡ true }
     requires lawful { IsBoardList agent.now (B.sight board.old).seen }
-    requires whole { runner.old.list ≡ (B.sight board.old).seen }
+    requires whole { (L.mind lead.old).list ≡ (B.sight board.old).seen }
     requires boxes { length agent.now.devices ≤ length devices.old }
     requires on { MayGoOn agent.now (B.sight board.old).seen taken.old }
     requires over { is_whole agent.now (B.sight board.old).seen ≡ false }
-    ensures same { runner.new.agent ≡ agent.now }
+    ensures same { SameMind (L.mind lead.old) (L.mind lead.new) }
+    ensures stands { L.stands lead.old → L.stands lead.new }
     ensures same_board { SameBoard (B.sight board.old) (B.sight board.new) }
     ensures lawful { IsBoardList agent.now (B.sight board.new).seen }
-    ensures whole { runner.new.list ≡ (B.sight board.new).seen }
-    ensures short { length runner.new.list ≤ longest }
+    ensures whole { (L.mind lead.new).list ≡ (B.sight board.new).seen }
+    ensures short { length (L.mind lead.new).list ≤ longest }
     ensures made { RoundMade agent.now
         (moment (B.sight board.old).seen taken.old (standings D.fresh D.meaning devices.old))
         (moment (B.sight board.new).seen taken.new (standings D.fresh D.meaning devices.new)) }
 {
-    turns(runner, devices, agent, taken, board);
-    runner.turn(board);
-    runner.keeps_rules();
+    turns(lead, devices, agent, taken, board);
+    lead.step(board);
+    lead.keeps_rules();
 }
 
 // Each open device in order has one turn.
-fn turns<D: Device, B: Board>(
-    runner: &Runner<'_>,
+fn turns<L: OnlineLead, D: Device, B: Board>(
+    lead: &L,
     devices: &mut [D],
     agent: &Agent,
     taken: &mut [u32; DEVICES],
     board: &mut B,
 )
     requires well_formed { WellFormed agent.now }
-    requires agent { runner.now.agent ≡ agent.now }
+    requires agent { (L.mind lead.now).agent ≡ agent.now }
     requires board { (B.sight board.old).agent ≡ agent.now }
     requires alone { (B.sight board.old).alone ≡ true }
     requires lawful { IsBoardList agent.now (B.sight board.old).seen }
-    requires whole { runner.now.list ≡ (B.sight board.old).seen }
+    requires whole { (L.mind lead.now).list ≡ (B.sight board.old).seen }
     requires boxes { length agent.now.devices ≤ length devices.old }
     requires on { MayGoOn agent.now (B.sight board.old).seen taken.old }
     ensures same_board { SameBoard (B.sight board.old) (B.sight board.new) }
@@ -121,7 +123,7 @@ fn turns<D: Device, B: Board>(
         (moment (B.sight board.new).seen taken.new (standings D.fresh D.meaning devices.new)) }
 {
     for slot in 0..agent.devices.len() {
-        if runner.is_open(slot as u8) {
+        if lead.is_open(slot as u8) {
             turn_at(devices, agent, slot, &mut taken[slot], board);
         }
     }

@@ -1,7 +1,7 @@
 //! The runs of a journal, in room that was reserved for them.
-ghost use Rattle.std.specs.Prelude.{◌≡◌, ◌<◌, [], ◌++◌, length, IfOk, IsSome};
+ghost use Rattle.std.specs.Prelude.{◌≡◌, ◌<◌, [], ◌∷◌, ◌++◌, length, IfOk, IsSome};
 ghost use Rattle.golog_semantics.specs.Journal.{limit};
-ghost use Rattle.golog_semantics.specs.InlineText.{placed as placed_run};
+ghost use Rattle.golog_semantics.specs.InlineText.{placed_run};
 
 use golog_base::{List, NoMemory};
 use golog_semantics::PlacedRun;
@@ -39,13 +39,21 @@ impl Runs {
         Ok(Runs { runs })
     }
 
-    /// Keeps the run that begins at this place, if one does.
+    /// Keeps the run that begins at this place, if one does, where there is room, as there is in each journal.
     pub(crate) fn keep(&mut self, place: u32, run: Option<List<Label>>)
-        requires { IsSome run → length self.old < limit }
-        ensures { self.new ≡ self.old ++ placed_run place run }
+        ensures { (IsSome run → length self.old < limit) → self.new ≡ self.old ++ placed_run place run }
     {
         if let Some(labels) = run {
-            self.runs.push_reserved(PlacedRun { place, labels });
+            self.push(PlacedRun { place, labels });
+        }
+    }
+
+    // Keeps a run, where there is room.
+    fn push(&mut self, run: PlacedRun)
+        ensures { length self.old < limit → self.new ≡ self.old ++ run ∷ [] }
+    {
+        if self.runs.len() < MOST {
+            self.runs.push_reserved(run);
         }
     }
 

@@ -1,4 +1,4 @@
-//! Tests of runs over threads: devices of the tests beside each other and beside a program.
+//! Tests of runs with devices of the tests: beside each other and beside a program, and leads that write.
 #![tactic(auto)]
 
 #[cfg(test)]
@@ -7,3 +7,5 @@ mod meeting;
 mod posts;
 #[cfg(test)]
 mod runs;
+#[cfg(test)]
+mod written;

@@ -4,4 +4,4 @@ use Rattle.golog_agent.proofs.rounds.is_over.Given as goal
 
 -- none of the first devices is open
 abbrev pub invariant-loop-device : goal.invariant-loop-device
-invariant-loop-device l = (d : ℕ) → d < l.device → is_open d l.runner.list ≡ false
+invariant-loop-device g l = (d : ℕ) → d < l.device → is_open d (g.L.Lead.mind l.lead).list ≡ false

@@ -10,8 +10,8 @@ use Rattle.golog_agent.proofs.Serving.{no-program}
 use Rattle.golog_agent.proofs.Rounding.{turn-board, program-made, round-made}
 use Rattle.golog_agent.proofs.rounds.round.Goals as goal
 
-pub turn-requires : goal.turn-requires
-turn-requires g c =
+pub step-requires : goal.step-requires
+step-requires g c =
     let same = c.turns.ensures.same_board in
     let made = c.turns.ensures.made in
     record {
@@ -29,24 +29,26 @@ returns g c =
     let agent = c.args.agent.now in
     let same = c.turns.ensures.same_board in
     let mid = g.B.Board.sight c.turns.new.board in
-    let new = g.B.Board.sight c.turn.new.board in
+    let new = g.B.Board.sight c.step.new.board in
     let own : mid.agent ≡ agent = same.same_agent ∙ c.requires.board in
     let alone = same.same_alone ∙ c.requires.alone in
-    let runner = c.turn.ensures.same ∙ c.requires.agent in
-    let whole = c.turn.ensures.whole in
-    let after = turn-board agent mid new c.turn.result c.turn.ensures.turn in
+    let mind = g.L.Lead.mind c.step.new.self in
+    let lead : mind.agent ≡ agent = c.step.ensures.same.same_agent ∙ c.requires.agent in
+    let whole = c.step.ensures.whole in
+    let after = turn-board agent mid new c.step.result c.step.ensures.turn in
     let online : IsOnlineSoFar agent (report_of agent new.seen) =
-    subst (λ a. IsOnlineSoFar a (report_of a new.seen)) runner (subst (λ j. IsOnlineSoFar c.turn.new.self.agent (report_of c.turn.new.self.agent j)) whole c.turn.ensures.online) in
+    subst (λ a. IsOnlineSoFar a (report_of a new.seen)) lead (subst (λ j. IsOnlineSoFar mind.agent (report_of mind.agent j)) whole c.step.ensures.online) in
     record {
-      same = runner;
+      same = c.step.ensures.same;
+      stands = c.step.ensures.stands;
       same_board = record {
         same_agent = after.same_agent ∙ same.same_agent;
         same_alone = after.same_alone ∙ same.same_alone;
         same_holds = after.same_holds ∙ same.same_holds;
       };
       lawful =
-          subst (λ a. IsBoardList a new.seen) runner
-          (subst (λ j. IsBoardList c.turn.new.self.agent j) whole c.keeps_rules.ensures.under_way.lawful);
+          subst (λ a. IsBoardList a new.seen) lead
+          (subst (λ j. IsBoardList mind.agent j) whole c.keeps_rules.ensures.under_way.lawful);
       whole = whole;
       short = c.keeps_rules.ensures.short;
       made =
@@ -54,6 +56,6 @@ returns g c =
           (moment (g.B.Board.sight c.args.board.now).seen c.args.taken.now (standings g.D.Device.fresh g.D.Device.meaning c.args.devices.now))
           (moment mid.seen c.turns.new.taken (standings g.D.Device.fresh g.D.Device.meaning c.turns.new.devices))
           (moment new.seen c.turns.new.taken (standings g.D.Device.fresh g.D.Device.meaning c.turns.new.devices))
-          refl refl c.turns.ensures.lawful c.requires.over c.turns.ensures.made (program-made agent mid new own alone c.turn.result c.turn.ensures.turn)
-          (leads-alone agent mid new c.turn.result (sym own) alone c.turn.ensures.turn online);
+          refl refl c.turns.ensures.lawful c.requires.over c.turns.ensures.made (program-made agent mid new own alone c.step.result c.step.ensures.turn)
+          (leads-alone agent mid new c.step.result (sym own) alone c.step.ensures.turn online);
     }

@@ -7,6 +7,7 @@ use Rattle.golog_journal.specs.Growing.{program}
 use Rattle.golog_device.specs.Slots.{standings}
 use Rattle.golog_agent.specs.Rounds.{AreReady, RunsToEnd}
 use Rattle.golog_agent.specs.Moments.{moment}
+use Rattle.golog_agent.proofs.Minds.{mind-stays, mind-still}
 use Rattle.golog_agent.proofs.Over.{over_is}
 use Rattle.golog_agent.proofs.Ending.{zeros, on-first, rounds-none, rounds-next, progress-few, runs-to-end}
 use Rattle.golog_agent.proofs.rounds.run_inline.Goals as goal
@@ -24,6 +25,8 @@ loop-taken-init g c =
     let new = g.B.Board.sight c.gather.new.board in
     let same : new.seen ≡ (g.B.Board.sight c.args.board.now).seen = c.gather.ensures.watches.alone_same c.requires.alone in
     record {
+      same_mind = mind-stays (g.L.Lead.mind c.gather.new.self);
+      stands = λ stood. stood;
       same_agent = c.gather.ensures.same.same_agent ∙ c.requires.agent;
       same = record { same_agent = refl; same_alone = refl; same_holds = refl };
       lawful = subst (IsBoardList agent) (sym same) c.requires.lawful;
@@ -61,7 +64,9 @@ loop-taken-preserved g c =
     let now = c.loop-taken.invariant in
     let later = c.round.ensures in
     record {
-      same_agent = later.same;
+      same_mind = mind-still (g.L.Lead.mind c.gather.new.self) (g.L.Lead.mind c.loop-taken.lead) (g.L.Lead.mind c.round.new.lead) now.same_mind later.same;
+      stands = λ stood. later.stands (now.stands stood);
+      same_agent = later.same.same_agent ∙ now.same_agent;
       same = record {
         same_agent = (later.same_board).same_agent ∙ (now.same).same_agent;
         same_alone = (later.same_board).same_alone ∙ (now.same).same_alone;
@@ -85,6 +90,7 @@ pub returns : goal.returns
 returns g c =
     let agent = c.args.agent.now in
     let now = c.loop-taken.invariant in
+    let mind = g.L.Lead.mind c.loop-taken.lead in
     let leads = c.gather.ensures.watches.leads in
     let first = g.B.Board.sight c.gather.new.board in
     let last = g.B.Board.sight c.loop-taken.board in
@@ -93,10 +99,11 @@ returns g c =
     let news = standings g.D.Device.fresh g.D.Device.meaning c.loop-taken.devices in
     let online : IsOnlineSoFar agent (report_of agent last.seen) =
     subst (λ a. IsOnlineSoFar a (report_of a last.seen)) now.same_agent
-    (subst (λ j. IsOnlineSoFar c.loop-taken.runner.agent (report_of c.loop-taken.runner.agent j)) now.whole c.keeps_rules-2.ensures.under_way.online) in
+    (subst (λ j. IsOnlineSoFar mind.agent (report_of mind.agent j)) now.whole c.keeps_rules-2.ensures.under_way.online) in
     let whole : is_whole agent last.seen ≡ true = ap (is_whole agent) (sym now.whole) ∙ sym c.is_over.ensures ∙ c.loop-taken-test.false in
     record {
-      same = now.same_agent;
+      same = mind-still (g.L.Lead.mind c.args.lead.now) (g.L.Lead.mind c.gather.new.self) mind c.gather.ensures.same now.same_mind;
+      stands = λ stood. now.stands (c.gather.ensures.stands stood);
       same_board = record {
         same_agent = (now.same).same_agent ∙ leads.same_agent;
         same_alone = (now.same).same_alone ∙ leads.same_alone;

@@ -1,6 +1,7 @@
 use Rattle.std.proofs.Common.{◌≡◌, ◌≤◌, ◌+◌, ◌-◌, length}
 use Rattle.std.specs.List.{sum}
 use Rattle.golog_journal.specs.Boards.{IsBoardList}
+use Rattle.golog_journal.specs.Leading.{SameMind}
 use Rattle.golog_device.specs.Turns.{SameBoard}
 use Rattle.golog_device.specs.Slots.{standings}
 use Rattle.golog_agent.specs.Moments.{RoundsMade}
@@ -9,10 +10,12 @@ use Rattle.golog_agent.proofs.rounds.run_inline.Given as goal
 -- so many rounds were made
 abbrev pub invariant-loop-taken : goal.invariant-loop-taken
 invariant-loop-taken g l = record {
-  same_agent : l.runner.agent ≡ l.agent;
+  same_mind : SameMind (g.L.Lead.mind l.initial.lead) (g.L.Lead.mind l.lead);
+  stands : (g.L.Lead.stands l.initial.lead → g.L.Lead.stands l.lead);
+  same_agent : (g.L.Lead.mind l.lead).agent ≡ l.agent;
   same : SameBoard (g.B.Board.sight l.initial.board) (g.B.Board.sight l.board);
   lawful : IsBoardList l.agent (g.B.Board.sight l.board).seen;
-  whole : l.runner.list ≡ (g.B.Board.sight l.board).seen;
+  whole : (g.L.Lead.mind l.lead).list ≡ (g.B.Board.sight l.board).seen;
   short : length (g.B.Board.sight l.board).seen ≤ 65553;
   made : RoundsMade l.agent
       (record { journal = (g.B.Board.sight l.initial.board).seen; taken = l.initial.taken; standings = standings g.D.Device.fresh g.D.Device.meaning l.initial.devices })

@@ -1,14 +1,16 @@
-use Rattle.golog_agent.proofs.Growth.{reported, reported-online}
+use Rattle.std.proofs.Common.{sym, ◌∙◌, subst}
+use Rattle.golog_semantics.specs.Online.{IsOnlineSoFar}
+use Rattle.golog_agent.specs.Recording.{IsKept}
+use Rattle.golog_agent.specs.Turns.{Course}
+use Rattle.golog_agent.proofs.Recorded.{reported}
 use Rattle.golog_agent.proofs.runner.Runner.report.Goals as goal
 
 pub returns-clause-entries : goal.returns-clause-entries
 returns-clause-entries c =
-    let r = c.self.inside in
-    reported r.journal.agent r.journal.entries c.args.self r.decider r.awaited r.ended r.runs c.self.view_is c.self.invariant
-    c.into_entries.result c.into_list.result c.into_entries.ensures c.into_list.ensures
+    let r = c.self.inside.driver in
+    c.into_report.ensures
+    ∙ reported c.args.self.agent c.args.self.list r.record.entries r.record.runs
+    (subst (λ (v : Course). IsKept v.agent v.list r.record.entries r.record.runs) c.self.view_is c.self.invariant)
 
 pub returns-clause-online : goal.returns-clause-online
-returns-clause-online c =
-    let r = c.self.inside in
-    reported-online r.journal.agent r.journal.entries c.args.self r.decider r.awaited r.ended r.runs c.self.view_is c.self.invariant
-    c.into_entries.result c.into_list.result c.into_entries.ensures c.into_list.ensures
+returns-clause-online c = subst (IsOnlineSoFar c.args.self.agent) (sym (returns-clause-entries c)) c.keeps_rules.ensures.under_way.online
