@@ -1,14 +1,13 @@
 -- What devices that have begun with the texts of scripts have before them.
-use Rattle.std.proofs.Common.{◌≡◌, ℕ, zero, suc, ◌+◌, ◌<◌, ◌≤◌, List, [], ◌∷◌, ◌++◌, length, map, get_or, Option, Some, None, Bool, true, false, refl, sym, ap, ◌∙◌, subst, arith, inl, inr, ◌⊎◌, IsSome, All, IsSomeAnd}
-use Rattle.std.specs.Prelude.{◌==◌, Contains, IfSome, slice_get, nat_lt, is_some}
+use Rattle.std.proofs.Common.{◌≡◌, ℕ, zero, suc, ◌+◌, ◌<◌, ◌≤◌, List, [], ◌∷◌, length, map, get_or, Option, Some, None, Bool, true, false, refl, sym, ap, ◌∙◌, subst, arith, inl, inr, ◌⊎◌, IsSome, All, IsSomeAnd}
+use Rattle.std.specs.Prelude.{◌==◌, IfSome, slice_get, nat_lt, is_some}
 use Rattle.std.specs.List.{list_any, list_all, flat_map, enumerate_from}
 use Rattle.std.proofs.lemmas.Bool.{eqb-true, lt-ltb}
 use Rattle.std.proofs.lemmas.Bool.Decides.{leb_tells}
 use Rattle.std.proofs.lemmas.List.{length-map}
 use Rattle.golog_tree.specs.declared.agent.Agent.{Agent}
 use Rattle.golog_semantics.specs.declared.journal.Entry.TheVariants.{Do, Test, Exo, Sense, Rest, Close, End}
-use Rattle.golog_semantics.specs.declared.journal.Reason.TheVariants.{Refused}
-use Rattle.golog_semantics.specs.Journal.{Journal, is_close, is_open, is_posted_by, posted}
+use Rattle.golog_semantics.specs.Journal.{Journal, is_close, is_open}
 use Rattle.golog_semantics.specs.Text.{Text}
 use Rattle.golog_semantics.specs.Dealt.{Script, WasDealtWith}
 use Rattle.golog_semantics.proofs.Tests.{or_cases}

@@ -5,13 +5,12 @@ mod OneVerdict
 pub mod ExactLemmas
 pub mod Replayed
 pub mod InWorlds
-pub mod CutShort
 pub mod Begun
 pub mod Inlined
-mod RunsBegun
-mod RunsFit
 pub mod Served
 pub mod Reported
+pub mod Reporting
+pub mod CutShort
 mod DemoLemmas
 pub mod Fresh
 pub mod Searchless

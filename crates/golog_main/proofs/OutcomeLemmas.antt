@@ -1,5 +1,5 @@
 -- From what the inputs of a call hold, and what a run of these comes to, to what the call comes to.
-use Rattle.std.proofs.Common.{◌≡◌, Bool, true, false, ℕ, ◌<◌, ◌≤◌, List, [], Option, Some, None, Result, Ok, Err, IfOk, length, refl, sym, subst, inl, inr}
+use Rattle.std.proofs.Common.{◌≡◌, Bool, ℕ, ◌<◌, ◌≤◌, List, [], Option, Some, None, Result, Ok, Err, IfOk, length, refl, sym, subst, inl, inr}
 use Rattle.std.specs.Prelude.{IsSomeAnd}
 use Rattle.golog_base.specs.Files.{FileHas}
 use Rattle.golog_base.specs.declared.mem_files.HeldFile.{HeldFile}
@@ -16,13 +16,13 @@ use Rattle.golog_words.specs.Commands.{run}
 use Rattle.golog_main.specs.declared.outcome.Input.{Input}
 use Rattle.golog_main.specs.declared.outcome.Input.TheVariants.{Agent as AgentFile, Devices as DevicesFile, Journal as JournalFile, Condition}
 use Rattle.golog_main.specs.declared.outcome.Outcome.{Outcome}
-use Rattle.golog_main.specs.declared.outcome.Outcome.TheVariants.{WordsRefused, ReadFault, Refused, Ran, Checked, Judged, Asked, Demonstrated}
+use Rattle.golog_main.specs.declared.outcome.Outcome.TheVariants.{Refused}
 use Rattle.golog_main.specs.declared.ready.Ready.{Ready}
 use Rattle.golog_main.specs.declared.ready.Told.{Told}
 use Rattle.golog_main.specs.declared.ready.Unready.{Unready}
 use Rattle.golog_main.specs.declared.ready.Unready.TheVariants.{Ended, Memory}
 use Rattle.golog_main.specs.Inputs.{Reads, ReadsAgent, ReadsScripts, SpellsScripts, RefusesScripts, too_long, SpellsBoth, SpellsJournal, RefusesJournal, journal_too_long, Tells, input_limit, refusal_text, IsUnread}
-use Rattle.golog_main.specs.Outcome.{ComesOf, unread, refused, holds, RunOf, OfFile, OfAgent, OfBoth, OfScripts, OfJournal, OfCondition, Comes, CondFails, FileFails, HoldsRun, IfEnded, IsTooLong, IsUntouched, Never}
+use Rattle.golog_main.specs.Outcome.{ComesOf, unread, refused, holds, RunOf, OfFile, OfAgent, OfBoth, OfScripts, OfJournal, OfCondition, Comes, CondFails, FileFails, HoldsRun, IfEnded, IsTooLong, Never}
 use Rattle.golog_main.proofs.InputLemmas.{read-held, held-so, unread-since}
 
 -- ---- files that are refused or can't be read
@@ -188,17 +188,12 @@ module _ (held : Option (List HeldFile)) (first now : ℕ) where
   -- ---- runs
 
   module _ (olds news : List Standing) (name : Text) (named : Option Text) (inline : Bool) where
-    run-comes : (ready : Ready) → HoldsRun held name named ready → (outcome : Outcome) → RunOf ready.agent ready.scripts inline olds news outcome
+    -- what a run of what the files hold comes to
+    pub run-comes : (ready : Ready) → HoldsRun held name named ready → (outcome : Outcome) → RunOf ready.agent ready.scripts inline olds news outcome
         → Comes held first now olds news (Some (run name named inline)) outcome
     run-comes ready has outcome ran =
         holds ready.agent has.agent_so
         (scripts-hold ready.agent named ready.scripts (λ listed. RunOf ready.agent listed inline olds news) outcome has.scripts_so ran)
-
-    -- what a run of what the files hold comes to
-    pub runs-come : {E : Type 0} (ready : Ready) (r : Result Outcome E) → HoldsRun held name named ready → IfOk r (RunOf ready.agent ready.scripts inline olds news)
-        → IfOk r (Comes held first now olds news (Some (run name named inline)))
-    runs-come ready (Ok outcome) has ran = run-comes ready has outcome ran
-    runs-come ready (Err e) has ran = ran
 
     -- what comes of files that hold no run
     pub never-comes : (outcome : Outcome) → OfAgent held first now name (λ a. OfScripts held first now a named Never) outcome
@@ -207,20 +202,3 @@ module _ (held : Option (List HeldFile)) (first now : ℕ) where
         comes-so AgentFile (IsUnread held name first now) (λ text. FileHas held name (λ bytes. Tells AgentFile (IsFirstRefusal bytes) text)) (ReadsAgent held name)
         (λ a. OfScripts held first now a named Never) (λ a. OfScripts held first now a named (λ listed. RunOf a listed inline olds news)) outcome
         (λ a. scripts-so a named Never (λ listed. RunOf a listed inline olds news) outcome (λ listed none. absurd none)) comes
-
--- a run has the devices take part
-ran-untouched : (agent : Agent) (listed : List Script) (inline : Bool) (olds news : List Standing) (outcome : Outcome) → RunOf agent listed inline olds news outcome
-    → IsUntouched olds news outcome
-ran-untouched agent listed inline olds news (Ran text answer) ran none = let no : true ≡ false = none in absurd (cc)
-ran-untouched agent listed inline olds news WordsRefused ran none = absurd ran
-ran-untouched agent listed inline olds news (ReadFault input) ran none = absurd ran
-ran-untouched agent listed inline olds news (Refused input text) ran none = absurd ran
-ran-untouched agent listed inline olds news (Checked text) ran none = absurd ran
-ran-untouched agent listed inline olds news (Judged verdict text) ran none = absurd ran
-ran-untouched agent listed inline olds news (Asked truth) ran none = absurd ran
-ran-untouched agent listed inline olds news (Demonstrated text) ran none = absurd ran
-
-pub runs-untouched : {E : Type 0} (agent : Agent) (listed : List Script) (inline : Bool) (olds news : List Standing) (r : Result Outcome E)
-    → IfOk r (RunOf agent listed inline olds news) → IfOk r (IsUntouched olds news)
-runs-untouched agent listed inline olds news (Ok outcome) ran = ran-untouched agent listed inline olds news outcome ran
-runs-untouched agent listed inline olds news (Err e) ran = ran

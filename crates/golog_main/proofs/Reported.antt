@@ -1,8 +1,7 @@
 -- From a journal to its report, and to what a run of it comes to.
-use Rattle.std.proofs.Common.{◌≡◌, zero, suc, ◌≤◌, Bool, true, false, not, ◌||◌, List, [], ◌∷◌, ◌++◌, length, map, Result, Ok, Err, IfOk, refl, sym, ap, ◌∙◌, subst, arith, inl, inr, ◌⊎◌}
+use Rattle.std.proofs.Common.{◌≡◌, zero, suc, Bool, true, false, not, ◌||◌, List, [], ◌∷◌, ◌++◌, length, map, Result, Ok, Err, IfOk, refl, sym, ap, ◌∙◌, subst, arith, inl, inr, ◌⊎◌}
 use Rattle.std.specs.Prelude.{Contains}
 use Rattle.std.specs.List.{list_any, list_all}
-use Rattle.std.proofs.lemmas.Bool.{le-leb}
 use Rattle.std.proofs.lemmas.List.Elements.{Contains-append_cases}
 use Rattle.golog_tree.specs.declared.agent.Agent.{Agent}
 use Rattle.golog_semantics.specs.declared.journal.Entry.{Entry}
@@ -10,14 +9,14 @@ use Rattle.golog_semantics.specs.declared.journal.Entry.TheVariants.{End}
 use Rattle.golog_semantics.specs.declared.journal.Answer.{Answer}
 use Rattle.golog_semantics.specs.declared.journal.Report.{Report}
 use Rattle.golog_semantics.specs.Journal.{Journal, devices, has_end, is_end, is_close, is_open}
+use Rattle.golog_semantics.specs.Online.{is_whole}
 use Rattle.golog_semantics.specs.Inline.{rounds, inline_journal, Scripted}
-use Rattle.golog_semantics.specs.InlineText.{inline_report, report_of, scripted}
+use Rattle.golog_semantics.specs.InlineText.{inline_report, report_of, new_scripted}
 use Rattle.golog_semantics.specs.Dealt.{Script}
 use Rattle.golog_semantics.specs.Text.{Text, at_each, report_text}
-use Rattle.golog_semantics.specs.Reports.{fits_entry, IsReport}
 use Rattle.golog_semantics.specs.WellFormed.{WellFormed}
 use Rattle.golog_semantics.specs.Execution.{status_of}
-use Rattle.golog_semantics.proofs.Tests.{and_both, and_cases, or_first, or_second}
+use Rattle.golog_semantics.proofs.Tests.{and_cases, or_first, or_second}
 use Rattle.golog_semantics.proofs.LaterRuns.{whole_is_online}
 use Rattle.golog_certain.proofs.JournalSo.{journal_so}
 use Rattle.golog_journal.specs.Boards.{IsBoardList, is_lawful}
@@ -25,37 +24,23 @@ use Rattle.golog_journal.proofs.Lawful.{lawful-parts}
 use Rattle.golog_device.specs.Slots.{Standing, HaveBegun}
 use Rattle.golog_agent.specs.Rounds.{FollowsRounds}
 use Rattle.golog_agent.specs.Short.{IsShort}
+use Rattle.golog_agent.proofs.RunsFit.{is-report}
+use Rattle.golog_agent.proofs.WrittenLines.{at_each-append}
 use Rattle.golog_main.specs.Demos.{is_short}
 use Rattle.golog_main.specs.Runs.{AllTellLeft, AreTextsOf, FollowsScripts, IsCutShort, IsReportOf, IsRunOf, ReportsRun, RunsOn}
 use Rattle.golog_main.proofs.Begun.{as-many, dealt-with, tell-left, none-stands}
-use Rattle.golog_main.proofs.Inlined.{all-the-way, at_each-append, cut-short}
-use Rattle.golog_main.proofs.RunsFit.{runs-fit, runs-grow}
+use Rattle.golog_main.proofs.Inlined.{all-the-way, cut-short}
 
 -- ---- the report of a journal
 
 module _ (agent : Agent) where
-  fits-each : (before rest : Journal) → list_all (λ b. b) (at_each (is_lawful agent) before rest) ≡ true → list_all (λ b. b) (at_each (fits_entry agent) before rest) ≡ true
-  fits-each before [] h = refl
-  fits-each before (e ∷ rest) h =
-      let k = and_cases (is_lawful agent before e) (list_all (λ b. b) (at_each (is_lawful agent) (before ++ e ∷ []) rest)) h in
-      and_both (fits_entry agent before e) (list_all (λ b. b) (at_each (fits_entry agent) (before ++ e ∷ []) rest))
-      (lawful-parts agent before e k.0).of_agent (fits-each (before ++ e ∷ []) rest k.1)
-
-  is-report : (journal : Journal) → WellFormed agent → IsBoardList agent journal → length journal ≤ 65553 → IsReport agent (report_of agent journal)
-  is-report journal formed lawful short = record {
-    entries = fits-each [] journal lawful.lawful;
-    runs = runs-fit agent formed [] journal;
-    in_order = runs-grow agent [] journal 0 (omega arith);
-    in_bounds = le-leb (length journal) 1048576 (omega (arith, short));
-  }
-
   -- what has been run is reported
   pub reports-run : (texts : List Text) (inline : Bool) (before : Journal) (olds mids news : List Standing) (report : Report) → WellFormed agent → length texts ≡ length agent.devices
       → HaveBegun (length texts) texts before olds mids → RunsOn agent inline before mids news report → ReportsRun agent texts inline olds news report
   reports-run texts inline before olds mids news report formed one_each begun_texts on scripts are = record {
     journal = on.journal;
     is = on.is;
-    fits = is-report on.journal formed on.lawful on.short;
+    fits = is-report agent on.journal formed on.lawful on.short;
     lawful = on.lawful;
     online = on.online;
     dealt = dealt-with agent texts scripts are before olds mids begun one_each on.journal news on.run;
@@ -117,13 +102,13 @@ module _ (agent : Agent) where
       → IsBoardList agent journal → Contains journal (End answer) → text ≡ report_text agent (report_of agent journal)
       → FollowsRounds agent scripts [] journal → FollowsScripts agent scripts text (status_of answer)
   follows scripts journal text answer lawful ends is (inl whole) =
-      inl (all-the-way agent scripts journal text (status_of answer) (whole ∙ inline-is (map scripted scripts)) is (record { answer = answer; stands = ends; shown = refl }))
+      inl (all-the-way agent scripts journal text (status_of answer) (whole ∙ inline-is (map new_scripted scripts)) is (record { answer = answer; stands = ends; shown = refl }))
   follows scripts journal text answer lawful ends is (inr (before, later, closings, a, short, whole, closes, cut)) =
       let same : answer ≡ a =
       only-end before closings a answer (subst (IsBoardList agent) cut lawful) closes (subst (λ j. Contains j (End answer)) cut ends) in
       inr
       (subst (λ b. IsCutShort agent scripts text (status_of b)) (sym same)
-      (cut-short agent scripts before later closings text a (sym (inline-is (map scripted scripts)) ∙ whole) short
+      (cut-short agent scripts before later closings text a (sym (inline-is (map new_scripted scripts)) ∙ whole) short
       (is ∙ ap (λ j. report_text agent (report_of agent j)) cut)))
 
   -- what a report comes to that is written
@@ -146,13 +131,17 @@ module _ (agent : Agent) where
         scripted = λ rounds tell. follows scripts journal text answer of_journal.lawful there text_is (of_journal.scripted rounds tell);
       }
 
+-- a whole journal has ended
+pub whole-ended : (agent : Agent) (journal : Journal) → is_whole agent journal ≡ true → has_end journal ≡ true
+whole-ended agent journal whole = (and_cases (has_end journal) (not (list_any (λ d. is_open d journal) (devices agent))) whole).0
+
 -- a report of a run has ended
 pub ended : (agent : Agent) (scripts : List Script) (inline : Bool) (olds news : List Standing) (report : Report) → IsReportOf agent scripts inline olds news report
     → has_end report.entries ≡ true
 ended agent scripts inline olds news report of_journal =
     let journal = of_journal.journal in
-    let whole = (whole_is_online agent (report_of agent journal)).ended of_journal.online in
-    ap (λ (r : Report). has_end r.entries) of_journal.is ∙ (and_cases (has_end journal) (not (list_any (λ d. is_open d journal) (devices agent))) whole).0
+    ap (λ (r : Report). has_end r.entries) of_journal.is
+    ∙ whole-ended agent journal ((whole_is_online agent (report_of agent journal)).ended of_journal.online)
 
 -- a report of a run for all scripts of these texts is one for these
 pub for-scripts : {E : Type 0} (agent : Agent) (texts : List Text) (scripts : List Script) (inline : Bool) (olds news : List Standing) (r : Result Report E)
@@ -175,8 +164,8 @@ as-rounds agent scripts olds news report answer of_journal ends long tell = of_j
     by-answer (inl e) = let no : true ≡ false = sym (ap is_short e) ∙ long in absurd (cc)
     by-answer (inr e) = let no : true ≡ false = sym (ap is_short e) ∙ long in absurd (cc)
 
-    whole : FollowsRounds agent scripts [] journal → journal ≡ inline_journal agent (map scripted scripts)
-    whole (inl all) = all ∙ inline-is agent (map scripted scripts)
+    whole : FollowsRounds agent scripts [] journal → journal ≡ inline_journal agent (map new_scripted scripts)
+    whole (inl all) = all ∙ inline-is agent (map new_scripted scripts)
     whole (inr (before, later, closings, a, short, split, closes, cut)) =
         let same : answer ≡ a = only-end agent before closings a answer (subst (IsBoardList agent) cut of_journal.lawful) closes (subst (λ j. Contains j (End answer)) cut there) in
         by-answer (subst IsShort (sym same) short)

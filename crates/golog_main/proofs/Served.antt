@@ -1,5 +1,5 @@
 -- From what a run in rounds or over threads makes of the devices, to what a report says of it.
-use Rattle.std.proofs.Common.{◌≡◌, ℕ, zero, suc, ◌+◌, ◌<◌, ◌≤◌, List, [], ◌∷◌, ◌++◌, length, map, Result, Ok, Err, IfOk, Option, Some, None, Bool, true, false, refl, sym, ap, ◌∙◌, subst, arith, inl, inr, ◌⊎◌}
+use Rattle.std.proofs.Common.{◌≡◌, ℕ, zero, suc, ◌+◌, ◌<◌, ◌≤◌, List, [], ◌∷◌, ◌++◌, length, map, Option, Some, None, Bool, true, false, refl, sym, ap, ◌∙◌, subst, arith, inl, inr, ◌⊎◌}
 use Rattle.std.specs.Prelude.{Contains, slice_get, nat_lt}
 use Rattle.std.specs.List.{list_any, range_with_len}
 use Rattle.std.proofs.lemmas.Bool.{eq-eqb, lt-ltb, or_from, not_from_false, and_from}
@@ -14,8 +14,8 @@ use Rattle.golog_semantics.specs.Online.{is_whole}
 use Rattle.golog_semantics.specs.InlineText.{report_of}
 use Rattle.golog_semantics.proofs.Among.{Among, among-contains, among-either, any-among}
 use Rattle.golog_journal.specs.Boards.{IsBoardList}
-use Rattle.golog_device.specs.Slots.{Standing, Both, ChangesIf, EachSlot, standings}
-use Rattle.golog_agent.specs.Rounds.{HasRun, HasServed, RunsToEnd, is_refusal}
+use Rattle.golog_device.specs.Slots.{Standing, Both, ChangesIf, standings}
+use Rattle.golog_agent.specs.Rounds.{HasServed, RunsToEnd, is_refusal}
 use Rattle.golog_threads.specs.Driving.{HaveServed, RunsOverThreads, has_refused, is_refusal_of}
 use Rattle.golog_threads.specs.Driving.{HasServed as ServedAt}
 use Rattle.golog_main.specs.Runs.{HaveRun, RunsOn, ServedOn, Serves}
@@ -135,10 +135,9 @@ of-threads agent fresh meaning old ds es rest report boxes on = record {
 }
 
 -- and so for all devices, of which the others stay as they are
-pub threads-or-not : {D E : Type 0} (agent : Agent) (fresh : D → Bool) (meaning : D → Meaning) (old : Journal) (all ds es rest : List D) (r : Result Report E)
-    → all ≡ ds ++ rest → length ds ≡ length agent.devices → IfOk r (ServedOn agent meaning old ds es)
-    → IfOk r (RunsOn agent false old (standings fresh meaning all) (standings fresh meaning (es ++ rest)))
-threads-or-not agent fresh meaning old all ds es rest (Ok report) split boxes on =
+pub threads-among : {D : Type 0} (agent : Agent) (fresh : D → Bool) (meaning : D → Meaning) (old : Journal) (all ds es rest : List D)
+    → all ≡ ds ++ rest → length ds ≡ length agent.devices → (report : Report) → ServedOn agent meaning old ds es report
+    → RunsOn agent false old (standings fresh meaning all) (standings fresh meaning (es ++ rest)) report
+threads-among agent fresh meaning old all ds es rest split boxes report on =
     subst (λ l. RunsOn agent false old (standings fresh meaning l) (standings fresh meaning (es ++ rest)) report) (sym split)
     (of-threads agent fresh meaning old ds es rest report boxes on)
-threads-or-not agent fresh meaning old all ds es rest (Err fault) split boxes on = on

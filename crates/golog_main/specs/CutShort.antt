@@ -1,5 +1,5 @@
--- What a run has written where a write failed.
-use Rattle.std.specs.Prelude.{◌≡◌, ℕ, Bool, Option, None, Some, List, []}
+-- What a run has written, whole or not.
+use Rattle.std.specs.Prelude.{◌≡◌, ⊤, Bool, Option, None, Some, List, []}
 use Rattle.golog_base.specs.Known.{and_then_bytes}
 use Rattle.golog_tree.specs.declared.agent.Agent.{Agent}
 use Rattle.golog_semantics.specs.Text.{Text}
@@ -7,7 +7,7 @@ use Rattle.golog_semantics.specs.Certain.{JournalIsSo}
 use Rattle.golog_semantics.specs.Execution.{BeginsOnline}
 use Rattle.golog_script.specs.declared.scripts.Script.{Script}
 use Rattle.golog_file.specs.Spelled.{SpellsAgent}
-use Rattle.golog_words.specs.Commands.{run}
+use Rattle.golog_words.specs.Commands.{CommandLine, run}
 use Rattle.golog_main.specs.Inputs.{SpellsScripts}
 use Rattle.golog_main.specs.Outcome.{Outside, CallEnds}
 use Rattle.golog_main.specs.Exact.{IsRead}
@@ -31,6 +31,15 @@ abbrev pub GivesScripts : Option Text → Outside → Outside → Agent → List
 GivesScripts None before after agent listed = listed ≡ []
 GivesScripts (Some name) before after agent listed =
     (bytes : Text) × IsRead name bytes before after × SpellsScripts agent bytes listed
+
+-- Where the words are those of a run and its files spell an agent and scripts, the beginning of such a text was
+-- written, whatever the status: all of it, a part where a write failed, or nothing.
+abbrev pub LinesBegin : Option CommandLine → Outside → Outside → Type 0
+LinesBegin None before after = ⊤
+LinesBegin (Some (run name devices inline)) before after =
+    (agent : Agent) (listed : List Script) → GivesAgent name before after agent
+    → GivesScripts devices before after agent listed → AddsBeginning agent before.taken after.taken
+LinesBegin (Some command) before after = ⊤
 
 -- where the files of a run spell an agent and scripts, this is so of each call that ends as a write failed
 abbrev pub CutShortBeginsOnline : Type 0

@@ -1,5 +1,5 @@
-// What each command comes to that needs no runtime.
-ghost use Rattle.std.specs.Prelude.{◌≡◌, ◌≤◌, true, false, Some, IfOk, IsTrue, length, option_map};
+// What each command comes to, and what it writes, that needs no runtime.
+ghost use Rattle.std.specs.Prelude.{◌≡◌, ◌≤◌, true, false, Some, IfOk, IsTrue, OnErr, length, option_map};
 ghost use Rattle.golog_semantics.specs.Fits.{cond_fits, nothing_bound};
 ghost use Rattle.golog_semantics.specs.Reports.{IsReport};
 ghost use Rattle.golog_semantics.specs.WellFormed.{WellFormed};
@@ -8,7 +8,7 @@ ghost use Rattle.golog_file.specs.Conditions.{CondsStayKept};
 ghost use Rattle.golog_check_text.specs.Counts.{check_text as spec_check_text};
 ghost use Rattle.golog_words.specs.Answers.{command_of};
 ghost use Rattle.golog_words.specs.Commands.{run};
-ghost use Rattle.golog_main.specs.Outcome.{Comes, IsUntouched, OfAgent, OfBoth, OfCondition, OfJournal, TruthOf, is_threaded};
+ghost use Rattle.golog_main.specs.Outcome.{OfAgent, OfBoth, OfCondition, OfJournal, IsReported, TruthOf, is_threaded, outside};
 ghost use Rattle.golog_main.specs.declared.outcome.Outcome.TheVariants.{Checked};
 
 use crate::demos::demonstrated;
@@ -16,8 +16,9 @@ use crate::judged::replayed;
 use crate::outcome::Outcome;
 use crate::ready::{Told, Unready, agent_in, condition_in, ready_in, told_in, understood_in};
 use crate::run::{run_in_rounds, run_on_threads};
+use crate::writing::{report_if, report_unready};
 use golog_ask::ask;
-use golog_base::{Files, NoMemory};
+use golog_base::{Files, NoMemory, Sink};
 use golog_check_text::check_text;
 use golog_device::Device;
 use golog_file::Understood;
@@ -34,97 +35,106 @@ pub fn is_threaded(order: Order<'_>) -> bool
     matches!(order, Order::Run { inline: false, .. })
 }
 
-/// What an order comes to that needs no threads.
-pub fn served<F: Files, D: Device>(
+/// Does what an order says that needs no threads: what comes of it is written, and the exit status answered. Where memory
+/// runs out nothing is written.
+pub fn served<F: Files, K: Sink, D: Device>(
     alloc: Global,
     order: Order<'_>,
     files: &mut F,
+    out: &mut K,
     devices: &mut [D],
-) -> Result<Outcome, NoMemory>
+) -> Result<u8, NoMemory>
     requires way { is_threaded (command_of order) ≡ false }
     requires boxes { 16 ≤ length devices.old }
     requires fresh { FreshBelow 16 (standings D.fresh D.meaning devices.old) }
-    ensures cause { IfOk result (Comes (F.held files.old) (F.faults files.old) (F.faults files.new)
-        (standings D.fresh D.meaning devices.old) (standings D.fresh D.meaning devices.new)
-        (Some (command_of order.entry))) }
-    ensures untouched { IfOk result (IsUntouched
-        (standings D.fresh D.meaning devices.old) (standings D.fresh D.meaning devices.new)) }
+    ensures reported { IfOk result (λ status. IsReported status
+        (Some (command_of order.entry))
+        (outside (F.held files.old) (F.faults files.old) (K.taken out.old) (K.faults out.old)
+        (standings D.fresh D.meaning devices.old))
+        (outside (F.held files.new) (F.faults files.new) (K.taken out.new) (K.faults out.new)
+        (standings D.fresh D.meaning devices.new))) }
+    ensures nothing { OnErr result (K.taken out.new ≡ K.taken out.old) }
 {
     match order {
         Order::Run {
             agent,
             devices: named,
             ..
-        } => over_rounds(alloc, files, agent, named, devices),
-        Order::Check { agent } => checked(alloc, files, agent),
-        Order::Replay { agent, journal } => replayed(alloc, files, agent, journal),
+        } => over_rounds(alloc, files, out, agent, named, devices),
+        Order::Check { agent } => report_if(out, checked(alloc, files, agent)),
+        Order::Replay { agent, journal } => report_if(out, replayed(alloc, files, agent, journal)),
         Order::Ask {
             agent,
             journal,
             condition,
-        } => asked(alloc, files, agent, journal, condition),
-        Order::Demo { size } => demonstrated(alloc, size, devices),
+        } => report_if(out, asked(alloc, files, agent, journal, condition)),
+        Order::Demo { size } => report_if(out, demonstrated(alloc, size, devices)),
     }
 }
 
-// What a run in rounds comes to with the files of these names.
-fn over_rounds<F: Files, D: Device>(
+// Runs in rounds what the files of these names hold.
+fn over_rounds<F: Files, K: Sink, D: Device>(
     alloc: Global,
     files: &mut F,
+    out: &mut K,
     agent: &str,
     named: Option<&str>,
     devices: &mut [D],
-) -> Result<Outcome, NoMemory>
+) -> Result<u8, NoMemory>
     requires boxes { 16 ≤ length devices.old }
     requires fresh { FreshBelow 16 (standings D.fresh D.meaning devices.old) }
-    ensures cause { IfOk result (Comes (F.held files.old) (F.faults files.old) (F.faults files.new)
-        (standings D.fresh D.meaning devices.old) (standings D.fresh D.meaning devices.new)
-        (Some (run agent.now (option_map (λ name. name.now) named.entry) true))) }
-    ensures untouched { IfOk result (IsUntouched
-        (standings D.fresh D.meaning devices.old) (standings D.fresh D.meaning devices.new)) }
+    ensures reported { IfOk result (λ status. IsReported status
+        (Some (run agent.now (option_map (λ name. name.now) named.entry) true))
+        (outside (F.held files.old) (F.faults files.old) (K.taken out.old) (K.faults out.old)
+        (standings D.fresh D.meaning devices.old))
+        (outside (F.held files.new) (F.faults files.new) (K.taken out.new) (K.faults out.new)
+        (standings D.fresh D.meaning devices.new))) }
+    ensures nothing { OnErr result (K.taken out.new ≡ K.taken out.old) }
 {
     match ready_in(alloc, files, agent, named) {
         Ok(ready) => {
-            let outcome = run_in_rounds(alloc, &ready.agent, ready.scripts.as_slice(), devices);
+            let status = run_in_rounds(alloc, &ready.agent, ready.scripts.as_slice(), out, devices);
             drop(ready);
-            outcome
+            status
         }
-        Err(Unready::Ended(outcome)) => Ok(outcome),
-        Err(Unready::Memory) => Err(NoMemory),
+        Err(unready) => report_unready(out, unready),
     }
 }
 
 /// The same with a run over threads.
-pub fn over_threads<R: Threads + Wait + Sync, F: Files, D: Device + Send>(
+pub fn over_threads<R: Threads + Wait + Sync, F: Files, K: Sink, D: Device + Send>(
     rt: &R,
     alloc: Global,
     files: &mut F,
+    out: &mut K,
     agent: &str,
     named: Option<&str>,
     devices: &mut [D],
-) -> Result<Outcome, NoMemory>
+) -> Result<u8, NoMemory>
     requires boxes { 16 ≤ length devices.old }
     requires fresh { FreshBelow 16 (standings D.fresh D.meaning devices.old) }
-    ensures cause { IfOk result (Comes (F.held files.old) (F.faults files.old) (F.faults files.new)
-        (standings D.fresh D.meaning devices.old) (standings D.fresh D.meaning devices.new)
-        (Some (run agent.now (option_map (λ name. name.now) named.entry) false))) }
-    ensures untouched { IfOk result (IsUntouched
-        (standings D.fresh D.meaning devices.old) (standings D.fresh D.meaning devices.new)) }
+    ensures reported { IfOk result (λ status. IsReported status
+        (Some (run agent.now (option_map (λ name. name.now) named.entry) false))
+        (outside (F.held files.old) (F.faults files.old) (K.taken out.old) (K.faults out.old)
+        (standings D.fresh D.meaning devices.old))
+        (outside (F.held files.new) (F.faults files.new) (K.taken out.new) (K.faults out.new)
+        (standings D.fresh D.meaning devices.new))) }
+    ensures nothing { OnErr result (K.taken out.new ≡ K.taken out.old) }
 {
     match ready_in(alloc, files, agent, named) {
         Ok(ready) => {
-            let outcome = run_on_threads(
+            let status = run_on_threads(
                 rt,
                 alloc,
                 &ready.agent,
                 ready.scripts.as_slice(),
+                out,
                 devices,
             );
             drop(ready);
-            outcome
+            status
         }
-        Err(Unready::Ended(outcome)) => Ok(outcome),
-        Err(Unready::Memory) => Err(NoMemory),
+        Err(unready) => report_unready(out, unready),
     }
 }
 

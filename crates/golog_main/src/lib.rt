@@ -10,6 +10,7 @@ mod outcome;
 mod ready;
 mod run;
 mod top;
+mod writing;
 
 pub use commands::is_threaded;
 pub use devices::script_devices;

@@ -131,8 +131,8 @@ fn verdict_status(verdict: Verdict) -> u8
     }
 }
 
-// The exit status of a run that ends with this answer.
-fn exit_status(answer: Answer) -> u8
+/// The exit status of a run that ends with this answer.
+pub fn exit_status(answer: Answer) -> u8
     ensures { result ≡ answer_status answer }
 {
     match answer {

@@ -1,5 +1,5 @@
 // A run of an agent whose devices follow scripts, or are handed in.
-ghost use Rattle.std.specs.Prelude.{◌≡◌, ◌≤◌, true, false, All, IfOk, IsSome, Contains, Some, [], length, find};
+ghost use Rattle.std.specs.Prelude.{◌≡◌, ◌≤◌, true, false, All, IfOk, OnErr, IsSome, Contains, Some, [], length, find};
 ghost use Rattle.std.specs.Option.{option_copied};
 ghost use Rattle.golog_semantics.specs.declared.journal.Entry.TheVariants.{End};
 ghost use Rattle.golog_semantics.specs.Journal.{has_end};
@@ -13,42 +13,67 @@ ghost use Rattle.golog_agent.specs.Rounds.{AreReady};
 ghost use Rattle.golog_script.specs.declared.scripts.Script.{Script};
 ghost use Rattle.golog_script.specs.ScriptTexts.{HasTexts};
 ghost use Rattle.golog_main.specs.Inputs.{empty_script, script_under, scripts_for};
-ghost use Rattle.golog_main.specs.Outcome.{RunOf};
 ghost use Rattle.golog_main.specs.Runs.{AreTextsOf, HasBegun, IsReportOf, ReportsRun, RunsOn, ServedOn};
+ghost use Rattle.golog_main.specs.Writing.{WritesReport};
 
-use crate::outcome::Outcome;
-use golog_agent::{Runner, run_inline};
-use golog_base::{Bytes, List, NoMemory, Word};
+use crate::writing::run_status;
+use golog_agent::{OnlineLead, Pen, Runner, Scribe, run_inline};
+use golog_base::{Bytes, List, NoMemory, Sink, Word};
 use golog_device::{Device, begin_all};
 use golog_journal::Journal;
 use golog_script::{Script, script_text};
 use golog_semantics::{Answer, Entry, Report};
-use golog_text::write_journal;
 use golog_threads::run_threads;
 use golog_tree::Agent;
 use std::alloc::Global;
 use std::sync::Wait;
 use std::thread::Threads;
 
-/// What a run of the agent's program comes to without threads, with these scripts for its devices. A device that is
-/// not among the scripts has the empty one.
-pub fn run_in_rounds<D: Device>(
+/// Runs the agent's program without threads, with these scripts for its devices, writes each line of its journal when
+/// its entry is seen, and answers the exit status. A device that is not among the scripts has the empty one. Where
+/// memory is wanted for it nothing has run, and nothing is written.
+pub fn run_in_rounds<K: Sink, D: Device>(
     alloc: Global,
     agent: &Agent,
     listed: &[Script],
+    out: &mut K,
     devices: &mut [D],
-) -> Result<Outcome, NoMemory>
+) -> Result<u8, NoMemory>
     requires formed { WellFormed agent.now }
     requires texts { All HasTexts listed.now }
     requires boxes { 16 ≤ length devices.old }
     requires fresh { FreshBelow 16 (standings D.fresh D.meaning devices.old) }
-    ensures { IfOk result (RunOf agent.now listed.now true
-        (standings D.fresh D.meaning devices.old) (standings D.fresh D.meaning devices.new)) }
+    ensures written { IfOk result (WritesReport
+        (IsReportOf agent.now (scripts_for agent.now listed.now) true
+        (standings D.fresh D.meaning devices.old) (standings D.fresh D.meaning devices.new))
+        agent.now (K.taken out.old) (K.taken out.new) (K.faults out.old) (K.faults out.new)) }
+    ensures nothing { OnErr result (K.taken out.new ≡ K.taken out.old) }
 {
-    let report = reported_in_rounds(alloc, agent, listed, devices)?;
-    let text = write_journal(alloc, agent, &report)?;
-    let answer = answer_in(&report);
-    Ok(Outcome::Ran { text, answer })
+    let texts = texts_for(alloc, agent, listed)?;
+    write_in_rounds(alloc, agent, &texts, out, devices)
+}
+
+/// The same with each device on a thread of its own, and the program on this one.
+pub fn run_on_threads<R: Threads + Wait + Sync, K: Sink, D: Device + Send>(
+    rt: &R,
+    alloc: Global,
+    agent: &Agent,
+    listed: &[Script],
+    out: &mut K,
+    devices: &mut [D],
+) -> Result<u8, NoMemory>
+    requires formed { WellFormed agent.now }
+    requires texts { All HasTexts listed.now }
+    requires boxes { 16 ≤ length devices.old }
+    requires fresh { FreshBelow 16 (standings D.fresh D.meaning devices.old) }
+    ensures written { IfOk result (WritesReport
+        (IsReportOf agent.now (scripts_for agent.now listed.now) false
+        (standings D.fresh D.meaning devices.old) (standings D.fresh D.meaning devices.new))
+        agent.now (K.taken out.old) (K.taken out.new) (K.faults out.old) (K.faults out.new)) }
+    ensures nothing { OnErr result (K.taken out.new ≡ K.taken out.old) }
+{
+    let texts = texts_for(alloc, agent, listed)?;
+    write_on_threads(rt, alloc, agent, &texts, out, devices)
 }
 
 /// The report of a run of the agent's program without threads, with these scripts for its devices.
@@ -67,28 +92,6 @@ pub fn reported_in_rounds<D: Device>(
 {
     let texts = texts_for(alloc, agent, listed)?;
     report_in_rounds(alloc, agent, &texts, devices)
-}
-
-/// The same with each device on a thread of its own, and the program on this one.
-pub fn run_on_threads<R: Threads + Wait + Sync, D: Device + Send>(
-    rt: &R,
-    alloc: Global,
-    agent: &Agent,
-    listed: &[Script],
-    devices: &mut [D],
-) -> Result<Outcome, NoMemory>
-    requires formed { WellFormed agent.now }
-    requires texts { All HasTexts listed.now }
-    requires boxes { 16 ≤ length devices.old }
-    requires fresh { FreshBelow 16 (standings D.fresh D.meaning devices.old) }
-    ensures { IfOk result (RunOf agent.now listed.now false
-        (standings D.fresh D.meaning devices.old) (standings D.fresh D.meaning devices.new)) }
-{
-    let texts = texts_for(alloc, agent, listed)?;
-    let report = report_on_threads(rt, alloc, agent, &texts, devices)?;
-    let text = write_journal(alloc, agent, &report)?;
-    let answer = answer_in(&report);
-    Ok(Outcome::Ran { text, answer })
 }
 
 // The texts of the scripts of the agent's devices.
@@ -160,6 +163,63 @@ fn begun<D: Device>(
     }
 }
 
+// Writes the journal of a run in rounds. The pen is made first, so that a run that has begun is written.
+fn write_in_rounds<K: Sink, D: Device>(
+    alloc: Global,
+    agent: &Agent,
+    texts: &List<Bytes>,
+    out: &mut K,
+    devices: &mut [D],
+) -> Result<u8, NoMemory>
+    requires formed { WellFormed agent.now }
+    requires boxes { 16 ≤ length devices.old }
+    requires fresh { FreshBelow 16 (standings D.fresh D.meaning devices.old) }
+    requires one_each { length texts.now ≡ length agent.now.devices }
+    requires spelled { All (λ text. IsSome (script_spelled text)) texts.now }
+    ensures written { IfOk result (WritesReport (ReportsRun agent.now texts.now true
+        (standings D.fresh D.meaning devices.old) (standings D.fresh D.meaning devices.new))
+        agent.now (K.taken out.old) (K.taken out.new) (K.faults out.old) (K.faults out.new)) }
+    ensures nothing { OnErr result (K.taken out.new ≡ K.taken out.old) }
+{
+    let pen = Pen::new(alloc, agent)?;
+    match begun(alloc, agent, texts, devices) {
+        Ok(journal) => Ok(written_in_rounds(agent, pen, journal, out, devices)),
+        Err(fault) => {
+            drop(pen);
+            Err(fault)
+        }
+    }
+}
+
+// The same of a run over threads. Where memory is wanted for these, nothing has run.
+fn write_on_threads<R: Threads + Wait + Sync, K: Sink, D: Device + Send>(
+    rt: &R,
+    alloc: Global,
+    agent: &Agent,
+    texts: &List<Bytes>,
+    out: &mut K,
+    devices: &mut [D],
+) -> Result<u8, NoMemory>
+    requires formed { WellFormed agent.now }
+    requires boxes { 16 ≤ length devices.old }
+    requires fresh { FreshBelow 16 (standings D.fresh D.meaning devices.old) }
+    requires one_each { length texts.now ≡ length agent.now.devices }
+    requires spelled { All (λ text. IsSome (script_spelled text)) texts.now }
+    ensures written { IfOk result (WritesReport (ReportsRun agent.now texts.now false
+        (standings D.fresh D.meaning devices.old) (standings D.fresh D.meaning devices.new))
+        agent.now (K.taken out.old) (K.taken out.new) (K.faults out.old) (K.faults out.new)) }
+    ensures nothing { OnErr result (K.taken out.new ≡ K.taken out.old) }
+{
+    let pen = Pen::new(alloc, agent)?;
+    match begun(alloc, agent, texts, devices) {
+        Ok(journal) => written_on_threads(rt, alloc, agent, pen, journal, out, devices),
+        Err(fault) => {
+            drop(pen);
+            Err(fault)
+        }
+    }
+}
+
 // The report of a run in rounds over a new journal. The runner is made first, so that a run that has begun is
 // reported.
 fn report_in_rounds<D: Device>(
@@ -179,32 +239,6 @@ fn report_in_rounds<D: Device>(
     let runner = Runner::new(alloc, agent)?;
     match begun(alloc, agent, texts, devices) {
         Ok(journal) => Ok(in_rounds(agent, runner, journal, devices)),
-        Err(fault) => {
-            drop(runner);
-            Err(fault)
-        }
-    }
-}
-
-// The same of a run over threads. Where memory is wanted for these, nothing has run.
-fn report_on_threads<R: Threads + Wait + Sync, D: Device + Send>(
-    rt: &R,
-    alloc: Global,
-    agent: &Agent,
-    texts: &List<Bytes>,
-    devices: &mut [D],
-) -> Result<Report, NoMemory>
-    requires formed { WellFormed agent.now }
-    requires boxes { 16 ≤ length devices.old }
-    requires fresh { FreshBelow 16 (standings D.fresh D.meaning devices.old) }
-    requires one_each { length texts.now ≡ length agent.now.devices }
-    requires spelled { All (λ text. IsSome (script_spelled text)) texts.now }
-    ensures { IfOk result (ReportsRun agent.now texts.now false
-        (standings D.fresh D.meaning devices.old) (standings D.fresh D.meaning devices.new)) }
-{
-    let runner = Runner::new(alloc, agent)?;
-    match begun(alloc, agent, texts, devices) {
-        Ok(journal) => on_threads(rt, alloc, agent, runner, journal, devices),
         Err(fault) => {
             drop(runner);
             Err(fault)
@@ -233,51 +267,92 @@ fn in_rounds<D: Device>(
     runner.report()
 }
 
-// The same of a run over threads: the boxes of the agent's devices go to threads, and the others stay as they are.
-fn on_threads<R: Threads + Wait + Sync, D: Device + Send>(
-    rt: &R,
-    alloc: Global,
+// Writes the journal of such a run, and answers its exit status. What the sink holds then is known of the reference
+// that the scribe gives back.
+fn written_in_rounds<K: Sink, D: Device>(
     agent: &Agent,
-    runner: Runner<'_>,
-    journal: Journal,
+    pen: Pen<'_>,
+    mut journal: Journal,
+    out: &mut K,
     devices: &mut [D],
-) -> Result<Report, NoMemory>
-    requires formed { WellFormed agent.now }
-    requires runner { runner ≡ record { agent = agent.now; list = [] } }
+) -> u8
+    requires pen { pen.core ≡ record { agent = agent.now; list = [] } }
     requires agent { journal.agent ≡ agent.now }
     requires lawful { IsBoardList agent.now journal.entries }
     requires behind { IsBehind [] journal.entries }
     requires boxes { length agent.now.devices ≤ length devices.old }
     requires ready { AreReady agent.now journal.entries }
-    ensures { IfOk result (RunsOn agent.now false journal.entries
-        (standings D.fresh D.meaning devices.old) (standings D.fresh D.meaning devices.new)) }
+    ensures { WritesReport (RunsOn agent.now true journal.entries
+        (standings D.fresh D.meaning devices.old) (standings D.fresh D.meaning devices.new))
+        agent.now (K.taken out.old) (K.taken out.new) (K.faults out.old) (K.faults out.new) result }
 {
-    let (served, _others) = devices.split_at_mut(agent.devices.len());
-    served_on_threads(rt, alloc, agent, runner, journal, served)
+    let mut scribe = Scribe::new(pen, out);
+    run_inline(&mut scribe, devices, agent, &mut journal);
+    let _length = journal.len();
+    drop(journal);
+    let status = run_status(scribe.faulted(), scribe.answer());
+    let _out = scribe.into_sink();
+    status
 }
 
-// The report of a run over threads of the agent's devices. Where memory is wanted, nothing has run.
-fn served_on_threads<R: Threads + Wait + Sync, D: Device + Send>(
+// The same of a run over threads: the boxes of the agent's devices go to threads, and the others stay as they are.
+fn written_on_threads<R: Threads + Wait + Sync, K: Sink, D: Device + Send>(
     rt: &R,
     alloc: Global,
     agent: &Agent,
-    mut runner: Runner<'_>,
+    pen: Pen<'_>,
     journal: Journal,
+    out: &mut K,
     devices: &mut [D],
-) -> Result<Report, NoMemory>
+) -> Result<u8, NoMemory>
     requires formed { WellFormed agent.now }
-    requires runner { runner ≡ record { agent = agent.now; list = [] } }
+    requires pen { pen.core ≡ record { agent = agent.now; list = [] } }
+    requires agent { journal.agent ≡ agent.now }
+    requires lawful { IsBoardList agent.now journal.entries }
+    requires behind { IsBehind [] journal.entries }
+    requires boxes { length agent.now.devices ≤ length devices.old }
+    requires ready { AreReady agent.now journal.entries }
+    ensures written { IfOk result (WritesReport (RunsOn agent.now false journal.entries
+        (standings D.fresh D.meaning devices.old) (standings D.fresh D.meaning devices.new))
+        agent.now (K.taken out.old) (K.taken out.new) (K.faults out.old) (K.faults out.new)) }
+    ensures nothing { OnErr result (K.taken out.new ≡ K.taken out.old) }
+{
+    let (served, _others) = devices.split_at_mut(agent.devices.len());
+    served_on_threads(rt, alloc, agent, pen, journal, out, served)
+}
+
+// Writes the journal of a run over threads of the agent's devices. Where memory is wanted, nothing has run, and nothing
+// is written.
+fn served_on_threads<R: Threads + Wait + Sync, K: Sink, D: Device + Send>(
+    rt: &R,
+    alloc: Global,
+    agent: &Agent,
+    pen: Pen<'_>,
+    journal: Journal,
+    out: &mut K,
+    devices: &mut [D],
+) -> Result<u8, NoMemory>
+    requires formed { WellFormed agent.now }
+    requires pen { pen.core ≡ record { agent = agent.now; list = [] } }
     requires agent { journal.agent ≡ agent.now }
     requires lawful { IsBoardList agent.now journal.entries }
     requires behind { IsBehind [] journal.entries }
     requires boxes { length devices.old ≡ length agent.now.devices }
     requires ready { AreReady agent.now journal.entries }
-    ensures { IfOk result (ServedOn agent.now D.meaning journal.entries devices.old devices.new) }
+    ensures written { IfOk result (WritesReport (ServedOn agent.now D.meaning journal.entries devices.old devices.new)
+        agent.now (K.taken out.old) (K.taken out.new) (K.faults out.old) (K.faults out.new)) }
+    ensures nothing { OnErr result (K.taken out.new ≡ K.taken out.old) }
 {
-    match run_threads(rt, alloc, &mut runner, devices, agent, journal) {
-        Ok(()) => Ok(runner.report()),
+    let mut scribe = Scribe::new(pen, out);
+    match run_threads(rt, alloc, &mut scribe, devices, agent, journal) {
+        Ok(()) => {
+            scribe.keeps_rules();
+            let status = run_status(scribe.faulted(), scribe.answer());
+            let _out = scribe.into_sink();
+            Ok(status)
+        }
         Err(fault) => {
-            drop(runner);
+            let _out = scribe.into_sink();
             Err(fault)
         }
     }

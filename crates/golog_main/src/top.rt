@@ -3,20 +3,19 @@ ghost use Rattle.std.specs.Prelude.{◌≡◌, ◌≤◌, map, string_bytes, fal
 ghost use Rattle.golog_device.specs.Slots.{standings, FreshBelow};
 ghost use Rattle.golog_words.specs.Answers.{command_of};
 ghost use Rattle.golog_words.specs.Commands.{command_in};
+ghost use Rattle.golog_main.specs.CutShort.{LinesBegin};
 ghost use Rattle.golog_main.specs.InWorlds.{RunsAreSo};
-ghost use Rattle.golog_main.specs.Outcome.{Comes, CallEnds, IsUntouched, Reports, is_threaded, outside, outcome_text, outcome_status};
+ghost use Rattle.golog_main.specs.Outcome.{CallEnds, IsReported, is_threaded, outside};
 
 use crate::commands::{over_threads, served};
 use crate::outcome::Outcome;
-use golog_base::{Files, NoMemory, Sink, write_all};
+use crate::writing::report;
+use golog_base::{Files, NoMemory, Sink};
 use golog_device::Device;
 use golog_words::{Order, WordsFault, order_of};
 use std::alloc::Global;
 use std::sync::Wait;
 use std::thread::Threads;
-
-/// The exit status where a write failed.
-const WRITE_FAULT: u8 = 5;
 
 /// The exit status where memory ran out.
 pub const NO_MEMORY: u8 = 6;
@@ -59,9 +58,10 @@ pub const NO_MEMORY: u8 = 6;
 ///   before it, each step of the journal is a step of the program left, which may end there where the
 ///   journal says done, and may neither step nor end where it says stuck.
 ///
-/// Each line ends with a line feed. Where a write fails the answer is 5, and a prefix of the text is
-/// written. Where memory runs out the answer is 6; nothing is written, or the journal of a run that ends
-/// `memory`.
+/// Each line ends with a line feed. The lines of a run are written as their entries are seen. Where a write fails
+/// nothing more is written and the answer is 5: a prefix of the text is written, of a run the beginning of the text
+/// of an online execution, and the run goes on to its end. Where memory runs out the answer is 6; nothing is
+/// written, or the journal of a run that ends `memory`.
 ///
 /// With `--inline` the devices have their turns in rounds with the program, on this thread. Without it each has a
 /// thread of its own, and the program this one; such a run may wait for ever, as where a device's call does, or
@@ -86,9 +86,14 @@ pub fn golog<R: Threads + Wait + Sync, F: Files, K: Sink, D: Device + Send>(
         (standings D.fresh D.meaning devices.old))
         (outside (F.held files.new) (F.faults files.new) (K.taken out.new) (K.faults out.new)
         (standings D.fresh D.meaning devices.new)) }
+    ensures lines { LinesBegin (command_in (map string_bytes words.now))
+        (outside (F.held files.old) (F.faults files.old) (K.taken out.old) (K.faults out.old)
+        (standings D.fresh D.meaning devices.old))
+        (outside (F.held files.new) (F.faults files.new) (K.taken out.new) (K.faults out.new)
+        (standings D.fresh D.meaning devices.new)) }
 {
-    match outcome_of(rt, alloc, words, files, devices) {
-        Ok(outcome) => report(out, outcome),
+    match answered(rt, alloc, words, files, out, devices) {
+        Ok(status) => status,
         Err(NoMemory) => NO_MEMORY,
     }
 }
@@ -114,76 +119,69 @@ pub fn serve_inline<F: Files, K: Sink, D: Device>(
         (standings D.fresh D.meaning devices.old))
         (outside (F.held files.new) (F.faults files.new) (K.taken out.new) (K.faults out.new)
         (standings D.fresh D.meaning devices.new)) }
+    ensures lines { LinesBegin (Some (command_of order.entry))
+        (outside (F.held files.old) (F.faults files.old) (K.taken out.old) (K.faults out.old)
+        (standings D.fresh D.meaning devices.old))
+        (outside (F.held files.new) (F.faults files.new) (K.taken out.new) (K.faults out.new)
+        (standings D.fresh D.meaning devices.new)) }
 {
-    match served(alloc, order, files, devices) {
-        Ok(outcome) => report(out, outcome),
+    match served(alloc, order, files, out, devices) {
+        Ok(status) => status,
         Err(NoMemory) => NO_MEMORY,
     }
 }
 
-// What the words, the files and the devices come to.
-fn outcome_of<R: Threads + Wait + Sync, F: Files, D: Device + Send>(
+// Does what the words say, and answers the exit status.
+fn answered<R: Threads + Wait + Sync, F: Files, K: Sink, D: Device + Send>(
     rt: &R,
     alloc: Global,
     words: &[String],
     files: &mut F,
+    out: &mut K,
     devices: &mut [D],
-) -> Result<Outcome, NoMemory>
+) -> Result<u8, NoMemory>
     requires boxes { 16 ≤ length devices.old }
     requires fresh { FreshBelow 16 (standings D.fresh D.meaning devices.old) }
-    ensures cause { IfOk result (Comes (F.held files.old) (F.faults files.old) (F.faults files.new)
-        (standings D.fresh D.meaning devices.old) (standings D.fresh D.meaning devices.new)
-        (command_in (map string_bytes words.now))) }
-    ensures untouched { IfOk result (IsUntouched
-        (standings D.fresh D.meaning devices.old) (standings D.fresh D.meaning devices.new)) }
+    ensures reported { IfOk result (λ status. IsReported status (command_in (map string_bytes words.now))
+        (outside (F.held files.old) (F.faults files.old) (K.taken out.old) (K.faults out.old)
+        (standings D.fresh D.meaning devices.old))
+        (outside (F.held files.new) (F.faults files.new) (K.taken out.new) (K.faults out.new)
+        (standings D.fresh D.meaning devices.new))) }
+    ensures nothing { OnErr result (K.taken out.new ≡ K.taken out.old) }
     ensures command { OnErr result (IsSome (command_in (map string_bytes words.now))) }
 {
     match order_of(alloc, words) {
-        Ok(order) => done(rt, alloc, order, files, devices),
-        Err(WordsFault::Refused) => Ok(Outcome::WordsRefused),
+        Ok(order) => done(rt, alloc, order, files, out, devices),
+        Err(WordsFault::Refused) => Ok(report(out, Outcome::WordsRefused)),
         Err(WordsFault::Memory) => Err(NoMemory),
     }
 }
 
-// What an order, the files and the devices come to.
-fn done<R: Threads + Wait + Sync, F: Files, D: Device + Send>(
+// Does what an order says, and answers the exit status.
+fn done<R: Threads + Wait + Sync, F: Files, K: Sink, D: Device + Send>(
     rt: &R,
     alloc: Global,
     order: Order<'_>,
     files: &mut F,
+    out: &mut K,
     devices: &mut [D],
-) -> Result<Outcome, NoMemory>
+) -> Result<u8, NoMemory>
     requires boxes { 16 ≤ length devices.old }
     requires fresh { FreshBelow 16 (standings D.fresh D.meaning devices.old) }
-    ensures cause { IfOk result (Comes (F.held files.old) (F.faults files.old) (F.faults files.new)
-        (standings D.fresh D.meaning devices.old) (standings D.fresh D.meaning devices.new)
-        (Some (command_of order.entry))) }
-    ensures untouched { IfOk result (IsUntouched
-        (standings D.fresh D.meaning devices.old) (standings D.fresh D.meaning devices.new)) }
+    ensures reported { IfOk result (λ status. IsReported status
+        (Some (command_of order.entry))
+        (outside (F.held files.old) (F.faults files.old) (K.taken out.old) (K.faults out.old)
+        (standings D.fresh D.meaning devices.old))
+        (outside (F.held files.new) (F.faults files.new) (K.taken out.new) (K.faults out.new)
+        (standings D.fresh D.meaning devices.new))) }
+    ensures nothing { OnErr result (K.taken out.new ≡ K.taken out.old) }
 {
     match order {
         Order::Run {
             agent,
             devices: named,
-            inline,
-        } => {
-            if inline {
-                served(alloc, order, files, devices)
-            } else {
-                over_threads(rt, alloc, files, agent, named, devices)
-            }
-        }
-        _ => served(alloc, order, files, devices),
-    }
-}
-
-// Writes what an outcome says and answers its status, or that of a fault.
-fn report<K: Sink>(out: &mut K, outcome: Outcome) -> u8
-    ensures { Reports result (outcome_text outcome) (outcome_status outcome)
-        (K.taken out.old) (K.taken out.new) (K.faults out.old) (K.faults out.new) }
-{
-    match write_all(out, outcome.text()) {
-        Ok(()) => outcome.status(),
-        Err(_) => WRITE_FAULT,
+            inline: false,
+        } => over_threads(rt, alloc, files, out, agent, named, devices),
+        _ => served(alloc, order, files, out, devices),
     }
 }

@@ -1,6 +1,6 @@
 use Rattle.golog_main.specs.declared.outcome.Input.TheVariants.{Journal as JournalFile}
 use Rattle.golog_main.specs.Inputs.{RefusesJournal, SpellsJournal}
-use Rattle.golog_main.specs.Outcome.{holds, OfCondition, TruthOf}
+use Rattle.golog_main.specs.Outcome.{OfCondition, TruthOf}
 use Rattle.golog_main.proofs.OutcomeLemmas.{file-comes, told-comes}
 use Rattle.golog_main.proofs.commands.asked_of.Goals as goal
 

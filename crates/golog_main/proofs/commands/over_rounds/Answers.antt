@@ -1,34 +1,38 @@
-use Rattle.std.proofs.Common.{Some, true, subst}
+use Rattle.std.proofs.Common.{true, refl}
 use Rattle.std.specs.Prelude.{option_map}
 use Rattle.golog_device.specs.Slots.{standings}
-use Rattle.golog_words.specs.Commands.{run}
-use Rattle.golog_main.specs.Outcome.{Comes, IfEnded, Never, OfAgent, OfScripts}
-use Rattle.golog_main.proofs.OutcomeLemmas.{never-comes, runs-come, runs-untouched}
+use Rattle.golog_main.specs.Outcome.{outside}
+use Rattle.golog_main.proofs.Reporting.{runs-reported, unready-nothing, unready-reported}
 use Rattle.golog_main.proofs.commands.over_rounds.Goals as goal
 
-pub run_in_rounds-outcome-requires-clause-texts : goal.run_in_rounds-outcome-requires-clause-texts
-run_in_rounds-outcome-requires-clause-texts g c = rw c.as_slice.ensures c.in-Ok.ensures.ready.texts
+pub run_in_rounds-status-requires-clause-texts : goal.run_in_rounds-status-requires-clause-texts
+run_in_rounds-status-requires-clause-texts g c = rw c.as_slice.ensures c.in-Ok.ensures.ready.texts
 
-pub returns-in-Ok-clause-cause : goal.returns-in-Ok-clause-cause
-returns-in-Ok-clause-cause g c =
+pub returns-in-Ok-clause-reported : goal.returns-in-Ok-clause-reported
+returns-in-Ok-clause-reported g c =
     let stand = standings g.D.Device.fresh g.D.Device.meaning in
-    runs-come (g.F.Files.held c.args.files.now) (g.F.Files.faults c.args.files.now) (g.F.Files.faults c.ready_in.new.files) (stand c.args.devices.now) (stand c.run_in_rounds-outcome.new.devices)
-    c.args.agent.now (option_map (λ name. name.now) c.args.named) true c.in-Ok.ready c.run_in_rounds-outcome.result c.in-Ok.ensures.ready
-    (rw c.as_slice.ensures at c.run_in_rounds-outcome.ensures)
+    let files = c.args.files.now in
+    let read = c.ready_in.new.files in
+    let out = c.args.out.now in
+    let written = c.run_in_rounds-status.new.out in
+    runs-reported
+    (outside (g.F.Files.held files) (g.F.Files.faults files) (g.K.Sink.taken out) (g.K.Sink.faults out) (stand c.args.devices.now))
+    (outside (g.F.Files.held read) (g.F.Files.faults read) (g.K.Sink.taken written) (g.K.Sink.faults written) (stand c.run_in_rounds-status.new.devices))
+    c.args.agent.now (option_map (λ name. name.now) c.args.named) true c.in-Ok.ready c.in-Ok.ensures.ready c.run_in_rounds-status.result
+    (rw c.as_slice.ensures at c.run_in_rounds-status.ensures.written)
 
-pub returns-in-Ok-clause-untouched : goal.returns-in-Ok-clause-untouched
-returns-in-Ok-clause-untouched g c =
+pub returns-in-Err-clause-reported : goal.returns-in-Err-clause-reported
+returns-in-Err-clause-reported g c =
     let stand = standings g.D.Device.fresh g.D.Device.meaning in
-    runs-untouched c.in-Ok.ready.agent c.in-Ok.ready.scripts true (stand c.args.devices.now) (stand c.run_in_rounds-outcome.new.devices) c.run_in_rounds-outcome.result
-    (rw c.as_slice.ensures at c.run_in_rounds-outcome.ensures)
+    let files = c.args.files.now in
+    let read = c.ready_in.new.files in
+    let out = c.args.out.now in
+    let written = c.report_unready.new.out in
+    unready-reported
+    (outside (g.F.Files.held files) (g.F.Files.faults files) (g.K.Sink.taken out) (g.K.Sink.faults out) (stand c.args.devices.now))
+    (outside (g.F.Files.held read) (g.F.Files.faults read) (g.K.Sink.taken written) (g.K.Sink.faults written) (stand c.args.devices.now))
+    c.args.agent.now (option_map (λ name. name.now) c.args.named) true c.in-Err.unready c.report_unready.result
+    c.in-Err.ensures.unready refl c.report_unready.ensures
 
-pub returns-in-Err-Ended-clause-cause : goal.returns-in-Err-Ended-clause-cause
-returns-in-Err-Ended-clause-cause g c =
-    let stand = standings g.D.Device.fresh g.D.Device.meaning in
-    let held = g.F.Files.held c.args.files.now in
-    let first = g.F.Files.faults c.args.files.now in
-    let now = g.F.Files.faults c.ready_in.new.files in
-    let named = option_map (λ name. name.now) c.args.named in
-    rw c.in-Err-Ended.field-0-is
-    (never-comes held first now (stand c.args.devices.now) (stand c.args.devices.now) c.args.agent.now named true c.in-Err-Ended.outcome
-    (rw c.in-Err-Ended.field-0-is at c.in-Err-Ended.ensures.unready))
+pub returns-in-Err-clause-nothing : goal.returns-in-Err-clause-nothing
+returns-in-Err-clause-nothing g c = unready-nothing c.in-Err.unready c.report_unready.result _ _ _ _ c.report_unready.ensures

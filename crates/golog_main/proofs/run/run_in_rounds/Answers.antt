@@ -1,21 +1,30 @@
-use Rattle.std.proofs.Common.{true, sym, subst}
-use Rattle.golog_semantics.specs.Reports.{IsReport}
+use Rattle.std.proofs.Common.{◌∙◌, true}
+use Rattle.std.proofs.lemmas.List.{length-map}
 use Rattle.golog_device.specs.Slots.{standings}
-use Rattle.golog_main.specs.Inputs.{scripts_for}
-use Rattle.golog_main.proofs.Reported.{ended, run-of}
+use Rattle.golog_main.specs.Inputs.{script_under, scripts_for}
+use Rattle.golog_main.specs.Runs.{IsReportOf, ReportsRun}
+use Rattle.golog_main.proofs.Begun.{as-many, all-spelled}
+use Rattle.golog_main.proofs.Reporting.{writes-more}
 use Rattle.golog_main.proofs.run.run_in_rounds.Goals as goal
 
-pub write_journal-requires : goal.write_journal-requires
-write_journal-requires g c =
-    let of = c.in_ok-report.ensures in
-    record { formed = c.requires.formed; report = subst (IsReport c.args.agent.now) (sym of.is) of.fits }
+pub write_in_rounds-requires : goal.write_in_rounds-requires
+write_in_rounds-requires g c =
+    let scripts = scripts_for c.args.agent.now c.args.listed.now in
+    record {
+      formed = c.requires.formed;
+      boxes = c.requires.boxes;
+      fresh = c.requires.fresh;
+      one_each = as-many c.in_ok-texts.texts scripts c.in_ok-texts.ensures ∙ length-map c.args.agent.now.devices (script_under c.args.listed.now);
+      spelled = all-spelled c.in_ok-texts.texts scripts c.in_ok-texts.ensures;
+    }
 
-pub answer_in-answer-requires : goal.answer_in-answer-requires
-answer_in-answer-requires g c = ended _ _ _ _ _ _ c.in_ok-report.ensures
-
-pub returns : goal.returns
-returns g c =
+pub returns-clause-written : goal.returns-clause-written
+returns-clause-written g c =
+    let agent = c.args.agent.now in
+    let texts = c.in_ok-texts.texts in
+    let scripts = scripts_for agent c.args.listed.now in
     let stand = standings g.D.Device.fresh g.D.Device.meaning in
-    run-of c.args.agent.now (scripts_for c.args.agent.now c.args.listed.now) true (stand c.args.devices.now) (stand c.reported_in_rounds.new.devices)
-    c.in_ok-report.report c.in_ok-text.text c.answer_in-answer.result c.requires.formed
-    c.in_ok-report.ensures c.in_ok-text.ensures c.answer_in-answer.ensures
+    let olds = stand c.args.devices.now in
+    let news = stand c.write_in_rounds.new.devices in
+    writes-more (ReportsRun agent texts true olds news) (IsReportOf agent scripts true olds news) agent _ _ _ _ c.write_in_rounds.result
+    (λ report of. of scripts c.in_ok-texts.ensures) c.write_in_rounds.ensures.written

@@ -1,27 +1,52 @@
-use Rattle.std.proofs.Common.{◌≡◌, true, sym, ap, ◌∙◌, subst}
-use Rattle.golog_semantics.specs.declared.journal.Report.{Report}
+use Rattle.std.proofs.Common.{◌≡◌, sym, ap, refl, ◌∙◌, subst, rules}
 use Rattle.golog_semantics.specs.InlineText.{report_of}
-use Rattle.golog_semantics.specs.Online.{IsOnline, IsOnlineSoFar, is_whole}
+use Rattle.golog_semantics.specs.Online.{IsOnline, IsOnlineSoFar}
 use Rattle.golog_semantics.proofs.LaterRuns.{whole_is_online}
+use Rattle.golog_journal.specs.Leading.{Mind, Outlet}
 use Rattle.golog_agent.specs.Turns.{Course}
+use Rattle.golog_main.specs.Runs.{ServedOn}
 use Rattle.golog_main.proofs.Served.{threads-whole}
+use Rattle.golog_main.proofs.Reporting.{has-answer, nothing-written, same-outlet, scribe-writes, written-of}
 use Rattle.golog_main.proofs.run.served_on_threads.Goals as goal
 
-pub returns-in-Ok : goal.returns-in-Ok
-returns-in-Ok g c =
+pub run_status-status-requires : goal.run_status-status-requires
+run_status-status-requires g c = has-answer c.run_threads.new.lead.driver.core.list c.answer.result c.answer.ensures c.in-Ok.ensures.ran.ended
+
+pub returns-in-Ok-clause-written : goal.returns-in-Ok-clause-written
+returns-in-Ok-clause-written g c =
     let agent = c.args.agent.now in
     let meaning = g.D.Device.meaning in
     let before = c.args.journal.entries in
-    let list = c.run_threads.new.lead.list in
-    let same = c.in-Ok.ensures.same.same_agent ∙ ap (λ (r : Course). r.agent) c.requires.runner in
-    let is = c.report.ensures.entries ∙ ap (λ a. report_of a list) same in
+    let list = c.run_threads.new.lead.driver.core.list in
+    let same = c.run_threads.ensures.same.same_agent ∙ ap (λ (p : Course). p.agent) (c.new-scribe.ensures.core ∙ c.requires.pen) in
     let whole = threads-whole agent g.D.Device.fresh meaning before list c.args.devices.now c.run_threads.new.devices c.requires.boxes c.in-Ok.ensures.ran in
-    record {
-      journal = list;
-      is = is;
-      online =
-          subst (IsOnline agent) is
-          ((whole_is_online agent c.report.result).whole (subst (λ a. IsOnlineSoFar a c.report.result) same c.report.ensures.online)
-          (ap (λ (r : Report). is_whole agent r.entries) is ∙ whole));
-      ran = c.in-Ok.ensures.ran;
-    }
+    let so_far : IsOnlineSoFar agent (report_of agent list) = subst (λ a. IsOnlineSoFar a (report_of a list)) same c.keeps_rules.ensures.under_way.online in
+    let online : IsOnline agent (report_of agent list) = (whole_is_online agent (report_of agent list)).whole so_far whole in
+    let last = c.run_threads.new.lead in
+    let taken = g.K.Sink.taken in
+    let faults = g.K.Sink.faults in
+    let outlet = same-outlet _ _ c.run_threads.ensures.same.same_outlet in
+    let base = ap (λ (o : Outlet). o.base) outlet ∙ ap taken c.new-scribe.ensures.base in
+    let count = ap (λ (o : Outlet). o.faults) outlet ∙ ap faults c.new-scribe.ensures.base in
+    let name = c.into_sink-out.ensures.same_reference ∙ ap (λ (o : Outlet). o.name) outlet ∙ c.new-scribe.ensures.same_reference in
+    let value = c.into_sink-out.ensures.value in
+    let has = c.run_threads.ensures.stands (c.new-scribe.ensures.stands (ap (λ (p : Course). p.list) c.requires.pen)) in
+    scribe-writes _ _ _ _ (ServedOn agent meaning before c.args.devices.now c.run_threads.new.devices) agent last.driver.core.agent last.driver.core.list last.driver.record.faulted c.answer.result c.run_status-status.result
+    (written-of last.driver.core.agent last.driver.core.list last.driver.record.faulted _ _ _ _ _ _ _ _ base (sym (ap taken value) ∙ search rules) count (sym (ap faults value) ∙ search rules) has)
+    same (record { journal = list; is = refl; online = online; ran = c.in-Ok.ensures.ran })
+    c.answer.ensures c.in-Ok.ensures.ran.ended
+    (λ fault. c.run_status-status.ensures.fault (c.faulted.ensures ∙ fault)) (λ whole. c.run_status-status.ensures.shown (c.faulted.ensures ∙ whole))
+
+pub returns-in-Err-clause-nothing : goal.returns-in-Err-clause-nothing
+returns-in-Err-clause-nothing g c =
+    let last = c.run_threads.new.lead in
+    let taken = g.K.Sink.taken in
+    let list = ap (λ (m : Mind). m.list) c.in-Err.ensures.memory.0 ∙ ap (λ (p : Course). p.list) (c.new-scribe.ensures.core ∙ c.requires.pen) in
+    let outlet = same-outlet _ _ c.run_threads.ensures.same.same_outlet in
+    let base = ap (λ (o : Outlet). o.base) outlet ∙ ap taken c.new-scribe.ensures.base in
+    let name = c.into_sink-out-in-Err.ensures.same_reference ∙ ap (λ (o : Outlet). o.name) outlet ∙ c.new-scribe.ensures.same_reference in
+    let has = c.run_threads.ensures.stands (c.new-scribe.ensures.stands (ap (λ (p : Course). p.list) c.requires.pen)) in
+    let value = c.into_sink-out-in-Err.ensures.value in
+    let same : taken last.driver.record.out.now ≡ taken c.args.out.now = nothing-written last.driver.core.agent last.driver.core.list _ _ _ _ last.driver.record.faulted list has ∙ base in
+    let here : taken c.into_sink-out-in-Err.result.now ≡ taken c.args.out.now = ap taken value ∙ same in
+    search rules

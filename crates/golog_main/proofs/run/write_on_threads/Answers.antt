@@ -1,20 +1,20 @@
 use Rattle.std.proofs.Common.{◌≤◌, false, length}
-use Rattle.std.proofs.lemmas.Result.{IfOk-weaker}
 use Rattle.golog_device.specs.Slots.{standings}
 use Rattle.golog_main.specs.Runs.{ReportsRun, RunsOn}
 use Rattle.golog_main.proofs.Begun.{enough-boxes}
 use Rattle.golog_main.proofs.Reported.{reports-run}
-use Rattle.golog_main.proofs.run.report_on_threads.Goals as goal
+use Rattle.golog_main.proofs.Reporting.{writes-more}
+use Rattle.golog_main.proofs.run.write_on_threads.Goals as goal
 
-pub on_threads-requires : goal.on_threads-requires
-on_threads-requires g c = (
+pub written_on_threads-requires : goal.written_on_threads-requires
+written_on_threads-requires g c = (
   c.type_bounds.send-D,
   (
     c.type_bounds.sync-R,
     (
       c.requires.formed,
       (
-        c.in_ok-runner.ensures,
+        c.in_ok-pen.ensures,
         (
           c.in-Ok.ensures.same_agent,
           (c.in-Ok.ensures.lawful, (c.in-Ok.ensures.behind, (boxes, c.in-Ok.ensures.ready))),
@@ -29,13 +29,15 @@ on_threads-requires g c = (
         enough-boxes (λ d. record { fresh = g.D.Device.fresh d; meaning = g.D.Device.meaning d }) c.args.devices.now c.begun.new.devices (length c.args.agent.now.devices)
         _ _ _ c.in-Ok.ensures.begun c.requires.formed.small.devices c.requires.boxes
 
-pub returns-in-Ok : goal.returns-in-Ok
-returns-in-Ok g c =
+pub returns-in-Ok-clause-written : goal.returns-in-Ok-clause-written
+returns-in-Ok-clause-written g c =
     let agent = c.args.agent.now in
+    let texts = c.args.texts.now in
+    let before = c.in-Ok.journal.entries in
     let stand = standings g.D.Device.fresh g.D.Device.meaning in
-    IfOk-weaker c.on_threads.result (RunsOn agent false c.in-Ok.journal.entries (stand c.begun.new.devices) (stand c.on_threads.new.devices))
-    (ReportsRun agent c.args.texts.now false (stand c.args.devices.now) (stand c.on_threads.new.devices))
-    (λ report ran.
-    reports-run agent c.args.texts.now false c.in-Ok.journal.entries (stand c.args.devices.now) (stand c.begun.new.devices) (stand c.on_threads.new.devices)
-    report c.requires.formed c.requires.one_each c.in-Ok.ensures.begun ran)
-    c.on_threads.ensures
+    let olds = stand c.args.devices.now in
+    let mids = stand c.begun.new.devices in
+    let news = stand c.written_on_threads.new.devices in
+    writes-more (RunsOn agent false before mids news) (ReportsRun agent texts false olds news) agent _ _ _ _ c.written_on_threads.result
+    (λ report ran. reports-run agent texts false before olds mids news report c.requires.formed c.requires.one_each c.in-Ok.ensures.begun ran)
+    c.written_on_threads.ensures.written

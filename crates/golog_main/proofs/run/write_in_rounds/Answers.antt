@@ -1,0 +1,32 @@
+use Rattle.std.proofs.Common.{true, length}
+use Rattle.golog_device.specs.Slots.{standings}
+use Rattle.golog_main.specs.Runs.{ReportsRun, RunsOn}
+use Rattle.golog_main.proofs.Begun.{enough-boxes}
+use Rattle.golog_main.proofs.Reported.{reports-run}
+use Rattle.golog_main.proofs.Reporting.{write-more}
+use Rattle.golog_main.proofs.run.write_in_rounds.Goals as goal
+
+pub written_in_rounds-requires : goal.written_in_rounds-requires
+written_in_rounds-requires g c = record {
+  pen = c.in_ok-pen.ensures;
+  agent = c.in-Ok.ensures.same_agent;
+  lawful = c.in-Ok.ensures.lawful;
+  behind = c.in-Ok.ensures.behind;
+  boxes =
+      enough-boxes (λ d. record { fresh = g.D.Device.fresh d; meaning = g.D.Device.meaning d }) c.args.devices.now c.begun.new.devices (length c.args.agent.now.devices)
+      _ _ _ c.in-Ok.ensures.begun c.requires.formed.small.devices c.requires.boxes;
+  ready = c.in-Ok.ensures.ready;
+}
+
+pub returns-in-Ok-clause-written : goal.returns-in-Ok-clause-written
+returns-in-Ok-clause-written g c =
+    let agent = c.args.agent.now in
+    let texts = c.args.texts.now in
+    let before = c.in-Ok.journal.entries in
+    let stand = standings g.D.Device.fresh g.D.Device.meaning in
+    let olds = stand c.args.devices.now in
+    let mids = stand c.begun.new.devices in
+    let news = stand c.written_in_rounds.new.devices in
+    write-more (RunsOn agent true before mids news) (ReportsRun agent texts true olds news) agent _ _ _ _ c.written_in_rounds.result
+    (λ report ran. reports-run agent texts true before olds mids news report c.requires.formed c.requires.one_each c.in-Ok.ensures.begun ran)
+    c.written_in_rounds.ensures
