@@ -3,7 +3,7 @@ ghost use Rattle.std.specs.Prelude.{◌≡◌, ◌≤◌, ℕ, true, length};
 ghost use Rattle.golog_journal.specs.Taken.{IsReady};
 ghost use Rattle.golog_journal.specs.Posting.{MayPost, PostIs};
 ghost use Rattle.golog_journal.specs.Commands.{NextIs};
-ghost use Rattle.golog_journal.specs.Copies.{CopyIs};
+ghost use Rattle.golog_journal.specs.Copies.{CopyIs, MoreIs};
 ghost use Rattle.golog_journal.specs.Commits.{MayCommit, CommitIs};
 ghost use Rattle.golog_journal.specs.Growing.{Sight, Called, program};
 
@@ -84,6 +84,10 @@ pub trait Board {
         requires ready { IsReady (sight self.old).agent (sight self.old).seen poster taken }
         ensures { let answers = NextIs (sight self.old).agent in
             Called (λ point. answers point poster taken result) (sight self.old) (sight self.new) };
+
+    /// Whether entries stand from a place on.
+    fn has_more(&mut self, since: u32) -> bool
+        ensures { Called (λ point. MoreIs point since result) (sight self.old) (sight self.new) };
 
     /// The entries from a place on, 64 at most.
     fn copy_since(&mut self, since: u32) -> Batch

@@ -353,6 +353,11 @@ impl Board for Journal {
         self.next_of(poster, taken)
     }
 
+    fn has_more(&mut self, since: u32) -> bool {
+        self.keeps_rules();
+        since < self.len()
+    }
+
     fn copy_since(&mut self, since: u32) -> Batch {
         self.keeps_rules();
         self.batch(since)

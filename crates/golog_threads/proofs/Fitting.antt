@@ -23,9 +23,9 @@ use Rattle.golog_journal.proofs.Staying.{driven_stays, ready_stays}
 use Rattle.golog_turn.specs.Parties.{contains, AreOf, GoesOn}
 use Rattle.golog_turn.specs.Acts.{Applied}
 use Rattle.golog_threads.specs.declared.ops.Op.{Op}
-use Rattle.golog_threads.specs.declared.ops.Op.TheVariants.{Post, NextCommand, CopySince, Commit}
+use Rattle.golog_threads.specs.declared.ops.Op.TheVariants.{Post, NextCommand, HasMore, CopySince, Commit}
 use Rattle.golog_threads.specs.declared.ops.Reply.{Reply}
-use Rattle.golog_threads.specs.declared.ops.Reply.TheVariants.{OfPost, OfNext, OfCopy, OfCommit}
+use Rattle.golog_threads.specs.declared.ops.Reply.TheVariants.{OfPost, OfNext, OfMore, OfCopy, OfCommit}
 use Rattle.golog_threads.specs.Sharing.{Allows, Says, Answers}
 use Rattle.golog_threads.proofs.Lists.{foreign, not-device, not-program, no-end-more, end-stands, lawful-prefix, commands-stay}
 
@@ -145,6 +145,7 @@ module _ (agent : Agent) (seen : Journal) (parties : List ℕ) (list : Journal) 
       whose : (reply : Reply) (added : Journal) → Says agent list (Post device i taken) reply added → AreOf party_of parties added
       whose (OfPost p) added says = of-one parties (posted_entry agent list device taken i) added device (party-of-posted agent list device taken i) held says.one
       whose (OfNext n) added says = absurd says
+      whose (OfMore m) added says = absurd says
       whose (OfCopy b) added says = absurd says
       whose (OfCommit c) added says = absurd says
 
@@ -157,6 +158,17 @@ module _ (agent : Agent) (seen : Journal) (parties : List ℕ) (list : Journal) 
       whose : (reply : Reply) (added : Journal) → Says agent list (NextCommand device taken) reply added → AreOf party_of parties added
       whose (OfPost p) added says = absurd says
       whose (OfNext n) added says = of-none parties added says.none
+      whose (OfMore m) added says = absurd says
+      whose (OfCopy b) added says = absurd says
+      whose (OfCommit c) added says = absurd says
+
+  pub may-ask-more : (since : ℕ) → MayAsk (HasMore since)
+  may-ask-more since = (tt, λ reply added a. whose reply added a.says)
+    where
+      whose : (reply : Reply) (added : Journal) → Says agent list (HasMore since) reply added → AreOf party_of parties added
+      whose (OfPost p) added says = absurd says
+      whose (OfNext n) added says = absurd says
+      whose (OfMore m) added says = of-none parties added says.none
       whose (OfCopy b) added says = absurd says
       whose (OfCommit c) added says = absurd says
 
@@ -169,6 +181,7 @@ module _ (agent : Agent) (seen : Journal) (parties : List ℕ) (list : Journal) 
       whose : (reply : Reply) (added : Journal) → Says agent list (CopySince since) reply added → AreOf party_of parties added
       whose (OfPost p) added says = absurd says
       whose (OfNext n) added says = absurd says
+      whose (OfMore m) added says = absurd says
       whose (OfCopy b) added says = of-none parties added says.none
       whose (OfCommit c) added says = absurd says
 
@@ -185,6 +198,7 @@ module _ (agent : Agent) (seen : Journal) (parties : List ℕ) (list : Journal) 
       whose : (reply : Reply) (added : Journal) → Says agent list (Commit at e) reply added → AreOf party_of parties added
       whose (OfPost p) added says = absurd says
       whose (OfNext n) added says = absurd says
+      whose (OfMore m) added says = absurd says
       whose (OfCopy b) added says = absurd says
       whose (OfCommit c) added says = mine c added says
 

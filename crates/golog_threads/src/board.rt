@@ -100,6 +100,14 @@ impl<'a, R: Wait, A: Naming, N: AtLock> Board for SeatBoard<'a, R, Shared<A>, N>
         }
     }
 
+    fn has_more(&mut self, since: u32) -> bool {
+        let op = Op::HasMore { since };
+        match self.lock.act(self.rt, &mut self.seat, op) {
+            Reply::OfMore(more) => more,
+            _ => unreachable!(),
+        }
+    }
+
     fn copy_since(&mut self, since: u32) -> Batch {
         let op = Op::CopySince { since };
         match self.lock.act(self.rt, &mut self.seat, op) {

@@ -8,6 +8,8 @@ pub enum Op {
     Post { poster: u8, item: Item, taken: u32 },
     /// `Board::next_command`.
     NextCommand { poster: u8, taken: u32 },
+    /// `Board::has_more`.
+    HasMore { since: u32 },
     /// `Board::copy_since`.
     CopySince { since: u32 },
     /// `Board::commit`.
@@ -21,6 +23,8 @@ pub enum Reply {
     OfPost(Posted),
     /// That of `Board::next_command`.
     OfNext(Next),
+    /// That of `Board::has_more`.
+    OfMore(bool),
     /// That of `Board::copy_since`.
     OfCopy(Batch),
     /// That of `Board::commit`.

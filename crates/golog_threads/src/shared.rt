@@ -66,6 +66,7 @@ impl<A: Naming> Object for Shared<A> {
             Op::NextCommand { poster, taken } => {
                 Reply::OfNext(self.journal.next_command(poster, taken))
             }
+            Op::HasMore { since } => Reply::OfMore(self.journal.has_more(since)),
             Op::CopySince { since } => Reply::OfCopy(self.journal.copy_since(since)),
             Op::Commit { at, entry } => Reply::OfCommit(self.journal.commit(at, entry)),
         }
