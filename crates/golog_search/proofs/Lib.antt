@@ -9,7 +9,9 @@ pub mod Seen
 pub mod FirstRuns
 pub mod Ending
 pub mod Counting
+pub mod Storing
 pub mod Searching
+pub mod StoredSearch
 pub mod BlockSteps
 pub mod CertainNear
 pub mod FirstSteps
@@ -26,4 +28,6 @@ pub mod FoundInWorlds
 pub mod RunsKept
 pub mod Steadies
 pub mod ToldRuns
+pub mod ToldPrograms
 pub mod Visiting
+pub mod VisitPlaces

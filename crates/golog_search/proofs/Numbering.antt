@@ -2,7 +2,7 @@
 use Rattle.std.proofs.Common.{◌≡◌, ℕ, zero, suc, ◌+◌, ◌<◌, ◌==◌, ◌&&◌, ◌||◌, Bool, true, false, if◌then◌else◌, List, [], ◌∷◌, ◌++◌, length, drop, map, Option, Some, inl, inr, refl, sym, ap, ◌∙◌, subst, get_or, arith}
 use Rattle.std.specs.Prelude.{◌↔◌, All, IsTrue, fold, not, slice_get, unwrap_or}
 use Rattle.std.specs.Cmp.{both_ways}
-use Rattle.std.specs.List.{list_all, list_any, position_from}
+use Rattle.std.specs.List.{list_any, position_from}
 use Rattle.std.specs.Option.{option_map}
 use Rattle.std.proofs.lemmas.Bool.{eqb-true, eq-eqb}
 use Rattle.std.proofs.lemmas.List.{drop_more, length_push}
@@ -21,6 +21,7 @@ use Rattle.golog_semantics.specs.Search.{is_followed, plain_ways}
 use Rattle.golog_semantics.specs.Truth.{Values}
 use Rattle.golog_semantics.specs.Values.{after}
 use Rattle.golog_semantics.specs.Ways.{is_empty}
+use Rattle.golog_semantics.proofs.ByParts.{OfEach}
 use Rattle.golog_semantics.proofs.GroundNumbers.{slice_get-left, some-same}
 use Rattle.golog_semantics.proofs.Levels.{same_values-eq}
 use Rattle.golog_semantics.proofs.SameLaws.{same_prog-eq, same_prog-same}
@@ -31,7 +32,7 @@ use Rattle.golog_memo.specs.SeenPairs.{is_seen}
 use Rattle.golog_memo.specs.declared.seen.Seen.{Seen}
 use Rattle.golog_search.specs.declared.level.Level.{Level as AnyLevel}
 use Rattle.golog_search.specs.declared.numbered.Numbered.{Numbered}
-use Rattle.golog_search.specs.Levels.{AreSearched, Level, Looked, Reached, is_there, reached_by, start_of, state_of, with_state, with_steps, with_way}
+use Rattle.golog_search.specs.Levels.{AreSearched, Level, Looked, Reached, is_there, reached_by, start_of, state_of, stored_steps, with_state, with_stored, with_way}
 use Rattle.golog_search.specs.Numbers.{GoesOn, HaveNumbers, IsLevel, Sees, all_meant, is_pair, level_of, meant, with_numbered}
 use Rattle.golog_search.proofs.LevelParts.{any-append, map-append, or-false, or-true}
 
@@ -200,22 +201,22 @@ module _ (progs : List Prog) (states : List Numbered) (place : ℕ) (n : Numbere
       ∙ ap (λ (c : Bool). if c then Some place else position_from ends (place + 1) (all_meant progs (drop (place + 1) states))) is
 
   -- the steps from it, and then those from the states behind it
-  pub steps-at : (agent : Agent) (m : Mode) (more : List Prog) (level next : Level) → GoesOn progs more → HaveNumbers progs states
-      → next ≡ fold (with_way agent place n.state) level (plain_ways agent n.state m (meant more n).way.left)
-      → with_steps agent m place level (all_meant progs (drop place states)) ≡ with_steps agent m (place + 1) next (all_meant progs (drop (place + 1) states))
-  steps-at agent m more level next h k is =
+  pub steps-at : (agent : Agent) (m : Mode) (room : Option ℕ) (more : List Prog) (level next : Level) → GoesOn progs more → HaveNumbers progs states
+      → next ≡ fold (with_stored agent m room place n.state) level (plain_ways agent n.state m (meant more n).way.left)
+      → stored_steps agent m room place level (all_meant progs (drop place states)) ≡ stored_steps agent m room (place + 1) next (all_meant progs (drop (place + 1) states))
+  steps-at agent m room more level next h k is =
       let stays : meant more n ≡ meant progs n = meant-stays progs more n h (number-at k) in
       let further : suc place ≡ place + 1 = omega arith in
-      ap (with_steps agent m place level) drop-at
-      ∙ ap (λ (r : Reached). with_steps agent m (suc place) (fold (with_way agent place n.state) level (plain_ways agent n.state m r.way.left)) (all_meant progs (drop (place + 1) states))) (sym stays)
-      ∙ (λ i. with_steps agent m (further i) (sym is i) (all_meant progs (drop (place + 1) states)))
+      ap (stored_steps agent m room place level) drop-at
+      ∙ ap (λ (r : Reached). stored_steps agent m room (suc place) (fold (with_stored agent m room place n.state) level (plain_ways agent n.state m r.way.left)) (all_meant progs (drop (place + 1) states))) (sym stays)
+      ∙ (λ i. stored_steps agent m room (further i) (sym is i) (all_meant progs (drop (place + 1) states)))
 
 -- the way at a place of a list, and those behind it
 pub fold-at : {A B : Type 0} (f : A → B → A) (a : A) (xs : List B) (i : ℕ) (x : B) → i < length xs → x ≡ get_or xs i x → fold f a (drop i xs) ≡ fold f (f a x) (drop (i + 1) xs)
 fold-at f a xs i x l e = ap (fold f a) (drop_more xs i x l ∙ ap (λ y. y ∷ drop (i + 1) xs) (sym e))
 
-pub all-at : {A : Type 0} (f : A → Bool) (xs : List A) (i : ℕ) (x : A) → i < length xs → x ≡ get_or xs i x → list_all f (drop i xs) ≡ true → (f x ≡ true) × (list_all f (drop (i + 1) xs) ≡ true)
-all-at f xs i x l e h = and_cases (f x) (list_all f (drop (i + 1) xs)) (ap (list_all f) (sym (drop_more xs i x l ∙ ap (λ y. y ∷ drop (i + 1) xs) (sym e))) ∙ h)
+pub each-at : {A : Type 0} (P : A → Type 0) (xs : List A) (i : ℕ) (x : A) → i < length xs → x ≡ get_or xs i x → OfEach P (drop i xs) → P x × OfEach P (drop (i + 1) xs)
+each-at P xs i x l e h = subst (OfEach P) (drop_more xs i x l ∙ ap (λ y. y ∷ drop (i + 1) xs) (sym e)) h
 
 -- the levels before, once more programs have numbers
 pub before-stays : (progs more : List Prog) (before : List (List Numbered)) → GoesOn progs more → All (HaveNumbers progs) before → map (all_meant more) before ≡ map (all_meant progs) before

@@ -1,6 +1,6 @@
 -- What is kept of programs stays so while more programs have numbers.
-use Rattle.std.proofs.Common.{◌≡◌, ℕ, ◌<◌, Bool, true, List, [], ◌∷◌, ◌++◌, ◌+◌, false, if◌then◌else◌, length, drop, map, take, Option, Some, refl, sym, ap, ◌∙◌, subst, get_or, arith}
-use Rattle.std.specs.Prelude.{All, filter, fold, slice_get, unwrap_or}
+use Rattle.std.proofs.Common.{◌≡◌, ℕ, ◌<◌, Bool, true, List, [], ◌∷◌, ◌++◌, ◌+◌, false, if◌then◌else◌, length, drop, map, take, Option, refl, sym, ap, ◌∙◌, subst, get_or, arith}
+use Rattle.std.specs.Prelude.{All, filter, fold, unwrap_or}
 use Rattle.std.proofs.lemmas.List.{drop_more, take_more}
 use Rattle.std.proofs.lemmas.List.Elements.{All-cons, All-get_or, All-head, All-nil, All-push, All-tail, All-weaker}
 use Rattle.golog_tree.specs.declared.agent.Agent.{Agent}
@@ -13,6 +13,7 @@ use Rattle.golog_semantics.specs.Fronts.{AreFronts, Guarded, IsEnd, open_ways}
 use Rattle.golog_semantics.specs.Search.{is_followed}
 use Rattle.golog_semantics.specs.Truth.{Values}
 use Rattle.golog_semantics.specs.Ways.{is_so}
+use Rattle.golog_semantics.proofs.ByParts.{OfEach}
 use Rattle.golog_semantics.proofs.Tests.{and_cases}
 use Rattle.golog_ways.specs.declared.front_lists.Front.{Front}
 use Rattle.golog_ways.specs.FrontLists.{are_closed, guarded, guarded_of}
@@ -76,7 +77,7 @@ module _ (progs more : List Prog) (h : GoesOn progs more) where
   all_opened-stay agent os k = All-weaker (IsOpened agent progs) (IsOpened agent more) (opened-stays agent) os k
 
   pub kept-stays : (agent : Agent) (visits : Visits) → AreKept agent progs visits → AreKept agent more visits
-  kept-stays agent visits k = record { opened = all_opened-stay agent visits.opened k.opened }
+  kept-stays agent visits k = record { opened = all_opened-stay agent visits.opened k.opened; placed = k.placed }
 
   -- a level by the programs that have numbers now
   pub level-stays : (level : AnyLevel) → AreOnce more → IsLevel progs level → IsLevel more level
@@ -126,6 +127,30 @@ module _ (progs : List Prog) (agent : Agent) (values : Values) (m : Mode) (F : L
   front-at ns i n l e b is =
       ap (λ (xs : List NumberedFront). rest-of xs a) (drop_more ns i n l ∙ ap (λ (x : NumberedFront). x ∷ drop (i + 1) ns) (sym e))
       ∙ front-first n (drop (i + 1) ns) b is
+
+-- the front at a place, and the ways of those behind it
+module _ (progs : List Prog) (agent : Agent) (values : Values) (m : Mode) (P : Way → Type 0) where
+  abbrev pub AllOpen : List NumberedFront → Type 0
+  AllOpen ns = OfEach P (open_ways agent values m (meant_fronts progs ns))
+
+  abbrev pub OpenFirst : Bool → NumberedFront → List NumberedFront → Type 0
+  OpenFirst true n ns = P (meant_front progs n).way × AllOpen ns
+  OpenFirst false n ns = AllOpen ns
+
+  first-open : (n : NumberedFront) (ns : List NumberedFront) (b : Bool) → is_so agent values m n.cond ≡ b → AllOpen (n ∷ ns) → OpenFirst b n ns
+  first-open n ns b e h =
+      go b (subst (λ (c : Bool). OfEach P (map (λ (g : Guarded). g.way) (if c then meant_front progs n ∷ filter (λ (g : Guarded). is_so agent values m g.cond) (meant_fronts progs ns)
+      else filter (λ (g : Guarded). is_so agent values m g.cond) (meant_fronts progs ns)))) e h)
+    where
+      go : (c : Bool) → OfEach P (map (λ (g : Guarded). g.way) (if c then meant_front progs n ∷ filter (λ (g : Guarded). is_so agent values m g.cond) (meant_fronts progs ns)
+          else filter (λ (g : Guarded). is_so agent values m g.cond) (meant_fronts progs ns))) → OpenFirst c n ns
+      go true k = k
+      go false k = k
+
+  pub open-at : (ns : List NumberedFront) (i : ℕ) (n : NumberedFront) → i < length ns → n ≡ get_or ns i n → (b : Bool) → is_so agent values m n.cond ≡ b
+      → AllOpen (drop i ns) → OpenFirst b n (drop (i + 1) ns)
+  open-at ns i n l e b is h =
+      first-open n (drop (i + 1) ns) b is (subst AllOpen (drop_more ns i n l ∙ ap (λ (x : NumberedFront). x ∷ drop (i + 1) ns) (sym e)) h)
 
 -- the front at a place is one of the program's
 pub front-fits : (progs : List Prog) (agent : Agent) (fs : List NumberedFront) (i : ℕ) (f : NumberedFront) → i < length fs → f ≡ get_or fs i f

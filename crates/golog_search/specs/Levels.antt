@@ -1,9 +1,9 @@
 -- The states that a search reaches, one step further at a time, each with the step that led there. They are
 -- in the order in which code keeps them; `level` of golog_semantics says which states they are. This project's
 -- own.
-use Rattle.std.specs.Prelude.{ℕ, suc, Bool, true, false, if◌then◌else◌, List, [], ◌∷◌, ◌++◌, All, fold, slice_get}
+use Rattle.std.specs.Prelude.{◌≡◌, ℕ, suc, ◌+◌, ◌≤◌, Bool, true, false, ◌&&◌, ◌||◌, if◌then◌else◌, nat_lt, not, List, [], ◌∷◌, ◌++◌, All, fold, length, slice_get, take, Option, Some, None}
 use Rattle.std.specs.List.{list_any}
-use Rattle.std.specs.Option.{option_map_or}
+use Rattle.std.specs.Option.{option_map_or, option_or}
 use Rattle.golog_tree.specs.declared.agent.Agent.{Agent}
 use Rattle.golog_tree.specs.declared.prog.Prog.{Prog}
 use Rattle.golog_tree.specs.declared.prog.Label.TheVariants.{Quiet}
@@ -89,3 +89,52 @@ abbrev pub run_to : List (List Reached) → List Reached → ℕ → Run
 run_to [] states place = []
 run_to (nearer ∷ earlier) states place = option_map_or
     (λ (r : Reached). run_to earlier nearer r.from ++ r.way ∷ []) (slice_get states place) []
+
+-- whether one more state is stored where so many are: while there is room, as one more, and behind that where
+-- the program may end in it
+abbrev pub is_stored : Option ℕ → ℕ → Bool → Bool
+is_stored None count ends = true
+is_stored (Some room) count ends = not (nat_lt room count) || (not (nat_lt (suc room) count) && ends)
+
+-- with the state that a way leads to, where it is stored
+abbrev pub with_stored : Agent → Mode → Option ℕ → ℕ → Values → Level → Way → Level
+with_stored agent m room from values l w =
+    if not (is_followed w) || is_stored room (length l.states) (final agent (after agent values w.label) m w.left)
+    then with_way agent from values l w else l
+
+-- with what is stored of all that one step leads to from these states, which stand from this place on
+abbrev pub stored_steps : Agent → Mode → Option ℕ → ℕ → Level → List Reached → Level
+stored_steps agent m room from l [] = l
+stored_steps agent m room from l (r ∷ states) =
+    stored_steps agent m room (suc from)
+    (fold (with_stored agent m room from r.state) l (plain_ways agent r.state m r.way.left)) states
+
+-- what is stored of what one step leads to from these states
+abbrev pub stored_level : Agent → Mode → Option ℕ → List Reached → Level
+stored_level agent m room states = stored_steps agent m room 0 nothing_reached states
+
+-- the state, where the program may end in it
+abbrev pub end_of : Agent → Mode → Reached → Option Reached
+end_of agent m r = if ends_at agent m r then Some r else None
+
+-- the first of these states in which the program may end
+abbrev pub first_end : Agent → Mode → List Reached → Option Reached
+first_end agent m [] = None
+first_end agent m (r ∷ states) = option_or (end_of agent m r) (first_end agent m states)
+
+-- these states are what is stored of a level: as many as there is room for, one more, and an end behind those;
+-- the first end is that of the level, and where there is none no other state stands behind
+pub record IsStoredOf (agent : Agent) (m : Mode) (room : ℕ) (level states : List Reached) : Type 0 where
+  pub first : take (suc room) states ≡ take (suc room) level
+  pub few : length states ≤ room + 2
+  pub end : first_end agent m states ≡ first_end agent m level
+  pub endless : first_end agent m states ≡ None → length states ≤ room + 1
+
+-- the same, and the whole level where there is room for any number of states
+abbrev pub AreStored : Agent → Mode → Option ℕ → List Reached → List Reached → Type 0
+AreStored agent m None level states = states ≡ level
+AreStored agent m (Some room) level states = IsStoredOf agent m room level states
+
+-- for how many states there is room where so much fuel is left: a search without bounds has room for any number
+abbrev pub room_for : Bool → ℕ → Option ℕ
+room_for bounded fuel = if bounded then Some fuel else None

@@ -1,6 +1,9 @@
 -- What a search keeps of the programs that it visits again: their steps with the conditions under which they may
 -- be taken, and the condition under which they may end. All of it is this project's own.
-use Rattle.std.specs.Prelude.{◌≡◌, ℕ, ◌<◌, Bool, IsTrue, List, All, length, map, slice_get, unwrap_or}
+use Rattle.std.specs.Prelude.{◌≡◌, ◌≢◌, ℕ, ◌<◌, ◌≤◌, ◌-◌, ◌^◌, ◌==◌, ◌||◌, Bool, true, IsTrue, List, Option, Some, All, length, map, slice_get, unwrap_or}
+use Rattle.std.specs.HashMap.{get_by}
+use Rattle.std.specs.List.{list_any, sum_by}
+use Rattle.std.specs.Option.{is_some, option_map}
 use Rattle.golog_tree.specs.declared.agent.Agent.{Agent}
 use Rattle.golog_tree.specs.declared.prog.Prog.{Prog}
 use Rattle.golog_tree.specs.declared.prog.Prog.TheVariants.{Nil}
@@ -61,6 +64,46 @@ pub record IsKeptOf (agent : Agent) (progs : List Prog) (number : ℕ) (o : Open
   pub opened : IsOpened agent progs o
   pub same : o.prog ≡ number
 
--- all that is kept is of the programs whose numbers stand there
+-- where a program stands of which nothing is kept
+abbrev pub nothing : ℕ
+nothing = 2 ^ 64 - 1
+
+-- as soon as so many fronts are kept, those of no further program are
+abbrev pub most_kept : ℕ
+most_kept = 65536
+
+-- where what is kept of the program of a number stands, if its steps were asked for
+abbrev pub place_in : Visits → ℕ → Option ℕ
+place_in visits number = get_by (λ k. number == k) visits.places
+
+-- the steps of the program of the number were asked for
+abbrev pub was_asked : Visits → ℕ → Bool
+was_asked visits number = is_some (place_in visits number)
+
+-- the steps of the program of the number are kept
+abbrev pub keeps : Visits → ℕ → Bool
+keeps visits number = list_any (λ o. number == o.prog) visits.opened
+
+-- how many fronts are kept
+abbrev pub fronts_kept : Visits → ℕ
+fronts_kept visits = sum_by (λ o. length o.fronts) visits.opened
+
+-- What is kept stands where its number tells, and nothing else is told of a number than where that stands. The
+-- fronts are not counted too high.
+pub record ArePlaced (visits : Visits) : Type 0 where
+  pub place : (i : ℕ) (o : Opened) → slice_get visits.opened i ≡ Some o → place_in visits o.prog ≡ Some i
+  pub there : (number i : ℕ) → place_in visits number ≡ Some i → i ≢ nothing
+      → option_map (λ o. o.prog) (slice_get visits.opened i) ≡ Some number
+  pub counted : visits.count ≤ fronts_kept visits
+
+-- all that is kept is of the programs whose numbers stand there, and is found by them
 pub record AreKept (agent : Agent) (progs : List Prog) (visits : Visits) : Type 0 where
   pub opened : All (IsOpened agent progs) visits.opened
+  pub placed : ArePlaced visits
+
+-- the program of the number was visited: its steps were asked for, and those that are asked for again are kept where
+-- there is room; what was kept stays
+pub record IsVisited (number : ℕ) (old new : Visits) : Type 0 where
+  pub asked : (n : ℕ) → was_asked new n ≡ (number == n || was_asked old n)
+  pub stays : (n : ℕ) → keeps old n ≡ true → keeps new n ≡ true
+  pub again : was_asked old number ≡ true → fronts_kept old < most_kept → keeps new number ≡ true

@@ -1,4 +1,4 @@
-ghost use Rattle.std.specs.Prelude.{◌≡◌, ◌≤◌, false, true, if◌then◌else◌, IfOk, IsTrue, not};
+ghost use Rattle.std.specs.Prelude.{◌≡◌, ◌≤◌, ◌&&◌, false, true, if◌then◌else◌, IfOk, IsTrue, not};
 ghost use Rattle.std.specs.Option.{is_some};
 ghost use Rattle.golog_tree.specs.Nest.{nest};
 ghost use Rattle.golog_semantics.specs.Blocks.{moves};
@@ -44,7 +44,7 @@ fn stepping(step: Move, shallow: bool) -> Decision
 /// shallow.
 fn stays_shallow(prog: &Prog, shallow: bool) -> bool
     requires { shallow ≡ true → nest prog.now ≤ nest_limit }
-    ensures { result ≡ true → (is_some (steady prog.now) ≡ true) × (nest prog.now ≤ nest_limit) }
+    ensures { result ≡ (shallow && is_some (steady prog.now)) }
 {
     shallow && steady(prog).is_some()
 }

@@ -5,6 +5,7 @@ ghost use Rattle.golog_semantics.specs.SortLaws.{AreInSorts};
 ghost use Rattle.golog_semantics.specs.WellFormed.{WellFormed};
 ghost use Rattle.golog_search.specs.Finding.{found, found_by, mode_of as mode_for};
 ghost use Rattle.golog_search.specs.InWorlds.{AbsenceIsCertain, RunIsCertain};
+ghost use Rattle.golog_search.specs.Levels.{room_for};
 ghost use Rattle.golog_ways.specs.Searched.{IsSearched};
 
 use crate::found::Found;
@@ -37,8 +38,16 @@ fn spent(bounded: bool, fuel: usize, count: usize) -> Option<usize>
     }
 }
 
+/// For how many states of a level there is room: as many as fuel is left, or any number in a search without
+/// bounds.
+fn room_of(bounded: bool, fuel: usize) -> Option<usize>
+    ensures { result ≡ room_for bounded fuel }
+{
+    if bounded { Some(fuel) } else { None }
+}
+
 /// The search of a block in a state, for runs in the mode. Where it is bounded, it looks at no more states
-/// than the block's fuel.
+/// than the block's fuel, and stores of the next level no more than what is left of that, one state and an end.
 pub fn search_block(
     alloc: Global,
     agent: &Agent,
@@ -58,7 +67,7 @@ pub fn search_block(
             return Ok(Found::Fuel);
         };
         fuel = rest;
-        search.deepen(alloc, agent, mode)?;
+        search.deepen(alloc, agent, mode, room_of(bounded, fuel))?;
         if let Some(place) = search.first_end(alloc, agent, mode)? {
             let run = search.run_to(alloc, place)?;
             return Ok(Found::Run(run));

@@ -2,7 +2,8 @@ ghost use Rattle.std.specs.Prelude.{◌≡◌, ◌<◌, [], ◌∷◌, ◌++◌,
 ghost use Rattle.std.specs.List.{position_from};
 ghost use Rattle.golog_semantics.specs.Ways.{is_empty};
 ghost use Rattle.golog_semantics.specs.WellFormed.{WellFormed};
-ghost use Rattle.golog_search.specs.Levels.{AreSearched, ends_at, next_level as next_of, run_to as run_of, start_of};
+ghost use Rattle.golog_search.specs.Levels.{AreSearched, AreStored, ends_at, next_level as next_of};
+ghost use Rattle.golog_search.specs.Levels.{run_to as run_of, start_of};
 ghost use Rattle.golog_search.specs.Numbers.{HaveNumbers, IsNumbered, all_meant, looked_of, meant};
 ghost use Rattle.golog_search.specs.Visits.{AreKept};
 ghost use Rattle.golog_tree.specs.declared.agent.Agent.{Agent as AnyAgent};
@@ -98,16 +99,23 @@ impl Search {
         self.last.len()
     }
 
-    /// Looks one step further. After an `Err` the search is of no more use: its last level may be lost.
-    pub fn deepen(&mut self, alloc: Global, agent: &Agent, mode: Mode) -> Result<(), NoMemory>
+    /// Looks one step further. Where there is room for so many states, one more is stored at most, and behind
+    /// these an end. After an `Err` the search is of no more use: its last level may be lost.
+    pub fn deepen(
+        &mut self,
+        alloc: Global,
+        agent: &Agent,
+        mode: Mode,
+        room: Option<usize>,
+    ) -> Result<(), NoMemory>
         requires agent { WellFormed agent.now }
         requires numbers { IsNumbered self.old }
         requires kept { AreKept agent.now self.old.nodes self.old.visits }
         requires searched { AreSearched agent.now (looked_of self.old).last }
         ensures before { OnOk result ((looked_of self.new).before
             ≡ (looked_of self.old).before ++ (looked_of self.old).last ∷ []) }
-        ensures last { OnOk result ((looked_of self.new).last
-            ≡ (next_of agent.now mode (looked_of self.old).last).states) }
+        ensures last { OnOk result (AreStored agent.now mode room
+            (next_of agent.now mode (looked_of self.old).last).states (looked_of self.new).last) }
         ensures cut { OnOk result (self.new.cut
             ≡ (self.old.cut || (next_of agent.now mode (looked_of self.old).last).cut)) }
         ensures searched { OnOk result (AreSearched agent.now (looked_of self.new).last) }
@@ -118,6 +126,7 @@ impl Search {
             alloc,
             agent,
             mode,
+            room,
             &mut self.nodes,
             &mut self.visits,
             self.last.as_slice(),

@@ -1,9 +1,9 @@
-ghost use Rattle.std.specs.Prelude.{◌≡◌, ◌↔◌, IfOk, IsTrue, OnOk};
+ghost use Rattle.std.specs.Prelude.{◌≡◌, ◌↔◌, ◌++◌, IfOk, IsTrue, OnOk};
 ghost use Rattle.golog_semantics.specs.SortLaws.{AreInSorts};
 ghost use Rattle.golog_semantics.specs.WellFormed.{WellFormed};
 ghost use Rattle.golog_ways.specs.Closed.{IsClosed};
 ghost use Rattle.golog_ways.specs.Searched.{IsSearched};
-ghost use Rattle.golog_search.specs.Told.{AreTold};
+ghost use Rattle.golog_search.specs.Told.{AreTold, told_at, told_in};
 
 use golog_base::{List, NoMemory};
 use golog_memo::{are_same_ways, is_same_prog};
@@ -58,6 +58,7 @@ fn ask<K: Keep>(
     requires serves { K.serves keep.old agent.now }
     requires told { AreTold agent.now state.now told.old }
     ensures told { OnOk result (AreTold agent.now state.now told.new) }
+    ensures asked { OnOk result (told.new ≡ told.old ++ told_at agent.now state.now body.now rest.now) }
     ensures serves { K.serves keep.new agent.now }
 {
     if rest.is_empty() {
@@ -84,6 +85,7 @@ fn ask_of<K: Keep>(
     requires serves { K.serves keep.old agent.now }
     requires told { AreTold agent.now state.now told.old }
     ensures told { OnOk result (AreTold agent.now state.now told.new) }
+    ensures asked { OnOk result (told.new ≡ told.old ++ told_in agent.now state.now prog.now) }
     ensures serves { K.serves keep.new agent.now }
 {
     match prog {
@@ -119,6 +121,8 @@ fn ask_of_both<K: Keep>(
     requires serves { K.serves keep.old agent.now }
     requires told { AreTold agent.now state.now told.old }
     ensures told { OnOk result (AreTold agent.now state.now told.new) }
+    ensures asked { OnOk result (told.new ≡ told.old ++ (told_in agent.now state.now one.now
+        ++ told_in agent.now state.now other.now)) }
     ensures serves { K.serves keep.new agent.now }
 {
     ask_of(alloc, agent, one, state, keep, told)?;
@@ -138,6 +142,7 @@ pub fn told_of<K: Keep>(
     requires sorts { AreInSorts agent.now state.now }
     requires serves { K.serves keep.old agent.now }
     ensures told { IfOk result (AreTold agent.now state.now) }
+    ensures asked { IfOk result (λ told. told ≡ told_in agent.now state.now prog.now) }
     ensures serves { K.serves keep.new agent.now }
 {
     let mut told = List::new(alloc);

@@ -1,4 +1,4 @@
-ghost use Rattle.std.specs.Prelude.{◌≡◌, ◌<◌, All, IfOk, IfSome, IsTrue, List as AnyList, OnOk, false, length, map};
+ghost use Rattle.std.specs.Prelude.{◌≡◌, ◌<◌, All, IfOk, IsTrue, List as AnyList, MatchOption, OnOk, Some, false, true, length, map};
 ghost use Rattle.golog_memo.specs.Numbered.{AreOnce};
 ghost use Rattle.golog_semantics.specs.Fits.{cond_fits, nothing_bound};
 ghost use Rattle.golog_semantics.specs.ProgFits.{fits};
@@ -10,7 +10,7 @@ ghost use Rattle.golog_tree.specs.declared.prog.Prog.{Prog as AnyProg};
 ghost use Rattle.golog_ways.specs.FrontBlock.{has_front_block};
 ghost use Rattle.golog_ways.specs.FrontLists.{guarded, guarded_of};
 ghost use Rattle.golog_search.specs.Numbers.{GoesOn};
-ghost use Rattle.golog_search.specs.Visits.{AreFrontsOf, AreKept, AreOpenedFronts, IsFrontOf, IsKeptOf, IsOpened, prog_at};
+ghost use Rattle.golog_search.specs.Visits.{AreFrontsOf, AreKept, AreOpenedFronts, IsFrontOf, IsKeptOf, IsVisited, keeps, nothing, place_in, prog_at};
 
 use crate::NEST_LIMIT;
 use golog_base::{List, NoMemory};
@@ -122,7 +122,7 @@ impl Opened {
         requires once { AreOnce nodes.old }
         requires program { IsTrue (fits agent.now (prog_at nodes.old number)) }
         requires free { has_front_block agent.now (prog_at nodes.old number) ≡ false }
-        ensures opened { IfOk result (IsOpened agent.now nodes.new) }
+        ensures opened { IfOk result (IsKeptOf agent.now nodes.new number) }
         ensures goes_on { OnOk result (GoesOn nodes.old nodes.new) }
         ensures once { OnOk result (AreOnce nodes.new) }
     {
@@ -164,7 +164,8 @@ impl Visits {
     /// What is kept of the program of a number.
     pub fn of(&self, number: u64) -> Option<&Opened>
         ensures { (agent : AnyAgent) (progs : AnyList AnyProg) → AreKept agent progs self.now
-            → IfSome result (λ opened. IsKeptOf agent progs number opened.now) }
+            → MatchOption result (keeps self.now number ≡ false)
+            (λ opened. IsKeptOf agent progs number opened.now) }
     {
         let place = self.places.get(&number)?;
         let opened = self.opened.get(*place as usize)?;
@@ -189,7 +190,10 @@ impl Visits {
         requires program { IsTrue (fits agent.now (prog_at nodes.old number)) }
         requires free { has_front_block agent.now (prog_at nodes.old number) ≡ false }
         requires kept { AreKept agent.now nodes.old self.old }
+        requires asked { place_in self.old number ≡ Some nothing }
         ensures kept { OnOk result (AreKept agent.now nodes.new self.new) }
+        ensures visited { OnOk result (IsVisited number self.old self.new) }
+        ensures keeps { OnOk result (keeps self.new number ≡ true) }
         ensures goes_on { OnOk result (GoesOn nodes.old nodes.new) }
         ensures once { OnOk result (AreOnce nodes.new) }
     {
@@ -215,6 +219,7 @@ impl Visits {
         requires free { has_front_block agent.now (prog_at nodes.old number) ≡ false }
         requires kept { AreKept agent.now nodes.old self.old }
         ensures kept { OnOk result (AreKept agent.now nodes.new self.new) }
+        ensures visited { OnOk result (IsVisited number self.old self.new) }
         ensures goes_on { OnOk result (GoesOn nodes.old nodes.new) }
         ensures once { OnOk result (AreOnce nodes.new) }
     {

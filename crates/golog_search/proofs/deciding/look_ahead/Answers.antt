@@ -1,6 +1,9 @@
 use Rattle.std.proofs.Common.{Some, None, false, length, sym, ap, ◌∙◌, subst}
+use Rattle.std.specs.Option.{is_some}
+use Rattle.golog_semantics.proofs.Tests.{and_cases}
 use Rattle.golog_search.specs.declared.decision.Decision.{Decision}
 use Rattle.golog_search.specs.Decided.{IsAhead}
+use Rattle.golog_search.specs.Steady.{steady}
 use Rattle.golog_search.proofs.Choosing.{ends, first-at, first-lacks, lacks-at, searched-at, stepless, steps}
 use Rattle.golog_search.proofs.Steadies.{first-shallow}
 use Rattle.golog_ways.proofs.WellFormedFits.{well_formed_fits}
@@ -39,7 +42,8 @@ stepping-requires c shallow =
     let p = c.args.prog.now in
     let state = c.args.state.now in
     let f = first-at agent p c.values.result.now state c.values.ensures c.in-Ok-Some.field-0 (Some c.in-Ok-Some.step) c.in-Ok-Some.field-0-is c.in-Ok-Some.ensures.first in
-    first-shallow agent state p (c.stays_shallow.ensures shallow) c.in-Ok-Some.step f
+    let k = and_cases c.args.shallow (is_some (steady p)) (sym c.stays_shallow.ensures ∙ shallow) in
+    first-shallow agent state p (k.1, c.requires.shallow k.0) c.in-Ok-Some.step f
 
 pub returns-in-Ok-None : goal.returns-in-Ok-None
 returns-in-Ok-None c =

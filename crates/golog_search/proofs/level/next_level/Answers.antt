@@ -4,7 +4,7 @@ use Rattle.std.proofs.lemmas.List.{at_drop_all}
 use Rattle.std.proofs.lemmas.List.Elements.{All-nil}
 use Rattle.golog_search.specs.declared.numbered.Numbered.{Numbered}
 use Rattle.golog_ways.proofs.SearchedWays.{free-of}
-use Rattle.golog_search.specs.Levels.{Level, with_steps}
+use Rattle.golog_search.specs.Levels.{Level, stored_steps}
 use Rattle.golog_search.specs.Numbers.{HaveNumbers, Sees, all_meant, level_of}
 use Rattle.golog_search.specs.Visits.{prog_at}
 use Rattle.golog_search.proofs.Numbering.{goes_on-further, goes_on-same, level_with, number-at, searched-at, steps-at}
@@ -15,7 +15,7 @@ pub loop-from-init : goal.loop-from-init
 loop-from-init c =
     let nodes = c.args.nodes.now in
     let made = c.in_ok-level.ensures in (
-      (λ i. with_steps c.args.agent.now c.args.mode 0 (level_with (sym made.cut i) (all_meant nodes (sym made.states i))) (all_meant nodes c.args.states.now)),
+      (λ i. stored_steps c.args.agent.now c.args.mode c.args.room 0 (level_with (sym made.cut i) (all_meant nodes (sym made.states i))) (all_meant nodes c.args.states.now)),
       record {
         once = c.requires.once;
         numbers = subst (HaveNumbers nodes) (sym made.states) (All-nil (λ (n : Numbered). n.left < length nodes));
@@ -88,8 +88,8 @@ loop-from-preserved c =
     let stays : level_of here level ≡ level_of c.loop-from.nodes level = level_of-stays c.loop-from.nodes here c.in_ok-visit.ensures.goes_on level inv.1 in
     let done = c.in_ok-add_steps.ensures in (
       inv.0
-          ∙ ap (λ (l : Level). with_steps agent c.args.mode place l (all_meant old (drop place c.args.states.now))) (sym stays)
-          ∙ steps-at old c.args.states.now place c.index-states-from.result (omega arith) c.index-states-from.is agent c.args.mode here
+          ∙ ap (λ (l : Level). stored_steps agent c.args.mode c.args.room place l (all_meant old (drop place c.args.states.now))) (sym stays)
+          ∙ steps-at old c.args.states.now place c.index-states-from.result (omega arith) c.index-states-from.is agent c.args.mode c.args.room here
           (level_of here level) (level_of c.add_steps.new.nodes c.add_steps.new.self) visited c.requires.numbers done.means,
       done.level,
       goes_on-further old here c.add_steps.new.nodes visited done.goes_on,
@@ -101,4 +101,4 @@ returns-clause-next c =
     let agent = c.args.agent.now in
     let end = level_of c.loop-from.nodes c.loop-from.level in
     sym (c.loop-from.invariant.0
-    ∙ at_drop_all (λ (ns : List Numbered). with_steps agent c.args.mode c.loop-from.from end (all_meant c.args.nodes.now ns)) c.args.states.now c.loop-from.from (omega arith))
+    ∙ at_drop_all (λ (ns : List Numbered). stored_steps agent c.args.mode c.args.room c.loop-from.from end (all_meant c.args.nodes.now ns)) c.args.states.now c.loop-from.from (omega arith))

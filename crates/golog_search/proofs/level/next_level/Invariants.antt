@@ -1,5 +1,5 @@
 use Rattle.std.proofs.Common.{◌≡◌, drop}
-use Rattle.golog_search.specs.Levels.{next_level, with_steps}
+use Rattle.golog_search.specs.Levels.{stored_level, stored_steps}
 use Rattle.golog_search.specs.Numbers.{GoesOn, IsLevel, all_meant, level_of}
 use Rattle.golog_search.specs.Visits.{AreKept}
 use Rattle.golog_search.proofs.level.next_level.Given as goal
@@ -7,6 +7,6 @@ use Rattle.golog_search.proofs.level.next_level.Given as goal
 -- the states still to be looked at decide
 abbrev pub invariant-loop-from : goal.invariant-loop-from
 invariant-loop-from l =
-    (next_level l.agent l.mode (all_meant l.initial.nodes l.states)
-    ≡ with_steps l.agent l.mode l.from (level_of l.nodes l.level) (all_meant l.initial.nodes (drop l.from l.states)))
+    (stored_level l.agent l.mode l.room (all_meant l.initial.nodes l.states)
+    ≡ stored_steps l.agent l.mode l.room l.from (level_of l.nodes l.level) (all_meant l.initial.nodes (drop l.from l.states)))
     × IsLevel l.nodes l.level × GoesOn l.initial.nodes l.nodes × AreKept l.agent l.nodes l.visits

@@ -1,16 +1,15 @@
-use Rattle.std.proofs.Common.{◌≡◌, ◌+◌, List, true, Option, refl, sym, ap, ◌∙◌, subst, drop, fold, arith}
+use Rattle.std.proofs.Common.{◌≡◌, ◌+◌, Option, refl, sym, ap, ◌∙◌, subst, drop, fold, arith}
 use Rattle.std.specs.Prelude.{unwrap_or}
-use Rattle.std.specs.List.{list_all}
 use Rattle.std.proofs.lemmas.List.{at_drop_all}
 use Rattle.golog_tree.specs.declared.prog.Prog.{Prog}
 use Rattle.golog_tree.specs.declared.prog.Prog.TheVariants.{Nil}
-use Rattle.golog_tree.specs.declared.prog.Way.{Way}
 use Rattle.golog_semantics.specs.Search.{plain_ways}
+use Rattle.golog_semantics.proofs.ByParts.{OfEach}
 use Rattle.golog_ways.specs.Searched.{IsSearched}
-use Rattle.golog_search.specs.Levels.{Level, with_way}
+use Rattle.golog_search.specs.Levels.{Level, with_stored}
 use Rattle.golog_search.specs.Numbers.{level_of, meant}
-use Rattle.golog_search.proofs.Numbering.{all-at, fold-at, goes_on-further, goes_on-same}
-use Rattle.golog_ways.proofs.SearchedWays.{label_is, labels_fit}
+use Rattle.golog_search.proofs.Numbering.{each-at, fold-at, goes_on-further, goes_on-same}
+use Rattle.golog_ways.proofs.SearchedWays.{WayStays, ways_stay}
 use Rattle.golog_search.proofs.level.Level.add_ways.Goals as goal
 
 pub ways_of-requires-clause-searched : goal.ways_of-requires-clause-searched
@@ -30,12 +29,17 @@ loop-way-init c =
       refl,
       c.requires.level,
       goes_on-same nodes,
-      subst (λ (ws : List Way). list_all (label_is agent) ws ≡ true) (sym ways) (labels_fit agent c.requires.agent (meant nodes reached).way.left reached.state c.requires.searched c.args.mode),
+      subst (OfEach (WayStays agent)) (sym ways) (ways_stay agent c.requires.agent (meant nodes reached).way.left reached.state c.requires.searched c.args.mode),
     )
+
+pub add-requires-clause-searched : goal.add-requires-clause-searched
+add-requires-clause-searched c =
+    let stays = (each-at (WayStays c.args.agent.now) c.as_slice-way-items.result.now c.loop-way.way-index c.way-item.result c.loop-way-test.true c.way-item.is c.loop-way.invariant.3).0 in
+    record { program = stays.left_fits; blockless = stays.left_free; sorts = c.requires.searched.sorts }
 
 pub add-requires-clause-label : goal.add-requires-clause-label
 add-requires-clause-label c =
-    (all-at (label_is c.args.agent.now) c.as_slice-way-items.result.now c.loop-way.way-index c.way-item.result c.loop-way-test.true c.way-item.is c.loop-way.invariant.3).0
+    (each-at (WayStays c.args.agent.now) c.as_slice-way-items.result.now c.loop-way.way-index c.way-item.result c.loop-way-test.true c.way-item.is c.loop-way.invariant.3).0.label_fits
 
 pub add-requires-clause-level : goal.add-requires-clause-level
 add-requires-clause-level c = c.loop-way.invariant.1
@@ -47,12 +51,12 @@ loop-way-preserved c =
     let ways = c.as_slice-way-items.result.now in
     let i = c.loop-way.way-index in
     let way = c.way-item.result in
-    let f = with_way agent c.args.from state in
+    let f = with_stored agent c.args.mode c.args.room c.args.from state in
     let inv = c.loop-way.invariant in (
       inv.0 ∙ fold-at f (level_of c.loop-way.nodes c.loop-way.self) ways i way c.loop-way-test.true c.way-item.is ∙ ap (λ (l : Level). fold f l (drop (i + 1) ways)) (sym c.in_ok-add.ensures.means),
       c.in_ok-add.ensures.level,
       goes_on-further c.args.nodes.now c.loop-way.nodes c.add.new.nodes inv.2 c.in_ok-add.ensures.goes_on,
-      (all-at (label_is agent) ways i way c.loop-way-test.true c.way-item.is inv.3).1,
+      (each-at (WayStays agent) ways i way c.loop-way-test.true c.way-item.is inv.3).1,
     )
 
 pub returns-clause-means : goal.returns-clause-means
@@ -60,7 +64,7 @@ returns-clause-means c =
     let agent = c.args.agent.now in
     let reached = c.args.reached.now in
     let old = c.args.nodes.now in
-    let f = with_way agent c.args.from reached.state in
+    let f = with_stored agent c.args.mode c.args.room c.args.from reached.state in
     let start = level_of old c.args.self.now in
     let end = level_of c.loop-way.nodes c.loop-way.self in
     let left : (meant old reached).way.left ≡ c.prog.result.now = ap (λ (o : Option Prog). unwrap_or o Nil) c.prog.ensures in
