@@ -3,9 +3,9 @@
 -- That a condition on what is known after an action is taken back to one on what is known before it is
 -- regression (Reiter 2001). That a run is watched by the conditions of all that is left of it is this project's
 -- own.
-use Rattle.std.specs.Prelude.{◌≡◌, ℕ, suc, ◌-◌, ◌≤◌, ◌==◌, nat_lt, Bool, true, not, ◌&&◌, if◌then◌else◌, IsTrue, Some, IfSome, option_map, All, List, [], ◌∷◌, ◌++◌, length, map, filter, drop, slice_get, slice_index_or}
+use Rattle.std.specs.Prelude.{◌≡◌, ◌⊎◌, ℕ, suc, ◌-◌, ◌≤◌, ◌==◌, nat_lt, Bool, true, not, ◌&&◌, if◌then◌else◌, IsTrue, Some, IfSome, MatchOption, option_map, All, List, [], ◌∷◌, ◌++◌, length, map, filter, drop, slice_get, slice_index_or}
 use Rattle.std.specs.Cmp.Lexicographic.{pointwise}
-use Rattle.std.specs.List.{list_any, remove}
+use Rattle.std.specs.List.{list_any, position_from, remove}
 use Rattle.golog_tree.specs.declared.agent.Agent.{Agent}
 use Rattle.golog_tree.specs.declared.cond.Cond.{Cond}
 use Rattle.golog_tree.specs.declared.prog.Label.{Label}
@@ -74,6 +74,22 @@ with_room ws = if length ws == most_watches then drop 1 ws else ws
 -- the watches, that at the place standing last
 abbrev pub UsedLast : List Watch → ℕ → List Watch → Type 0
 UsedLast ws place new = (d : Watch) → new ≡ remove ws place ++ slice_index_or ws place d ∷ []
+
+-- a new watch of the run stands behind the others
+pub record IsNewest (p : Prog) (rest : Run) (ws new : List Watch) : Type 0 where
+  pub watch : Watch
+  pub body : watch.body ≡ p
+  pub run : watch.rest ≡ rest
+  pub added : new ≡ with_room ws ++ watch ∷ []
+
+-- the first watch that keeps the run stands last, or where none does a new one
+abbrev pub IsRecalled : Prog → Run → List Watch → List Watch → Type 0
+IsRecalled p rest ws new =
+    MatchOption (position_from (keeps p rest) 0 ws) (IsNewest p rest ws new) (λ place. UsedLast ws place new)
+
+-- no watch but the first is gone, and that only where there was no room for one more
+abbrev pub StayThere : List Watch → List Watch → Type 0
+StayThere ws new = (new ≡ ws) ⊎ (new ≡ with_room ws)
 
 -- the watch that stands last keeps the run
 abbrev pub LastKeeps : Prog → Run → List Watch → Type 0

@@ -6,7 +6,7 @@ ghost use Rattle.golog_semantics.specs.Blocks.{goes_through as leads_to_final};
 ghost use Rattle.golog_semantics.specs.ProgFits.{fits};
 ghost use Rattle.golog_semantics.specs.WellFormed.{WellFormed};
 ghost use Rattle.golog_ways.specs.Searched.{IsSearched};
-ghost use Rattle.golog_watch.specs.Watched.{AreWatches, LastKeeps, UsedLast, keeps, with_room};
+ghost use Rattle.golog_watch.specs.Watched.{AreWatches, IsRecalled, LastKeeps, StayThere, UsedLast, keeps, with_room};
 
 use crate::watch::Watch;
 use golog_base::NoMemory;
@@ -74,7 +74,8 @@ impl Watches {
         Ok(())
     }
 
-    /// Puts the watch of a run last, and makes it where there is none.
+    /// Puts the watch of a run last, and makes it where there is none. The others stay, but for the first where there
+    /// are 16 and one is made.
     fn recall(
         &mut self,
         alloc: Global,
@@ -88,6 +89,8 @@ impl Watches {
         requires watches { AreWatches agent.now self.old }
         ensures watches { AreWatches agent.now self.new }
         ensures last { OnOk result (LastKeeps body.now rest.now self.new.watches.items) }
+        ensures recalled { OnOk result (IsRecalled body.now rest.now self.old.watches.items self.new.watches.items) }
+        ensures others { OnErr result (StayThere self.old.watches.items self.new.watches.items) }
     {
         match place_of(&self.watches, body, rest) {
             Some(place) => {

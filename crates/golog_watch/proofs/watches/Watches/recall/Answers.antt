@@ -1,8 +1,9 @@
-use Rattle.std.proofs.Common.{◌≡◌, ◌++◌, ◌∷◌, [], Some, refl, sym, ap, ◌∙◌, arith}
+use Rattle.std.proofs.Common.{◌≡◌, ℕ, ◌++◌, ◌∷◌, [], Option, Some, None, inl, inr, refl, sym, ap, ◌∙◌, subst, arith}
+use Rattle.std.specs.Prelude.{MatchOption}
 use Rattle.std.specs.List.{position_from}
-use Rattle.std.proofs.lemmas.Result.{IfOk-weaker}
-use Rattle.golog_watch.specs.Watched.{LastKeeps, keeps, with_room}
-use Rattle.golog_watch.proofs.Keeping.{added-watches, kept, last-keeps, own-keeps, place-in, used-kept, used-last, watches}
+use Rattle.std.proofs.lemmas.Result.{IfOk-weaker, on_err_weaker}
+use Rattle.golog_watch.specs.Watched.{IsNewest, IsRecalled, LastKeeps, UsedLast, keeps, with_room}
+use Rattle.golog_watch.proofs.Keeping.{added-watches, kept, last-keeps, on-err, own-keeps, place-in, used-kept, used-last, watches}
 use Rattle.golog_watch.proofs.watches.Watches.recall.Goals as goal
 
 pub use_again-requires : goal.use_again-requires
@@ -52,3 +53,31 @@ returns-in_ok-watch-in-None-clause-last c =
     let own = own-keeps p rest watch c.in_ok-watch-in-None.ensures.body c.in_ok-watch-in-None.ensures.rest in
     IfOk-weaker c.add.result (λ done. new ≡ with_room old ++ watch ∷ []) (λ done. LastKeeps p rest new)
     (λ done e. last-keeps p rest new (with_room old) watch e own) c.add.ensures.added
+
+pub returns-in-Some-clause-recalled : goal.returns-in-Some-clause-recalled
+returns-in-Some-clause-recalled c =
+    let p = c.args.body.now in
+    let rest = c.args.rest.now in
+    let ws = c.args.self.now.watches.items in
+    let new = c.use_again.new.self.watches.items in
+    let found : position_from (keeps p rest) 0 ws ≡ Some c.in-Some.place = ap (position_from (keeps p rest) 0) (sym c.deref.ensures.value) ∙ sym c.in-Some.ensures in
+    subst (λ (o : Option ℕ). MatchOption o (IsNewest p rest ws new) (λ place. UsedLast ws place new)) (sym found) c.use_again.ensures
+
+pub returns-in_ok-watch-in-None-clause-recalled : goal.returns-in_ok-watch-in-None-clause-recalled
+returns-in_ok-watch-in-None-clause-recalled c =
+    let p = c.args.body.now in
+    let rest = c.args.rest.now in
+    let ws = c.args.self.now.watches.items in
+    let new = c.add.new.self.watches.items in
+    let made = c.in_ok-watch-in-None.ensures in
+    let none : position_from (keeps p rest) 0 ws ≡ None = ap (position_from (keeps p rest) 0) (sym c.deref.ensures.value) ∙ sym c.in-None.ensures in
+    IfOk-weaker c.add.result (λ done. new ≡ with_room ws ++ c.in_ok-watch-in-None.watch ∷ []) (λ done. IsRecalled p rest ws new)
+    (λ done e.
+    subst (λ (o : Option ℕ). MatchOption o (IsNewest p rest ws new) (λ place. UsedLast ws place new)) (sym none)
+    (record { watch = c.in_ok-watch-in-None.watch; body = made.body; run = made.rest; added = e })) c.add.ensures.added
+
+pub returns-in_ok-watch-in-None-clause-others : goal.returns-in_ok-watch-in-None-clause-others
+returns-in_ok-watch-in-None-clause-others c = on_err_weaker c.add.result (λ e. inr e) c.add.ensures.others
+
+pub returns-in_err-watch-in-None-clause-others : goal.returns-in_err-watch-in-None-clause-others
+returns-in_err-watch-in-None-clause-others c = on-err _ _ (inl refl)
