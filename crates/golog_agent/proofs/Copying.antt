@@ -1,8 +1,8 @@
 -- Copying what a board has added.
 use Rattle.std.proofs.Common.{◌≡◌, ℕ, zero, suc, ◌+◌, ◌-◌, ◌≤◌, ◌<◌, Bool, true, false, Some, List, [], ◌∷◌, ◌++◌, length, length-append, take, drop, get_or, refl, sym, ap, ◌∙◌, subst, arith, append_assoc}
-use Rattle.std.specs.Prelude.{slice_get}
+use Rattle.std.specs.Prelude.{nat_lt, slice_get}
 use Rattle.std.specs.List.{list_any}
-use Rattle.std.proofs.lemmas.Bool.{or_parts, or_from}
+use Rattle.std.proofs.lemmas.Bool.{or_parts, or_from, ltb-true, ltb-false}
 use Rattle.std.proofs.lemmas.List.{append-nil, get_or-drop, get_or-take, take-append-drop, length-take-le}
 use Rattle.std.proofs.lemmas.Option.{slice_get-get_or}
 use Rattle.golog_tree.specs.declared.agent.Agent.{Agent}
@@ -10,12 +10,12 @@ use Rattle.golog_semantics.specs.declared.journal.Entry.{Entry}
 use Rattle.golog_semantics.specs.Journal.{Journal}
 use Rattle.golog_journal.specs.declared.board.Batch.{Batch}
 use Rattle.golog_journal.specs.Boards.{AgentJournal, IsBoardList}
-use Rattle.golog_journal.specs.Copies.{CopyIs}
+use Rattle.golog_journal.specs.Copies.{CopyIs, MoreIs}
 use Rattle.golog_journal.specs.Growing.{Called, Sight}
 use Rattle.golog_journal.specs.Leading.{is_of_program}
 use Rattle.golog_journal.proofs.Lawful.{lawful-front}
 use Rattle.golog_agent.specs.Turns.{Course, Follows, IsCurrent, IsOver}
-use Rattle.golog_agent.proofs.Boarding.{called-follows, called-seen, compose, still-over}
+use Rattle.golog_agent.proofs.Boarding.{called-follows, called-seen, compose, no-change, still-over}
 
 -- the front of a board's list is one
 pub lawful-prefix : (agent : Agent) (front rest : Journal) → IsBoardList agent (front ++ rest) → IsBoardList agent front
@@ -123,21 +123,12 @@ module _ (course : Course) (sight : Sight) (batch : Batch) (c : Copying course s
       let short = c.short in
       omega (arith, more, count, low, all, short, some)
 
-  pub copied : batch.count ≡ 0 → IsCurrent course sight
-  copied none = record {
-    of_agent = c.over.of_agent;
-    held = c.over.held;
-    whole =
-        sym (c.over.behind.front
-        ∙ ap (λ xs. course.list ++ xs) (none-long since (let count = c.copy.count in let all = long in omega (arith, count, all, none)))
-        ∙ append-nil course.list);
-  }
-
 -- ---- the loop
 
--- what a loop that copies keeps: the first course and sight, and those now with the last batch
-pub record Copies (first : Course) (before : Sight) (course : Course) (sight : Sight) (batch : Batch) : Type 0 where
-  pub copying : Copying course sight batch
+-- what a loop that copies keeps: the first course and sight, those now, and whether the course lacks entries
+pub record Copies (first : Course) (before : Sight) (course : Course) (sight : Sight) (more : Bool) : Type 0 where
+  pub over : IsOver course sight
+  pub lacking : more ≡ nat_lt (length course.list) (length sight.seen)
   pub same : course.agent ≡ first.agent
   pub follows : Follows before sight []
 
@@ -145,35 +136,66 @@ pub record Copies (first : Course) (before : Sight) (course : Course) (sight : S
 abbrev pub taking : Course → Batch → Course
 taking course batch = record { agent = course.agent; list = course.list ++ take batch.count batch.entries }
 
-pub copies-first : (course : Course) (old new : Sight) (since : ℕ) (batch : Batch) → IsOver course old → since ≡ length course.list
-    → Called (λ point. CopyIs point since batch) old new → Copies course old course new batch
-copies-first course old new since batch over at call = record {
-  copying = copy-begins course old new since batch over at call;
-  same = refl;
-  follows = copy-follows course old new since batch over at call;
-}
-
-module _ (first : Course) (before : Sight) (course : Course) (old : Sight) (batch : Batch) (c : Copies first before course old batch) where
-  pub batch-lawful : IsBoardList course.agent (course.list ++ take batch.count batch.entries)
-  batch-lawful = new-lawful course old batch c.copying
-
-  pub batch-of-devices : list_any is_of_program (take batch.count batch.entries) ≡ false
-  batch-of-devices = new-of-devices course old batch c.copying
-
-  pub copies-done : batch.count ≤ 0 → IsCurrent course old
-  copies-done none = copied course old batch c.copying (omega (arith, none))
-
-  module _ (later : Course) (is : later ≡ taking course batch) where
-    taken-over : IsOver later old
-    taken-over = over-then course old batch c.copying later (ap (λ (x : Course). x.agent) is) (ap (λ (x : Course). x.list) is)
-
-    pub copies-shorter : 0 < batch.count → 65553 - length later.list < 65553 - length course.list
-    copies-shorter some = longer-then course old batch c.copying later (ap (λ (x : Course). x.list) is) some
-
-    pub copies-next : (new : Sight) (since : ℕ) (next : Batch) → since ≡ length later.list → Called (λ point. CopyIs point since next) old new
-        → Copies first before later new next
-    copies-next new since next at call = record {
-      copying = copy-begins later old new since next taken-over at call;
-      same = ap (λ (x : Course). x.agent) is ∙ c.same;
-      follows = compose before old new c.follows [] (copy-follows later old new since next taken-over at call);
+-- asked once more, whether it lacks entries
+asks : (first : Course) (before : Sight) (course : Course) (old new : Sight) (since : ℕ) (more : Bool) → IsOver course old → course.agent ≡ first.agent
+    → Follows before old [] → since ≡ length course.list → Called (λ point. MoreIs point since more) old new → Copies first before course new more
+asks first before course old new since more over same follows at call =
+    let none = call.answered.none in
+    let whole = called-seen (λ point. MoreIs point since more) old new call none in
+    let goes = called-follows (λ point. MoreIs point since more) old new call [] none in
+    record {
+      over = still-over old new goes course over;
+      lacking = call.answered.answer ∙ ap (λ n. nat_lt n (length (old.seen ++ call.others))) at ∙ ap (λ seen. nat_lt (length course.list) (length seen)) (sym whole);
+      same = same;
+      follows = compose before old new follows [] goes;
     }
+
+pub copies-first : (course : Course) (old new : Sight) (since : ℕ) (more : Bool) → IsOver course old → since ≡ length course.list
+    → Called (λ point. MoreIs point since more) old new → Copies course old course new more
+copies-first course old new since more over at call = asks course old course old new since more over refl (no-change old) at call
+
+module _ (first : Course) (before : Sight) (course : Course) (old : Sight) (more : Bool) (c : Copies first before course old more) where
+  pub copies-done : more ≡ false → IsCurrent course old
+  copies-done none-lacks = record {
+    of_agent = c.over.of_agent;
+    held = c.over.held;
+    whole =
+        sym (c.over.behind.front
+        ∙ ap (λ xs. course.list ++ xs)
+        (none-long c.over.behind.since
+        (let all = ap (λ seen. length seen) c.over.behind.front ∙ length-append course.list c.over.behind.since in
+        let not-less = ltb-false _ _ (sym c.lacking ∙ none-lacks) in
+        omega (arith, all, not-less)))
+        ∙ append-nil course.list);
+  }
+
+  -- what a copy has that is made while the course lacks entries
+  module _ (mid : Sight) (from : ℕ) (batch : Batch) (from-so : from ≡ length course.list) (copy : Called (λ point. CopyIs point from batch) old mid) where
+    copying : Copying course mid batch
+    copying = copy-begins course old mid from batch c.over from-so copy
+
+    pub batch-lawful : IsBoardList course.agent (course.list ++ take batch.count batch.entries)
+    batch-lawful = new-lawful course mid batch copying
+
+    pub batch-of-devices : list_any is_of_program (take batch.count batch.entries) ≡ false
+    batch-of-devices = new-of-devices course mid batch copying
+
+    batch-some : more ≡ true → 0 < batch.count
+    batch-some lacks-some =
+        let less = ltb-true _ _ (sym c.lacking ∙ lacks-some) in
+        let longer = ap (λ seen. length seen) (called-seen (λ point. CopyIs point from batch) old mid copy copy.answered.none) ∙ length-append old.seen copy.others in
+        let count = copying.copy.count in
+        omega (arith, less, longer, count)
+
+    module _ (later : Course) (is : later ≡ taking course batch) where
+      pub copies-shorter : more ≡ true → 65553 - length later.list < 65553 - length course.list
+      copies-shorter lacks-some = longer-then course mid batch copying later (ap (λ (x : Course). x.list) is) (batch-some lacks-some)
+
+      pub copies-next : (new : Sight) (since : ℕ) (next : Bool) → since ≡ length later.list → Called (λ point. MoreIs point since next) mid new
+          → Copies first before later new next
+      copies-next new since next at call =
+          asks first before later mid new since next
+          (over-then course mid batch copying later (ap (λ (x : Course). x.agent) is) (ap (λ (x : Course). x.list) is))
+          (ap (λ (x : Course). x.agent) is ∙ c.same)
+          (compose before old mid c.follows [] (copy-follows course old mid from batch c.over from-so copy))
+          at call

@@ -1,5 +1,6 @@
 //! What an agent's program does next at what is known, decided once while that stays.
-ghost use Rattle.std.specs.Prelude.{◌≡◌, ◌≤◌, IfOk, IfSome, IsTrue, false, true, Some, [], ◌∷◌};
+ghost use Rattle.std.specs.Prelude.{◌≡◌, ◌↔◌, ◌≤◌, IfOk, IfSome, IsTrue, false, true, Some, [], ◌∷◌};
+ghost use Rattle.std.specs.Option.{is_some};
 ghost use Rattle.golog_tree.specs.Nest.{nest};
 ghost use Rattle.golog_semantics.specs.Blocks.{moves};
 ghost use Rattle.golog_semantics.specs.Search.{final, nest_limit};
@@ -8,6 +9,7 @@ ghost use Rattle.golog_semantics.specs.WellFormed.{WellFormed};
 ghost use Rattle.golog_progress.specs.Entries.{EntriesFit};
 ghost use Rattle.golog_search.specs.Decided.{IsAhead, IsDecided};
 ghost use Rattle.golog_agent.specs.Configuration.{IsSound, configuration_after, with_entry};
+ghost use Rattle.golog_agent.specs.Deciding.{is_standing};
 
 use golog_base::{Bytes, List, NoMemory};
 use golog_progress::{State, start};
@@ -20,7 +22,7 @@ use std::marker::Model;
 
 /// Whether these are the values, if there are any.
 fn is_at(at: &Option<Bytes>, values: &[u8]) -> bool
-    ensures { IsTrue result → at.now ≡ Some values.now }
+    ensures { IsTrue result ↔ (at.now ≡ Some values.now) }
 {
     match at {
         Some(at) => at.as_slice() == values,
@@ -38,7 +40,8 @@ fn copied(alloc: Global, values: &[u8]) -> Option<Bytes>
 /// What is kept of a decision that is handed out, if anything: that there is neither an end nor a step, or that fuel
 /// is lacking.
 fn standing(decided: &Option<Decision>) -> Option<Option<Decision>>
-    ensures { IfSome result (λ ahead. ahead ≡ decided.now) }
+    ensures ahead { IfSome result (λ ahead. ahead ≡ decided.now) }
+    ensures stands { is_some result ≡ is_standing decided.now }
 {
     match decided {
         None => Some(None),

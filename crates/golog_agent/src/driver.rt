@@ -102,10 +102,11 @@ impl<'a, R: Record> Driver<'a, R> {
         ensures follows { Follows (B.sight board.old) (B.sight board.new) [] }
         ensures recorded { Records R.outlet R.stands self.old.core self.old.record self.new.core self.new.record }
     {
-        let mut batch = board.copy_since(self.core.len());
-        while batch.count > 0 {
+        let mut more = board.has_more(self.core.len());
+        while more {
+            let batch = board.copy_since(self.core.len());
             self.take_all(&batch.entries[..batch.count as usize]);
-            batch = board.copy_since(self.core.len());
+            more = board.has_more(self.core.len());
         }
     }
 
@@ -147,6 +148,7 @@ impl<'a, R: Record> Driver<'a, R> {
         requires answered { MayAnswer self.old.core.agent self.old.core.list answer }
         ensures same { self.new.core.agent ≡ self.old.core.agent }
         ensures attempt { AttemptIs (B.sight board.old) (B.sight board.new) result }
+        ensures end { IfSome result (λ stepped. stepped ≡ Stepped.Ended answer) }
         ensures behind { IsOver self.new.core (B.sight board.new) }
         ensures whole { IfSome result (λ _. self.new.core.list ≡ (B.sight board.new).seen) }
         ensures recorded { Records R.outlet R.stands self.old.core self.old.record self.new.core self.new.record }
@@ -165,6 +167,7 @@ impl<'a, R: Record> Driver<'a, R> {
         requires next { IsNextStep self.old.core.agent self.old.core.list step }
         ensures same { self.new.core.agent ≡ self.old.core.agent }
         ensures attempt { AttemptIs (B.sight board.old) (B.sight board.new) result }
+        ensures step { IfSome result (λ stepped. stepped ≡ Stepped.Step) }
         ensures behind { IsOver self.new.core (B.sight board.new) }
         ensures whole { IfSome result (λ _. self.new.core.list ≡ (B.sight board.new).seen) }
         ensures recorded { Records R.outlet R.stands self.old.core self.old.record self.new.core self.new.record }

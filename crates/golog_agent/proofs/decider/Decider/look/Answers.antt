@@ -29,7 +29,7 @@ returns-then-is_at-clause-ahead c =
     let r = c.self.inside in
     subst (λ (o : Option Decision). IsAhead c.args.self.now.agent c.args.self.now.values c.args.self.now.left true o) (sym c.take.ensures.value)
     (subst (λ (v : Configuration). IsAhead v.agent v.values v.left true r.ahead) c.self.view_is
-    (kept-ahead r.agent.now r.left r.state r.ahead r.at (sym c.take-at.ensures.value ∙ (c.is_at.ensures c.if-is_at.true ∙ ap (λ vs. Some vs) c.values.ensures)) c.self.invariant.1))
+    (kept-ahead r.agent.now r.left r.state r.ahead r.at (sym c.take-at.ensures.value ∙ (c.is_at.ensures.0 c.if-is_at.true ∙ ap (λ vs. Some vs) c.values.ensures)) c.self.invariant.1))
 
 pub returns-clause-ahead : goal.returns-clause-ahead
 returns-clause-ahead c =

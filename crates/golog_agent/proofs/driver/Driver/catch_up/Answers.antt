@@ -3,44 +3,48 @@ use Rattle.golog_agent.proofs.Copying.{batch-lawful, batch-of-devices, copies-do
 use Rattle.golog_agent.proofs.Recorded.{records-same, records-then}
 use Rattle.golog_agent.proofs.driver.Driver.catch_up.Goals as goal
 
-pub loop-batch-init : goal.loop-batch-init
-loop-batch-init g c = record {
+pub loop-more-init : goal.loop-more-init
+loop-more-init g c = record {
   copies =
-      copies-first c.args.self.now.core (g.B.Board.sight c.args.board.now) (g.B.Board.sight c.copy_since-batch.new.self) c.len.result c.copy_since-batch.result
-      c.requires.over c.len.ensures.number c.copy_since-batch.ensures;
+      copies-first c.args.self.now.core (g.B.Board.sight c.args.board.now) (g.B.Board.sight c.has_more-more.new.self) c.len.result c.has_more-more.result
+      c.requires.over c.len.ensures.number c.has_more-more.ensures;
   recorded = records-same g.R.Record.outlet g.R.Record.stands c.args.self.now.core c.args.self.now.core c.args.self.now.record refl;
 }
 
 pub take_all-requires-clause-lawful : goal.take_all-requires-clause-lawful
 take_all-requires-clause-lawful g c =
-    batch-lawful c.args.self.now.core (g.B.Board.sight c.args.board.now) c.loop-batch.self.core (g.B.Board.sight c.loop-batch.board) c.loop-batch.batch c.loop-batch.invariant.copies
+    batch-lawful c.args.self.now.core (g.B.Board.sight c.args.board.now) c.loop-more.self.core (g.B.Board.sight c.loop-more.board) c.loop-more.more c.loop-more.invariant.copies
+    (g.B.Board.sight c.copy_since-batch.new.self) c.len-in-loop-more.result c.copy_since-batch.result c.len-in-loop-more.ensures.number c.copy_since-batch.ensures
 
 pub take_all-requires-clause-of_devices : goal.take_all-requires-clause-of_devices
 take_all-requires-clause-of_devices g c =
-    batch-of-devices c.args.self.now.core (g.B.Board.sight c.args.board.now) c.loop-batch.self.core (g.B.Board.sight c.loop-batch.board) c.loop-batch.batch c.loop-batch.invariant.copies
+    batch-of-devices c.args.self.now.core (g.B.Board.sight c.args.board.now) c.loop-more.self.core (g.B.Board.sight c.loop-more.board) c.loop-more.more c.loop-more.invariant.copies
+    (g.B.Board.sight c.copy_since-batch.new.self) c.len-in-loop-more.result c.copy_since-batch.result c.len-in-loop-more.ensures.number c.copy_since-batch.ensures
 
-pub loop-batch-preserved : goal.loop-batch-preserved
-loop-batch-preserved g c = record {
+pub loop-more-preserved : goal.loop-more-preserved
+loop-more-preserved g c = record {
   copies =
-      copies-next c.args.self.now.core (g.B.Board.sight c.args.board.now) c.loop-batch.self.core (g.B.Board.sight c.loop-batch.board) c.loop-batch.batch c.loop-batch.invariant.copies
-      c.take_all.new.self.core c.take_all.ensures.core (g.B.Board.sight c.copy_since-batch-in-loop-batch.new.self) c.len-in-loop-batch.result c.copy_since-batch-in-loop-batch.result
-      c.len-in-loop-batch.ensures.number c.copy_since-batch-in-loop-batch.ensures;
+      copies-next c.args.self.now.core (g.B.Board.sight c.args.board.now) c.loop-more.self.core (g.B.Board.sight c.loop-more.board) c.loop-more.more c.loop-more.invariant.copies
+      (g.B.Board.sight c.copy_since-batch.new.self) c.len-in-loop-more.result c.copy_since-batch.result c.len-in-loop-more.ensures.number c.copy_since-batch.ensures
+      c.take_all.new.self.core c.take_all.ensures.core
+      (g.B.Board.sight c.has_more-more-in-loop-more.new.self) c.len-in-loop-more-2.result c.has_more-more-in-loop-more.result c.len-in-loop-more-2.ensures.number c.has_more-more-in-loop-more.ensures;
   recorded =
-      records-then g.R.Record.outlet g.R.Record.stands c.args.self.now.core c.loop-batch.self.core c.take_all.new.self.core c.args.self.now.record c.loop-batch.self.record c.take_all.new.self.record
-      c.loop-batch.invariant.recorded c.take_all.ensures.recorded;
+      records-then g.R.Record.outlet g.R.Record.stands c.args.self.now.core c.loop-more.self.core c.take_all.new.self.core c.args.self.now.record c.loop-more.self.record c.take_all.new.self.record
+      c.loop-more.invariant.recorded c.take_all.ensures.recorded;
 }
 
 pub returns-clause-current : goal.returns-clause-current
 returns-clause-current g c =
-    copies-done c.args.self.now.core (g.B.Board.sight c.args.board.now) c.loop-batch.self.core (g.B.Board.sight c.loop-batch.board) c.loop-batch.batch c.loop-batch.invariant.copies c.loop-batch-test.false
+    copies-done c.args.self.now.core (g.B.Board.sight c.args.board.now) c.loop-more.self.core (g.B.Board.sight c.loop-more.board) c.loop-more.more c.loop-more.invariant.copies c.loop-more-test.false
 
 pub returns-clause-follows : goal.returns-clause-follows
-returns-clause-follows g c = c.loop-batch.invariant.copies.follows
+returns-clause-follows g c = c.loop-more.invariant.copies.follows
 
-pub loop-batch-smaller : goal.loop-batch-smaller
-loop-batch-smaller g c =
-    copies-shorter c.args.self.now.core (g.B.Board.sight c.args.board.now) c.loop-batch.self.core (g.B.Board.sight c.loop-batch.board) c.loop-batch.batch c.loop-batch.invariant.copies
-    c.take_all.new.self.core c.take_all.ensures.core c.loop-batch-test.true
+pub loop-more-smaller : goal.loop-more-smaller
+loop-more-smaller g c =
+    copies-shorter c.args.self.now.core (g.B.Board.sight c.args.board.now) c.loop-more.self.core (g.B.Board.sight c.loop-more.board) c.loop-more.more c.loop-more.invariant.copies
+    (g.B.Board.sight c.copy_since-batch.new.self) c.len-in-loop-more.result c.copy_since-batch.result c.len-in-loop-more.ensures.number c.copy_since-batch.ensures
+    c.take_all.new.self.core c.take_all.ensures.core c.loop-more-test.true
 
 pub returns-clause-recorded : goal.returns-clause-recorded
-returns-clause-recorded g c = c.loop-batch.invariant.recorded
+returns-clause-recorded g c = c.loop-more.invariant.recorded
