@@ -36,6 +36,18 @@ fn args_with(alloc: Global, args: &[Arg], put: Put) -> Result<List<Arg>, NoMemor
     Ok(list)
 }
 
+/// Both values, where neither call wanted memory.
+pub(crate) fn both<A: Drop, B: Drop>(
+    one: Result<A, NoMemory>,
+    other: Result<B, NoMemory>,
+) -> Result<(A, B), NoMemory>
+    ensures { IfOk result (λ pair. (one ≡ Ok pair.0) × (other ≡ Ok pair.1)) }
+{
+    let one = one?;
+    let other = other?;
+    Ok((one, other))
+}
+
 /// The condition itself: where nothing is put in, it is shared.
 fn body_without(body: &Boxed<Cond>) -> Result<Boxed<Cond>, NoMemory>
     ensures { IfOk result (λ c. c ≡ cond_put body.now None) }
@@ -54,6 +66,13 @@ fn body_with(alloc: Global, body: &Boxed<Cond>, put: Put) -> Result<Boxed<Cond>,
 }
 
 #[cycle(cond_with)]
+fn term_boxed(alloc: Global, term: &Boxed<Term>, put: Put) -> Result<Boxed<Term>, NoMemory>
+    ensures { IfOk result (λ t. t ≡ term_put term.now put) }
+{
+    Boxed::new(alloc, term_with(alloc, term.get(), put)?)
+}
+
+#[cycle(cond_with)]
 fn term_with(alloc: Global, term: &Term, put: Put) -> Result<Term, NoMemory>
     ensures { IfOk result (λ t. t ≡ term_put term.now put) }
 {
@@ -65,14 +84,14 @@ fn term_with(alloc: Global, term: &Term, put: Put) -> Result<Term, NoMemory>
         }),
         Term::Shift { sort, term, by } => Ok(Term::Shift {
             sort: *sort,
-            term: Boxed::new(alloc, term_with(alloc, term.get(), put)?)?,
+            term: term_boxed(alloc, term, put)?,
             by: *by,
         }),
-        Term::Ite { cond, yes, no } => Ok(Term::Ite {
-            cond: body_with(alloc, cond, put)?,
-            yes: Boxed::new(alloc, term_with(alloc, yes.get(), put)?)?,
-            no: Boxed::new(alloc, term_with(alloc, no.get(), put)?)?,
-        }),
+        Term::Ite { cond, yes, no } => {
+            let parts = both(term_boxed(alloc, yes, put), term_boxed(alloc, no, put));
+            let (cond, (yes, no)) = both(body_with(alloc, cond, put), parts)?;
+            Ok(Term::Ite { cond, yes, no })
+        }
     }
 }
 
@@ -97,21 +116,21 @@ pub(crate) fn cond_with(alloc: Global, cond: &Cond, put: Put) -> Result<Cond, No
             fluent: *fluent,
             args: args_with(alloc, args.as_slice(), put)?,
         }),
-        Cond::Equal { sort, one, other } => Ok(Cond::Equal {
-            sort: *sort,
-            one: term_with(alloc, one, put)?,
-            other: term_with(alloc, other, put)?,
-        }),
-        Cond::Less { sort, one, other } => Ok(Cond::Less {
-            sort: *sort,
-            one: term_with(alloc, one, put)?,
-            other: term_with(alloc, other, put)?,
-        }),
-        Cond::AtMost { sort, one, other } => Ok(Cond::AtMost {
-            sort: *sort,
-            one: term_with(alloc, one, put)?,
-            other: term_with(alloc, other, put)?,
-        }),
+        Cond::Equal { sort, one, other } => {
+            let sort = *sort;
+            let (one, other) = both(term_with(alloc, one, put), term_with(alloc, other, put))?;
+            Ok(Cond::Equal { sort, one, other })
+        }
+        Cond::Less { sort, one, other } => {
+            let sort = *sort;
+            let (one, other) = both(term_with(alloc, one, put), term_with(alloc, other, put))?;
+            Ok(Cond::Less { sort, one, other })
+        }
+        Cond::AtMost { sort, one, other } => {
+            let sort = *sort;
+            let (one, other) = both(term_with(alloc, one, put), term_with(alloc, other, put))?;
+            Ok(Cond::AtMost { sort, one, other })
+        }
         Cond::Not(cond) => Ok(Cond::Not(body_with(alloc, cond, put)?)),
         Cond::And(conds) => Ok(Cond::And(conds_with(alloc, conds.as_slice(), put)?)),
         Cond::Or(conds) => Ok(Cond::Or(conds_with(alloc, conds.as_slice(), put)?)),
@@ -126,18 +145,6 @@ pub(crate) fn cond_with(alloc: Global, cond: &Cond, put: Put) -> Result<Cond, No
             body: body_with(alloc, body, within(*var, put))?,
         }),
     }
-}
-
-/// Both values, where neither call wanted memory.
-fn both(
-    one: Result<Boxed<Prog>, NoMemory>,
-    other: Result<Boxed<Prog>, NoMemory>,
-) -> Result<(Boxed<Prog>, Boxed<Prog>), NoMemory>
-    ensures { IfOk result (λ pair. (one ≡ Ok pair.0) × (other ≡ Ok pair.1)) }
-{
-    let one = one?;
-    let other = other?;
-    Ok((one, other))
 }
 
 /// The part itself: where nothing is put in, it is shared.
@@ -201,17 +208,14 @@ pub(crate) fn prog_with(alloc: Global, prog: &Prog, put: Put) -> Result<Prog, No
         }),
         Prog::Star(body) => Ok(Prog::Star(part_with(alloc, body, put)?)),
         Prog::If { cond, yes, no } => {
-            let (yes, no) = both(part_with(alloc, yes, put), part_with(alloc, no, put))?;
-            Ok(Prog::If {
-                cond: cond_with(alloc, cond, put)?,
-                yes,
-                no,
-            })
+            let parts = both(part_with(alloc, yes, put), part_with(alloc, no, put));
+            let (cond, (yes, no)) = both(cond_with(alloc, cond, put), parts)?;
+            Ok(Prog::If { cond, yes, no })
         }
-        Prog::While { cond, body } => Ok(Prog::While {
-            cond: cond_with(alloc, cond, put)?,
-            body: part_with(alloc, body, put)?,
-        }),
+        Prog::While { cond, body } => {
+            let (cond, body) = both(cond_with(alloc, cond, put), part_with(alloc, body, put))?;
+            Ok(Prog::While { cond, body })
+        }
         Prog::Conc(one, other) => {
             let (one, other) = both(part_with(alloc, one, put), part_with(alloc, other, put))?;
             Ok(Prog::Conc(one, other))
@@ -235,12 +239,18 @@ pub(crate) fn prog_with(alloc: Global, prog: &Prog, put: Put) -> Result<Prog, No
             fuel,
             body,
             rest,
-        } => Ok(Prog::Follow {
-            depth: *depth,
-            fuel: *fuel,
-            body: part_with(alloc, body, put)?,
-            rest: ways_with(alloc, rest.as_slice(), put)?,
-        }),
+        } => {
+            let (body, rest) = both(
+                part_with(alloc, body, put),
+                ways_with(alloc, rest.as_slice(), put),
+            )?;
+            Ok(Prog::Follow {
+                depth: *depth,
+                fuel: *fuel,
+                body,
+                rest,
+            })
+        }
     }
 }
 
