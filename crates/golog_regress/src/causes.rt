@@ -1,8 +1,10 @@
-ghost use Rattle.std.specs.Prelude.{◌≡◌, ◌++◌, IfOk};
-ghost use Rattle.golog_regress.specs.Causes.{guarded as spec_guarded, is_plainly_true as spec_is_plainly_true, choice as spec_choice, layer as spec_layer, sorts_of as spec_sorts_of, chain as spec_chain};
+ghost use Rattle.std.specs.Prelude.{◌≡◌, [], ◌++◌, IfOk, Some};
+ghost use Rattle.golog_regress.specs.Causes.{matching as spec_matching, guarded as spec_guarded, is_plainly_true as spec_is_plainly_true, choice as spec_choice, layer as spec_layer, layered as spec_layered, sorts_of as spec_sorts_of, chain as spec_chain};
+ghost use Rattle.golog_regress.specs.Images.{cond_image, term_image};
 
+use crate::both::both;
 use crate::happened::Happened;
-use crate::matching::matching;
+use crate::matching::{Matched, matching};
 use crate::substitute::{cond_with, term_with};
 use golog_base::{Boxed, List, NoMemory};
 use golog_tree::{Agent, Arg, CauseItem, Cond, Term};
@@ -13,6 +15,7 @@ fn guarded(tests: List<Cond>, cond: Cond) -> Result<Cond, NoMemory>
     ensures { IfOk result (λ c. c ≡ spec_guarded tests cond) }
 {
     if tests.is_empty() {
+        drop(tests);
         Ok(cond)
     } else {
         let mut tests = tests;
@@ -36,13 +39,13 @@ fn choice(alloc: Global, cond: Cond, one: Term, other: Term) -> Result<Term, NoM
     ensures { IfOk result (λ t. t ≡ spec_choice cond one other) }
 {
     if is_plainly_true(&cond) {
+        drop(cond);
+        drop(other);
         Ok(one)
     } else {
-        Ok(Term::Ite {
-            cond: Boxed::new(alloc, cond)?,
-            yes: Boxed::new(alloc, one)?,
-            no: Boxed::new(alloc, other)?,
-        })
+        let parts = both(Boxed::new(alloc, one), Boxed::new(alloc, other));
+        let (cond, (yes, no)) = both(Boxed::new(alloc, cond), parts)?;
+        Ok(Term::Ite { cond, yes, no })
     }
 }
 
@@ -53,6 +56,63 @@ fn head_of(alloc: Global, cause: &CauseItem) -> Result<List<Arg>, NoMemory>
     let mut head = List::copy_of(alloc, cause.action_args.as_slice())?;
     head.extend(cause.fluent_args.as_slice())?;
     Ok(head)
+}
+
+/// The images and the tests under which the head of a cause is the given arguments: `None` exactly where it never is.
+fn matched_head(
+    alloc: Global,
+    cause: &CauseItem,
+    sorts: &[u32],
+    given: &[Arg],
+) -> Result<Option<Matched>, NoMemory>
+    ensures { IfOk result (λ matched. matched
+        ≡ spec_matching sorts.now (cause.now.action_args ++ cause.now.fluent_args) given.now [] []) }
+{
+    let head = head_of(alloc, cause)?;
+    let (found, tests) = (List::new(alloc), List::new(alloc));
+    let matched = matching(sorts, head.as_slice(), given, found, tests);
+    drop(head);
+    matched
+}
+
+/// The condition and the term of a cause, where its head is matched.
+fn effect_of(alloc: Global, cause: &CauseItem, matched: Matched) -> Result<(Cond, Term), NoMemory>
+    ensures { IfOk result (λ effect.
+        (effect.0 ≡ spec_guarded matched.tests (cond_image cause.now.cond matched.found))
+        × (effect.1 ≡ term_image cause.now.term matched.found)) }
+{
+    let Matched { found, tests } = matched;
+    let images = found.as_slice();
+    let parts = both(
+        cond_with(alloc, &cause.cond, images),
+        term_with(alloc, &cause.term, images),
+    );
+    drop(found);
+    match parts {
+        Ok((cond, term)) => both(guarded(tests, cond), Ok(term)),
+        Err(refused) => {
+            drop(tests);
+            Err(refused)
+        }
+    }
+}
+
+/// What a cause makes of a fluent where its head is matched, and the causes after it make the later term of it.
+fn layer_of(
+    alloc: Global,
+    cause: &CauseItem,
+    matched: Matched,
+    later: Term,
+) -> Result<Term, NoMemory>
+    ensures { IfOk result (λ t. t ≡ spec_layered cause.now (Some matched) later) }
+{
+    match effect_of(alloc, cause, matched) {
+        Ok((cond, term)) => choice(alloc, cond, term, later),
+        Err(refused) => {
+            drop(later);
+            Err(refused)
+        }
+    }
 }
 
 /// What a cause makes of a fluent at the given arguments, where the causes after it make the later term
@@ -66,20 +126,12 @@ fn layer(
 ) -> Result<Term, NoMemory>
     ensures { IfOk result (λ t. t ≡ spec_layer cause.now sorts.now given.now later) }
 {
-    let head = head_of(alloc, cause)?;
-    match matching(
-        sorts,
-        head.as_slice(),
-        given,
-        List::new(alloc),
-        List::new(alloc),
-    )? {
-        None => Ok(later),
-        Some(matched) => {
-            let images = matched.found.as_slice();
-            let cond = cond_with(alloc, &cause.cond, images)?;
-            let term = term_with(alloc, &cause.term, images)?;
-            choice(alloc, guarded(matched.tests, cond)?, term, later)
+    match matched_head(alloc, cause, sorts, given) {
+        Ok(Some(matched)) => layer_of(alloc, cause, matched, later),
+        Ok(None) => Ok(later),
+        Err(refused) => {
+            drop(later);
+            Err(refused)
         }
     }
 }

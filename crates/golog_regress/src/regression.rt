@@ -11,6 +11,7 @@ use crate::taking_back::cond_back;
 use golog_base::{List, NoMemory};
 use golog_tree::{Agent, Arg, CauseItem, Cond, Term, action_of, copy_cond, fluent_of};
 use std::alloc::Global;
+use std::slice;
 
 /// The constants as arguments.
 fn constants(alloc: Global, values: &[u8]) -> Result<List<Arg>, NoMemory>
@@ -62,20 +63,24 @@ fn before_sensing(
     ensures { IfOk result (λ answer. IsRegressed agent.now (Event.Sensed fluent value ∷ []) cond.now answer) }
 {
     let ground = fluent_of(agent, fluent);
-    let causes = [CauseItem {
+    let fluent_args = constants(alloc, &ground.args[..usize::from(ground.count)])?;
+    let cause = CauseItem {
         action: 0,
         action_args: List::new(alloc),
         fluent: ground.item,
-        fluent_args: constants(alloc, &ground.args[..usize::from(ground.count)])?,
+        fluent_args,
         term: Term::Arg(Arg::Const(value)),
         cond: Cond::Truth(true),
-    }];
+    };
     let happened = Happened {
         action: 0,
         sorts: List::new(alloc),
         args: List::new(alloc),
     };
-    cond_back(alloc, agent, &happened, &causes, cond)
+    let before = cond_back(alloc, agent, &happened, slice::from_ref(&cause), cond);
+    drop(happened);
+    drop(cause);
+    before
 }
 
 /// The condition taken back over an event: at all values, its truth before the event is that of the

@@ -1,6 +1,7 @@
 ghost use Rattle.std.specs.Prelude.{◌≡◌, [], ◌∷◌, ◌++◌, map, IfOk};
 ghost use Rattle.golog_regress.specs.Images.{image as spec_image, fresh as spec_fresh, cond_image, term_image};
 
+use crate::both::both;
 use crate::numbers::{fresh, image};
 use golog_base::{Boxed, List, NoMemory};
 use golog_tree::{Arg, Cond, Term};
@@ -55,11 +56,11 @@ pub fn term_with(alloc: Global, term: &Term, images: &[Arg]) -> Result<Term, NoM
             term: part_with(alloc, term, images)?,
             by: *by,
         }),
-        Term::Ite { cond, yes, no } => Ok(Term::Ite {
-            cond: body_with(alloc, cond, images)?,
-            yes: part_with(alloc, yes, images)?,
-            no: part_with(alloc, no, images)?,
-        }),
+        Term::Ite { cond, yes, no } => {
+            let parts = both(part_with(alloc, yes, images), part_with(alloc, no, images));
+            let (cond, (yes, no)) = both(body_with(alloc, cond, images), parts)?;
+            Ok(Term::Ite { cond, yes, no })
+        }
     }
 }
 
@@ -100,21 +101,30 @@ pub fn cond_with(alloc: Global, cond: &Cond, images: &[Arg]) -> Result<Cond, NoM
             fluent: *fluent,
             args: args_with(alloc, args.as_slice(), images)?,
         }),
-        Cond::Equal { sort, one, other } => Ok(Cond::Equal {
-            sort: *sort,
-            one: term_with(alloc, one, images)?,
-            other: term_with(alloc, other, images)?,
-        }),
-        Cond::Less { sort, one, other } => Ok(Cond::Less {
-            sort: *sort,
-            one: term_with(alloc, one, images)?,
-            other: term_with(alloc, other, images)?,
-        }),
-        Cond::AtMost { sort, one, other } => Ok(Cond::AtMost {
-            sort: *sort,
-            one: term_with(alloc, one, images)?,
-            other: term_with(alloc, other, images)?,
-        }),
+        Cond::Equal { sort, one, other } => {
+            let sort = *sort;
+            let (one, other) = both(
+                term_with(alloc, one, images),
+                term_with(alloc, other, images),
+            )?;
+            Ok(Cond::Equal { sort, one, other })
+        }
+        Cond::Less { sort, one, other } => {
+            let sort = *sort;
+            let (one, other) = both(
+                term_with(alloc, one, images),
+                term_with(alloc, other, images),
+            )?;
+            Ok(Cond::Less { sort, one, other })
+        }
+        Cond::AtMost { sort, one, other } => {
+            let sort = *sort;
+            let (one, other) = both(
+                term_with(alloc, one, images),
+                term_with(alloc, other, images),
+            )?;
+            Ok(Cond::AtMost { sort, one, other })
+        }
         Cond::Not(body) => Ok(Cond::Not(body_with(alloc, body, images)?)),
         Cond::And(conds) => Ok(Cond::And(conds_with(alloc, conds.as_slice(), images)?)),
         Cond::Or(conds) => Ok(Cond::Or(conds_with(alloc, conds.as_slice(), images)?)),

@@ -1,6 +1,7 @@
 ghost use Rattle.std.specs.Prelude.{◌≡◌, map, IfOk};
 ghost use Rattle.golog_regress.specs.Regressed.{is_true as spec_is_true, cond_back as spec_cond_back, term_back as spec_term_back};
 
+use crate::both::both;
 use crate::causes::chain;
 use crate::happened::Happened;
 use golog_base::{Boxed, List, NoMemory};
@@ -83,11 +84,14 @@ fn term_back(
             term: part_back(alloc, agent, happened, causes, term)?,
             by: *by,
         }),
-        Term::Ite { cond, yes, no } => Ok(Term::Ite {
-            cond: body_back(alloc, agent, happened, causes, cond)?,
-            yes: part_back(alloc, agent, happened, causes, yes)?,
-            no: part_back(alloc, agent, happened, causes, no)?,
-        }),
+        Term::Ite { cond, yes, no } => {
+            let parts = both(
+                part_back(alloc, agent, happened, causes, yes),
+                part_back(alloc, agent, happened, causes, no),
+            );
+            let (cond, (yes, no)) = both(body_back(alloc, agent, happened, causes, cond), parts)?;
+            Ok(Term::Ite { cond, yes, no })
+        }
     }
 }
 
@@ -125,21 +129,24 @@ pub fn cond_back(
             let term = chain(alloc, agent, causes, happened, *fluent, args.as_slice())?;
             is_true(alloc, term)
         }
-        Cond::Equal { sort, one, other } => Ok(Cond::Equal {
-            sort: *sort,
-            one: term_back(alloc, agent, happened, causes, one)?,
-            other: term_back(alloc, agent, happened, causes, other)?,
-        }),
-        Cond::Less { sort, one, other } => Ok(Cond::Less {
-            sort: *sort,
-            one: term_back(alloc, agent, happened, causes, one)?,
-            other: term_back(alloc, agent, happened, causes, other)?,
-        }),
-        Cond::AtMost { sort, one, other } => Ok(Cond::AtMost {
-            sort: *sort,
-            one: term_back(alloc, agent, happened, causes, one)?,
-            other: term_back(alloc, agent, happened, causes, other)?,
-        }),
+        Cond::Equal { sort, one, other } => {
+            let sort = *sort;
+            let other = term_back(alloc, agent, happened, causes, other);
+            let (one, other) = both(term_back(alloc, agent, happened, causes, one), other)?;
+            Ok(Cond::Equal { sort, one, other })
+        }
+        Cond::Less { sort, one, other } => {
+            let sort = *sort;
+            let other = term_back(alloc, agent, happened, causes, other);
+            let (one, other) = both(term_back(alloc, agent, happened, causes, one), other)?;
+            Ok(Cond::Less { sort, one, other })
+        }
+        Cond::AtMost { sort, one, other } => {
+            let sort = *sort;
+            let other = term_back(alloc, agent, happened, causes, other);
+            let (one, other) = both(term_back(alloc, agent, happened, causes, one), other)?;
+            Ok(Cond::AtMost { sort, one, other })
+        }
         Cond::Not(body) => Ok(Cond::Not(body_back(alloc, agent, happened, causes, body)?)),
         Cond::And(conds) => Ok(Cond::And(conds_back(
             alloc,

@@ -1,4 +1,4 @@
-ghost use Rattle.std.specs.Prelude.{◌≡◌, ◌≤◌, ◌&&◌, false, true, if◌then◌else◌, IfOk, IsTrue, not};
+ghost use Rattle.std.specs.Prelude.{◌≡◌, ◌≤◌, ◌&&◌, false, true, if◌then◌else◌, IfOk, IsTrue, nat_lt, not};
 ghost use Rattle.std.specs.Option.{is_some};
 ghost use Rattle.golog_tree.specs.Nest.{nest};
 ghost use Rattle.golog_semantics.specs.Blocks.{moves};
@@ -29,15 +29,25 @@ use std::alloc::Global;
 /// The deepest nest of what a step leaves.
 pub const NEST_LIMIT: u32 = 2048;
 
-/// The step, unless what it leaves nests too deep; that is known not to be so, or is measured.
+/// Whether what a step leaves nests too deep; that is known not to be so, or is measured.
+fn is_deep(left: &Prog, shallow: bool) -> bool
+    requires { shallow ≡ true → nest left.now ≤ nest_limit }
+    ensures { result ≡ nat_lt nest_limit (nest left.now) }
+{
+    !shallow && nest(left) > NEST_LIMIT
+}
+
+/// The step, unless what it leaves nests too deep.
 fn stepping(step: Move, shallow: bool) -> Decision
     requires { shallow ≡ true → nest step.left ≤ nest_limit }
     ensures { result ≡ after_step step }
 {
-    if !shallow && nest(&step.left) > NEST_LIMIT {
-        return Decision::Deep;
+    if is_deep(&step.left, shallow) {
+        drop(step);
+        Decision::Deep
+    } else {
+        Decision::Step(step)
     }
-    Decision::Step(step)
 }
 
 /// Whether what a step leaves is known to nest no deeper than the limit, as the program does where it is

@@ -1,11 +1,14 @@
-ghost use Rattle.std.specs.Prelude.{◌≡◌, ◌+◌, ◌<◌, IfOk, IsTrue, MatchOption, not, true};
+ghost use Rattle.std.specs.Prelude.{◌≡◌, ◌+◌, ◌<◌, [], ◌∷◌, IfOk, IsTrue, MatchOption, false, not, true};
 ghost use Rattle.golog_semantics.specs.BlockFree.{has_block};
 ghost use Rattle.golog_semantics.specs.ProgFits.{fits};
 ghost use Rattle.golog_semantics.specs.SortLaws.{AreInSorts};
+ghost use Rattle.golog_semantics.specs.Truth.{Values};
 ghost use Rattle.golog_semantics.specs.WellFormed.{WellFormed};
 ghost use Rattle.golog_search.specs.Finding.{found, found_by, mode_of as mode_for};
 ghost use Rattle.golog_search.specs.InWorlds.{AbsenceIsCertain, RunIsCertain};
-ghost use Rattle.golog_search.specs.Levels.{room_for};
+ghost use Rattle.golog_search.specs.Levels.{AreSearched, room_for, start_of};
+ghost use Rattle.golog_search.specs.Numbers.{IsNumbered, looked_of};
+ghost use Rattle.golog_search.specs.Visits.{AreKept};
 ghost use Rattle.golog_ways.specs.Searched.{IsSearched};
 
 use crate::found::Found;
@@ -46,21 +49,23 @@ fn room_of(bounded: bool, fuel: usize) -> Option<usize>
     if bounded { Some(fuel) } else { None }
 }
 
-/// The search of a block in a state, for runs in the mode. Where it is bounded, it looks at no more states
-/// than the block's fuel, and stores of the next level no more than what is left of that, one state and an end.
-pub fn search_block(
+/// What a search comes to that stands where it begins, for runs in the mode.
+fn search_on(
     alloc: Global,
     agent: &Agent,
     block: &Block,
-    state: &State,
+    search: &mut Search,
     mode: Mode,
     bounded: bool,
 ) -> Result<Found, NoMemory>
     requires agent { WellFormed agent.now }
-    requires searched { IsSearched agent.now block.now.body state.now }
-    ensures { IfOk result (λ f. f ≡ found_by bounded agent.now state.now mode block.now) }
+    requires numbers { IsNumbered search.old }
+    requires kept { AreKept agent.now search.old.nodes search.old.visits }
+    requires searched { AreSearched agent.now (looked_of search.old).last }
+    ensures { (values : Values) → IsSearched agent.now block.now.body values
+        → looked_of search.old ≡ record { before = []; last = start_of block.now.body values ∷ []; cut = false }
+        → IfOk result (λ f. f ≡ found_by bounded agent.now values mode block.now) }
 {
-    let mut search = Search::new(alloc, &block.body, state)?;
     let mut fuel = block.fuel as usize;
     for _step in 0..block.depth {
         let Some(rest) = spent(bounded, fuel, search.width()) else {
@@ -76,6 +81,26 @@ pub fn search_block(
     Ok(Found::Absent {
         cut: search.is_cut(),
     })
+}
+
+/// The search of a block in a state, for runs in the mode. Where it is bounded, it looks at no more states
+/// than the block's fuel, and stores of the next level no more than what is left of that, one state and an end.
+pub fn search_block(
+    alloc: Global,
+    agent: &Agent,
+    block: &Block,
+    state: &State,
+    mode: Mode,
+    bounded: bool,
+) -> Result<Found, NoMemory>
+    requires agent { WellFormed agent.now }
+    requires searched { IsSearched agent.now block.now.body state.now }
+    ensures { IfOk result (λ f. f ≡ found_by bounded agent.now state.now mode block.now) }
+{
+    let mut search = Search::new(alloc, &block.body, state)?;
+    let found = search_on(alloc, agent, block, &mut search, mode, bounded);
+    drop(search);
+    found
 }
 
 /// The search of a block in a state, for a run that is certain, or else for one that there may be were more

@@ -9,7 +9,9 @@ use std::alloc::Global;
 fn put_value(alloc: Global, prog: Prog, var: u8, value: u8) -> Result<Prog, NoMemory>
     ensures { IfOk result (λ p. p ≡ with_value prog var value) }
 {
-    put_arg(alloc, &prog, var, value)
+    let put = put_arg(alloc, &prog, var, value);
+    drop(prog);
+    put
 }
 
 /// The program with the argument put in for the variable, where it is a constant.

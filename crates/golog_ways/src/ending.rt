@@ -87,7 +87,9 @@ fn end_of_put(alloc: Global, agent: &Agent, prog: Prog) -> Result<Cond, NoMemory
     requires closed { IsClosed agent.now prog }
     ensures { IfOk result (IsClosedEnd agent.now prog) }
 {
-    end_of(alloc, agent, &prog)
+    let end = end_of(alloc, agent, &prog);
+    drop(prog);
+    end
 }
 
 #[cycle(ending)]

@@ -153,7 +153,9 @@ fn ends_of_put(alloc: Global, agent: &Agent, prog: Prog, values: &[u8]) -> Resul
     requires whole { length values.now ≡ length (ground_fluents agent.now) }
     ensures { IfOk result (EndsAs agent.now values.now prog) }
 {
-    ends_in(alloc, agent, &prog, values)
+    let ends = ends_in(alloc, agent, &prog, values);
+    drop(prog);
+    ends
 }
 
 #[cycle(ends)]

@@ -17,7 +17,9 @@ use std::alloc::Global;
 fn put_value(alloc: Global, cond: Cond, var: u8, value: u8) -> Result<Cond, NoMemory>
     ensures { IfOk result (λ c. c ≡ cond_put_one cond var (Arg.Const value)) }
 {
-    put_cond(alloc, &cond, var, value)
+    let put = put_cond(alloc, &cond, var, value);
+    drop(cond);
+    put
 }
 
 /// The condition with the argument put in for the variable, where it is a constant.

@@ -1,4 +1,4 @@
-ghost use Rattle.std.specs.Prelude.{◌≡◌, IfOk, IsTrue};
+ghost use Rattle.std.specs.Prelude.{◌≡◌, ◌∷◌, ◌++◌, [], IfOk, IsTrue, OnOk};
 ghost use Rattle.golog_semantics.specs.Fits.{cond_fits, nothing_bound};
 ghost use Rattle.golog_semantics.specs.Fronts.{open_ways as ways_opened};
 ghost use Rattle.golog_semantics.specs.Search.{plain_ways};
@@ -37,6 +37,27 @@ fn way_of(front: Front) -> Way
     Way { label, left }
 }
 
+/// Adds the step, without its condition, where it may be taken in the mode.
+fn add_open(
+    ways: &mut List<Way>,
+    agent: &Agent,
+    mode: Mode,
+    front: Front,
+    state: &State,
+) -> Result<(), NoMemory>
+    requires agent { WellFormed agent.now }
+    requires closed { IsTrue (cond_fits agent.now front.cond nothing_bound) }
+    requires sorts { AreInSorts agent.now state.now }
+    ensures { OnOk result (ways.new ≡ ways.old ++ ways_opened agent.now state.now mode (guarded_of front ∷ [])) }
+{
+    if is_open(agent, mode, &front, state) {
+        ways.push(way_of(front))
+    } else {
+        drop(front);
+        Ok(())
+    }
+}
+
 /// The steps that may be taken in the mode, in order.
 fn open_ways(
     alloc: Global,
@@ -52,9 +73,7 @@ fn open_ways(
 {
     let mut ways = List::new(alloc);
     for front in fronts.into_vec() {
-        if is_open(agent, mode, &front, state) {
-            ways.push(way_of(front))?;
-        }
+        add_open(&mut ways, agent, mode, front, state)?;
     }
     Ok(ways)
 }

@@ -255,7 +255,9 @@ fn first_of<B: Blocks>(
     ensures fuel { IfErr result
         (StopsAt agent.now (B.wants blocks.now agent.now values.now) false prog) }
 {
-    first_move(alloc, agent, blocks, &prog, values)
+    let first = first_move(alloc, agent, blocks, &prog, values);
+    drop(prog);
+    first
 }
 
 #[cycle(moving)]

@@ -136,7 +136,9 @@ fn fronts_of_put(alloc: Global, agent: &Agent, prog: Prog) -> Result<List<Front>
     requires closed { IsClosed agent.now prog }
     ensures { IfOk result (AreClosedFronts agent.now prog) }
 {
-    fronts_of(alloc, agent, &prog)
+    let fronts = fronts_of(alloc, agent, &prog);
+    drop(prog);
+    fronts
 }
 
 #[cycle(opening)]

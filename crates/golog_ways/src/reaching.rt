@@ -267,7 +267,9 @@ fn reach_of_put<B: Blocks>(
     ensures fuel { IfErr result
         (StopsAt agent.now (B.wants blocks.now agent.now values.now) true prog) }
 {
-    reach_of(alloc, agent, blocks, &prog, values)
+    let reach = reach_of(alloc, agent, blocks, &prog, values);
+    drop(prog);
+    reach
 }
 
 #[cycle(reach)]

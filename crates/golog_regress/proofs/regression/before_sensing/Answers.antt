@@ -30,12 +30,13 @@ returns c =
     let ground = c.fluent_of-ground.result in
     let vals = take ground.count ground.args in
     let k = and_cases (nat_lt c.args.fluent (length (ground_fluents agent))) (nat_lt c.args.value (sort_size agent (fluent_sort agent c.args.fluent))) c.requires.value in
-    let consts : c.in_ok-constants.field-0 ≡ map Const vals = c.in_ok-constants.ensures ∙ ap (λ n. map Const (take n ground.args)) c.from.ensures in
-    if-so (λ answer. IsRegressed agent (Sensed c.args.fluent c.args.value ∷ []) c.args.cond.now answer) _ c.cond_back.result c.cond_back.ensures
+    let consts : c.in_ok-fluent_args.fluent_args ≡ map Const vals = c.in_ok-fluent_args.ensures ∙ ap (λ n. map Const (take n ground.args)) c.from.ensures in
+    if-so (λ answer. IsRegressed agent (Sensed c.args.fluent c.args.value ∷ []) c.args.cond.now answer) _ c.cond_back-before.result c.cond_back-before.ensures
     (λ answer same.
     over_result agent c.requires.agent c.args.fluent ground.item c.args.value vals c.fluent_of-ground.ensures.named c.fluent_of-ground.ensures.fits
     (ltb-true c.args.value (sort_size agent (fluent_sort agent c.args.fluent)) k.1) (ltb-true c.args.fluent (length (ground_fluents agent)) k.0)
     c.args.cond.now answer
-    (same ∙ (λ i. cond_back agent (record { action = 0; sorts = c.new-2.ensures i; args = c.new-3.ensures i })
+    (same ∙ ap (λ causes. cond_back agent (record { action = 0; sorts = c.new-2.result; args = c.new-3.result }) causes c.args.cond.now) c.from_ref.ensures.value
+    ∙ (λ i. cond_back agent (record { action = 0; sorts = c.new-2.ensures i; args = c.new-3.ensures i })
     (record { action = 0; action_args = c.new.ensures i; fluent = ground.item; fluent_args = consts i; term = term.Arg (Const c.args.value); cond = cond.Truth true } ∷ [])
     c.args.cond.now)))

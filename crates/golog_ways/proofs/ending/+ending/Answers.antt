@@ -251,8 +251,8 @@ pub end_of_seq-returns-else-may_skip : goal.end_of_seq-returns-else-may_skip
 end_of_seq-returns-else-may_skip t c =
     seq_end_barred c.args.agent.now c.requires.fit.guarded c.args.one.now c.args.other.now (sym c.may_skip.ensures ∙ c.if-may_skip.false)
 
-pub end_of_put-end_of-requires : goal.end_of_put-end_of-requires
-end_of_put-end_of-requires t c =
+pub end_of_put-end_of-end-requires : goal.end_of_put-end_of-end-requires
+end_of_put-end_of-end-requires t c =
     let low : 1 + 3 * (front c.args.agent.now c.args.prog).height < 2 + 3 * (front c.args.agent.now c.args.prog).height = omega arith in
     search rules
 

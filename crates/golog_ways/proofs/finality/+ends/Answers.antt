@@ -266,8 +266,8 @@ pub ends_or-returns-in_ok-ends : goal.ends_or-returns-in_ok-ends
 ends_or-returns-in_ok-ends t c =
     or_more c.args.agent.now c.args.values.now c.args.so_far c.args.truth c.in_ok-ends.ends c.either.result c.args.prog.now (c.either.ensures ∙ ap (either c.args.so_far) c.both.ensures) c.in_ok-ends.ensures
 
-pub ends_of_put-ends_in-requires : goal.ends_of_put-ends_in-requires
-ends_of_put-ends_in-requires t c =
+pub ends_of_put-ends_in-ends-requires : goal.ends_of_put-ends_in-ends-requires
+ends_of_put-ends_in-ends-requires t c =
     let low : 1 + 3 * (front c.args.agent.now c.args.prog).height < 2 + 3 * (front c.args.agent.now c.args.prog).height = omega arith in
     search rules
 

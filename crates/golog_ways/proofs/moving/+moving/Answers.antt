@@ -357,8 +357,8 @@ pub first_of_if-returns-in-Unknown-clause-first : goal.first_of_if-returns-in-Un
 first_of_if-returns-in-Unknown-clause-first g t c =
     sym (if_first c.args.agent.now (g.B.Blocks.moves c.args.blocks.now c.args.agent.now c.args.values.now) c.args.values.now c.requires.fit.guarded c.args.cond.now c.args.yes.now c.args.no.now Unknown (sym c.in-Unknown.is ∙ c.truth.ensures))
 
-pub first_of-first_move-requires : goal.first_of-first_move-requires
-first_of-first_move-requires g t c κs within =
+pub first_of-first_move-first-requires : goal.first_of-first_move-first-requires
+first_of-first_move-first-requires g t c κs within =
     let low : 1 + 3 * (front c.args.agent.now c.args.prog).height < 2 + 3 * (front c.args.agent.now c.args.prog).height = omega arith in
     search rules
 

@@ -302,8 +302,8 @@ pub fronts_of_prio-returns : goal.fronts_of_prio-returns
 fronts_of_prio-returns t c =
     fronts_give c.args.agent.now (prog.Prio c.args.high.now c.args.low.now) (map (front_in (λ l. tidy_prio l c.args.low.now)) c.in_ok-highs.highs ++ map (front_in (λ l. tidy_prio c.args.high.now l)) (map (front_where (none_open c.in_ok-highs.highs)) c.in_ok-highs.lows)) c.one_over_other.result c.one_over_other.ensures (prio_fronts c.args.agent.now c.requires.fit.guarded c.args.high.now c.args.low.now c.in_ok-highs.highs c.in_ok-highs.lows c.in_ok-highs.ensures.one c.in_ok-highs.ensures.other)
 
-pub fronts_of_put-fronts_of-requires : goal.fronts_of_put-fronts_of-requires
-fronts_of_put-fronts_of-requires t c =
+pub fronts_of_put-fronts_of-fronts-requires : goal.fronts_of_put-fronts_of-fronts-requires
+fronts_of_put-fronts_of-fronts-requires t c =
     let low : 1 + 3 * (front c.args.agent.now c.args.prog).height < 2 + 3 * (front c.args.agent.now c.args.prog).height = omega arith in
     search rules
 

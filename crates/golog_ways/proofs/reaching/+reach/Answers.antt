@@ -108,8 +108,8 @@ reach_of_while-truth-is_so-requires-clause-fits g t c =
     let parts = while_parts c.args.agent.now (prog.While c.args.cond.now c.args.body.now) c.args.cond.now c.args.body.now c.requires.closed refl in
     parts.cond
 
-pub reach_of_put-reach_of-requires : goal.reach_of_put-reach_of-requires
-reach_of_put-reach_of-requires g t c κs within =
+pub reach_of_put-reach_of-reach-requires : goal.reach_of_put-reach_of-reach-requires
+reach_of_put-reach_of-reach-requires g t c κs within =
     let low : 1 + 3 * (front c.args.agent.now c.args.prog).height < 2 + 3 * (front c.args.agent.now c.args.prog).height = omega arith in
     search rules
 
