@@ -6,6 +6,7 @@ ghost use Rattle.golog_check.specs.Scope.{within};
 ghost use Rattle.golog_check.specs.Programs.{prog_step, prog_in, progs_in, parts_in, nested, joined, with_no, with_body};
 
 use crate::args::args_in;
+use crate::checked::both;
 use crate::conditions::cond_in;
 use crate::fault::CheckFault;
 use crate::names::Names;
@@ -38,8 +39,7 @@ fn joined(join: Join, first: Boxed<Prog>, second: Boxed<Prog>) -> Prog
 fn join_two(alloc: Global, join: Join, first: Prog, second: Prog) -> Result<Prog, NoMemory>
     ensures { IfOk result (λ prog. prog ≡ joined join first second) }
 {
-    let first = Boxed::new(alloc, first)?;
-    let second = Boxed::new(alloc, second)?;
+    let (first, second) = both(Boxed::new(alloc, first), Boxed::new(alloc, second))?;
     Ok(joined(join, first, second))
 }
 

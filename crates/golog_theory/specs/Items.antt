@@ -43,19 +43,6 @@ built_in_cause action value = record {
   at = 0;
 }
 
--- nothing
-abbrev pub empty : DraftTheory
-empty = record {
-  sorts = [];
-  fluents = [];
-  actions = [];
-  devices = [];
-  poss = [];
-  causes = [];
-  senses = [];
-  starts = [];
-}
-
 -- What is built in: the sort `bool`, the fluent `interrupts_running`, which starts false, and the actions
 -- that make it true and false.
 unfoldable pub built_in : DraftTheory

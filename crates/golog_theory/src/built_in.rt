@@ -1,7 +1,8 @@
 ghost use Rattle.std.specs.Prelude.{◌≡◌, [], ◌∷◌, IfOk, codes};
 ghost use Rattle.golog_base.specs.Names.{IsWord};
-ghost use Rattle.golog_theory.specs.Items.{bool_constants, built_in_action, built_in_cause, empty, built_in};
+ghost use Rattle.golog_theory.specs.Items.{bool_constants, built_in_action, built_in_cause, built_in};
 
+use crate::fault::both;
 use golog_base::{List, NoMemory, Word};
 use golog_tree::{
     DraftAction, DraftArg, DraftCause, DraftCond, DraftFluent, DraftSort, DraftStart, DraftTerm,
@@ -58,19 +59,69 @@ fn cause(alloc: Global, action: u32, value: Word) -> DraftCause
     }
 }
 
-fn empty(alloc: Global) -> DraftTheory
-    ensures { result ≡ empty }
+fn alone<T: Drop>(alloc: Global, item: T) -> Result<List<T>, NoMemory>
+    ensures { IfOk result (λ list. list ≡ item ∷ []) }
 {
-    DraftTheory {
-        sorts: List::new(alloc),
-        fluents: List::new(alloc),
-        actions: List::new(alloc),
-        devices: List::new(alloc),
-        poss: List::new(alloc),
-        causes: List::new(alloc),
-        senses: List::new(alloc),
-        starts: List::new(alloc),
-    }
+    let mut list = List::new(alloc);
+    list.push(item)?;
+    Ok(list)
+}
+
+fn pair<T: Drop>(alloc: Global, one: T, other: T) -> Result<List<T>, NoMemory>
+    ensures { IfOk result (λ list. list ≡ one ∷ other ∷ []) }
+{
+    let mut list = alone(alloc, one)?;
+    list.push(other)?;
+    Ok(list)
+}
+
+#[tactic(auto, unfolding(crate::specs::Items::built_in))]
+fn sorts(alloc: Global) -> Result<List<DraftSort>, NoMemory>
+    ensures { IfOk result (λ list. list ≡ built_in.sorts) }
+{
+    alone(alloc, bool_sort(alloc)?)
+}
+
+#[tactic(auto, unfolding(crate::specs::Items::built_in))]
+fn fluents(alloc: Global) -> Result<List<DraftFluent>, NoMemory>
+    ensures { IfOk result (λ list. list ≡ built_in.fluents) }
+{
+    let fluent = DraftFluent {
+        name: word_of(b"interrupts_running"),
+        args: List::new(alloc),
+        sort: 0,
+        at: 0,
+    };
+    alone(alloc, fluent)
+}
+
+#[tactic(auto, unfolding(crate::specs::Items::built_in))]
+fn actions(alloc: Global) -> Result<List<DraftAction>, NoMemory>
+    ensures { IfOk result (λ list. list ≡ built_in.actions) }
+{
+    let start = action(alloc, word_of(b"start_interrupts"));
+    pair(alloc, start, action(alloc, word_of(b"stop_interrupts")))
+}
+
+#[tactic(auto, unfolding(crate::specs::Items::built_in))]
+fn causes(alloc: Global) -> Result<List<DraftCause>, NoMemory>
+    ensures { IfOk result (λ list. list ≡ built_in.causes) }
+{
+    let start = cause(alloc, 0, word_of(b"true"));
+    pair(alloc, start, cause(alloc, 1, word_of(b"false")))
+}
+
+#[tactic(auto, unfolding(crate::specs::Items::built_in))]
+fn starts(alloc: Global) -> Result<List<DraftStart>, NoMemory>
+    ensures { IfOk result (λ list. list ≡ built_in.starts) }
+{
+    let word = word_of(b"false");
+    let start = DraftStart::Each {
+        fluent: 0,
+        value: Some(DraftArg::Word { word, at: 0 }),
+        at: 0,
+    };
+    alone(alloc, start)
 }
 
 /// What is built in: the sort `bool`, the fluent `interrupts_running`, which starts false, and the actions
@@ -79,29 +130,17 @@ fn empty(alloc: Global) -> DraftTheory
 pub fn built_in(alloc: Global) -> Result<DraftTheory, NoMemory>
     ensures { IfOk result (λ theory. theory ≡ built_in) }
 {
-    let mut theory = empty(alloc);
-    theory.sorts.push(bool_sort(alloc)?)?;
-    theory.fluents.push(DraftFluent {
-        name: word_of(b"interrupts_running"),
-        args: List::new(alloc),
-        sort: 0,
-        at: 0,
-    })?;
-    theory.starts.push(DraftStart::Each {
-        fluent: 0,
-        value: Some(DraftArg::Word {
-            word: word_of(b"false"),
-            at: 0,
-        }),
-        at: 0,
-    })?;
-    theory
-        .actions
-        .push(action(alloc, word_of(b"start_interrupts")))?;
-    theory
-        .actions
-        .push(action(alloc, word_of(b"stop_interrupts")))?;
-    theory.causes.push(cause(alloc, 0, word_of(b"true")))?;
-    theory.causes.push(cause(alloc, 1, word_of(b"false")))?;
-    Ok(theory)
+    let named = both(sorts(alloc), both(fluents(alloc), actions(alloc)));
+    let rules = both(causes(alloc), starts(alloc));
+    let ((sorts, (fluents, actions)), (causes, starts)) = both(named, rules)?;
+    Ok(DraftTheory {
+        sorts,
+        fluents,
+        actions,
+        devices: List::new(alloc),
+        poss: List::new(alloc),
+        causes,
+        senses: List::new(alloc),
+        starts,
+    })
 }
