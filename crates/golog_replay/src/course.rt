@@ -1,11 +1,12 @@
 //! The course of a journal: one entry after another is judged and taken, and nothing is gone through again.
 
-ghost use Rattle.std.specs.Prelude.{◌≡◌, ◌<◌, [], ◌∷◌, ◌++◌, length, IfOk, IsTrue, MatchOption, None, Some, unwrap_or};
+ghost use Rattle.std.specs.Prelude.{◌≡◌, ◌<◌, [], ◌∷◌, ◌++◌, length, IfOk, IsTrue, MatchOption, None, Some, true, false, unwrap_or};
 ghost use Rattle.std.specs.Option.{option_copied};
 ghost use Rattle.std.specs.Cmp.Lexicographic.{pointwise};
 ghost use Rattle.golog_search.specs.Decided.{decision};
 ghost use Rattle.golog_search.specs.Laws.{answer_of as answer_by, blocked_answer};
 ghost use Rattle.golog_semantics.specs.Answer.{answer_at};
+ghost use Rattle.golog_semantics.specs.Journal.{is_full, is_settled};
 ghost use Rattle.golog_semantics.specs.Online.{keeps_answer as keeps_answer_in, keeps_place, keeps_step, label_of as label_in, may_end as may_end_in, same_answer};
 ghost use Rattle.golog_semantics.specs.Progress.{left_after, values_after};
 ghost use Rattle.golog_semantics.specs.Reports.{fits_entry};
@@ -24,6 +25,7 @@ use golog_semantics::{Answer, Entry, Move, PlacedRun, Why};
 use golog_text::run_here;
 use golog_tree::{Agent, Label, Prog, copy_prog};
 use std::alloc::Global;
+use std::mem;
 
 /// What is kept of the entries so far, the values after them and the program left.
 #[derive(Drop)]
@@ -145,6 +147,21 @@ fn is_answer(found: Option<Answer>, answer: Answer) -> bool
     }
 }
 
+/// Whether what the program does next is the step of an entry, which has this label.
+fn steps_by(agent: &Agent, before: &[Entry], entry: Entry, label: Label, step: Move) -> Stepping
+    requires label { label_in entry ≡ Some label }
+    requires room { is_full before.now ≡ false }
+    requires settled { is_settled agent.now before.now ≡ true }
+    requires decided { Decision.Step step ≡ decision agent.now (values_after agent.now before.now) (left_after agent.now before.now) }
+    ensures { SteppingIs agent.now before.now (values_after agent.now before.now) (left_after agent.now before.now) entry result }
+{
+    if is_same_label(label, step.label) {
+        return Stepping::Steps(step);
+    }
+    drop(step);
+    Stepping::Breaks
+}
+
 /// A step that the program may take keeps the rules where its run is printed.
 fn judge_run(
     agent: &Agent,
@@ -158,20 +175,23 @@ fn judge_run(
     requires in_order { AreFrom (length before.now) runs.now }
     ensures { JudgedIs agent.now before.now runs.now entry result }
 {
-    if keeps_run(runs, before.len(), &step.run) {
-        Judged::Kept(Some(step.left))
-    } else {
-        Judged::Broken(Why::Run)
+    let kept = keeps_run(runs, before.len(), &step.run);
+    let Move { left, run, .. } = step;
+    drop(run);
+    if kept {
+        return Judged::Kept(Some(left));
     }
+    drop(left);
+    Judged::Broken(Why::Run)
 }
 
 /// Puts the new program in the place of the old, if there is one.
 fn replace(left: &mut Prog, new: Option<Prog>)
     ensures { left.new ≡ unwrap_or new left.old }
 {
-    if let Some(new) = new {
-        *left = new;
-    }
+    let old = mem::replace(left, Prog::Nil);
+    let nil = mem::replace(left, new.unwrap_or(old));
+    drop(nil);
 }
 
 impl Course {
@@ -219,13 +239,7 @@ impl Course {
         }
         let decision = self.decide(alloc, agent, before)?;
         match decision {
-            Decision::Step(step) => {
-                if is_same_label(label, step.label) {
-                    Ok(Stepping::Steps(step))
-                } else {
-                    Ok(Stepping::Breaks)
-                }
-            }
+            Decision::Step(step) => Ok(steps_by(agent, before, entry, label, step)),
             _ => Ok(Stepping::Breaks),
         }
     }
@@ -267,7 +281,9 @@ impl Course {
             return Ok(None);
         }
         let decision = self.decide(alloc, agent, before)?;
-        Ok(answer_of(self.standing.is_quiet(agent, before), &decision))
+        let answer = answer_of(self.standing.is_quiet(agent, before), &decision);
+        drop(decision);
+        Ok(answer)
     }
 
     /// Whether the program may end for want of fuel.

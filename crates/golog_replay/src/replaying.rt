@@ -157,6 +157,57 @@ fn last_verdict(course: &Course, agent: &Agent, entries: &[Entry]) -> Verdict
     }
 }
 
+/// The verdict on a report, whose entries the course goes along, from the first on, and whose lines are these.
+fn go_along(
+    course: &mut Course,
+    lines: &mut Lines<'_>,
+    text: &mut Line,
+    alloc: Global,
+    agent: &Agent,
+    bytes: &[u8],
+    report: &Report,
+) -> Result<Verdict, NoMemory>
+    requires follows { Follows agent.now [] course.old }
+    requires lines { lines.old ≡ lines_in bytes.now }
+    requires report { IsReport agent.now report.now }
+    ensures { IfOk result (VerdictIs agent.now bytes.now report.now) }
+{
+    let _bytes = bytes;
+    let entries = report.entries.as_slice();
+    let mut runs = report.runs.as_slice();
+    for (place, entry) in entries.iter().enumerate() {
+        let before = &entries[..place];
+        let broken = take(course, lines, text, alloc, agent, runs, before, *entry)?;
+        if let Some(why) = broken {
+            return Ok(Verdict::Not {
+                place: place as u32,
+                why,
+            });
+        }
+        runs = runs_behind(runs, place);
+    }
+    Ok(last_verdict(course, agent, entries))
+}
+
+/// The verdict on a report that was read from these bytes, whose lines are written in this room.
+fn replay_in(
+    text: &mut Line,
+    alloc: Global,
+    agent: &Agent,
+    bytes: &[u8],
+    report: &Report,
+) -> Result<Verdict, NoMemory>
+    requires formed { WellFormed agent.now }
+    requires report { IsReport agent.now report.now }
+    ensures { IfOk result (VerdictIs agent.now bytes.now report.now) }
+{
+    let mut course = Course::new(alloc, agent)?;
+    let mut lines = Lines::of(bytes);
+    let verdict = go_along(&mut course, &mut lines, text, alloc, agent, bytes, report);
+    drop(course);
+    verdict
+}
+
 /// Whether a report that was read from these bytes is an online execution of the agent, and else the first
 /// place where a rule is broken, and there the first of the rules in their order: `short` at the number of
 /// entries. Takes one decision for each action, test and end, and time for each entry and its line.
@@ -172,30 +223,8 @@ pub fn replay(
     requires report { IsReport agent.now report.now }
     ensures { IfOk result (VerdictIs agent.now bytes.now report.now) }
 {
-    let entries = report.entries.as_slice();
     let mut text = Line::new(alloc)?;
-    let mut course = Course::new(alloc, agent)?;
-    let mut lines = Lines::of(bytes);
-    let mut runs = report.runs.as_slice();
-    for (place, entry) in entries.iter().enumerate() {
-        let before = &entries[..place];
-        let broken = take(
-            &mut course,
-            &mut lines,
-            &mut text,
-            alloc,
-            agent,
-            runs,
-            before,
-            *entry,
-        )?;
-        if let Some(why) = broken {
-            return Ok(Verdict::Not {
-                place: place as u32,
-                why,
-            });
-        }
-        runs = runs_behind(runs, place);
-    }
-    Ok(last_verdict(&course, agent, entries))
+    let verdict = replay_in(&mut text, alloc, agent, bytes, report);
+    drop(text);
+    verdict
 }

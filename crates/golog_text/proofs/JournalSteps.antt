@@ -3,21 +3,21 @@ use Rattle.std.proofs.Common.{◌≡◌, ℕ, ◌<◌, ◌==◌, Option, Some, N
 use Rattle.std.specs.Result.{IsErrAnd}
 use Rattle.std.proofs.lemmas.List.Splits.{length-slice_split}
 use Rattle.golog_rows.specs.Reading.{Reading, outcome_behind}
-use Rattle.golog_rows.specs.Answers.{IfRefused}
+use Rattle.golog_rows.specs.Answers.{IfRefused, Leaves}
 use Rattle.golog_tree.specs.declared.agent.Agent.{Agent}
 use Rattle.golog_semantics.specs.declared.journal.Report.{Report}
 use Rattle.golog_semantics.specs.Text.{Text}
 use Rattle.golog_text.specs.declared.fault.TextFault.{TextFault}
 use Rattle.golog_text.specs.declared.reading.Line.{Line}
-use Rattle.golog_text.specs.Answers.{Answers}
+use Rattle.golog_text.specs.Answers.{Answers, code_at}
 use Rattle.golog_text.specs.Forms.{parts}
 use Rattle.golog_text.specs.Reads.{line_of, with_line, journal_from, journal_of}
 
 -- a fault that is passed on answers what it answered
-pub passed_on : {A : Type 0} (result : Result A TextFault) (fault : TextFault) (reading : Reading A) → IsErrAnd result (λ e. e ≡ fault)
-    → Answers {A = A} (Err fault) reading → Answers result reading
-passed_on (Ok x) fault reading is h = absurd is
-passed_on {A} (Err e) fault reading is h = subst (λ (f : TextFault). Answers {A = A} (Err f) reading) (sym is) h
+pub passed_on : {A : Type 0} (result : Result Unit TextFault) (fault : TextFault) (new : A) (reading : Reading A) → IsErrAnd result (λ e. e ≡ fault)
+    → Answers {A = A} (Err fault) reading → Leaves code_at result new reading
+passed_on (Ok done) fault new reading is h = absurd is
+passed_on {A} (Err e) fault new reading is h = subst (λ (f : TextFault). Answers {A = A} (Err f) reading) (sym is) h
 
 module _ (agent : Agent) where
   at-line : (report : Report) (text : Text) (texts : List Text) → 0 < length texts

@@ -1,4 +1,5 @@
-ghost use Rattle.std.specs.Prelude.{◌≡◌, ◌<◌, ◌++◌, IfOk, OnOk};
+ghost use Rattle.std.specs.Prelude.{◌≡◌, ◌<◌, [], ◌++◌, IfOk, OnOk};
+ghost use Rattle.golog_semantics.specs.Progress.{values_after};
 ghost use Rattle.golog_semantics.specs.Reports.{IsReport};
 ghost use Rattle.golog_semantics.specs.SortLaws.{AreInSorts};
 ghost use Rattle.golog_semantics.specs.Text.{report_text, run_at};
@@ -14,6 +15,55 @@ use golog_semantics::{Entry, PlacedRun, Report};
 use golog_tree::Agent;
 use std::alloc::Global;
 
+// Adds the lines of a report's entries, each of which is written in the room first. The values are those before any
+// entry, and then those after all.
+fn add_lines(
+    text: &mut Bytes,
+    line: &mut Line,
+    state: &mut State,
+    agent: &Agent,
+    report: &Report,
+) -> Result<(), NoMemory>
+    requires formed { WellFormed agent.now }
+    requires report { IsReport agent.now report.now }
+    requires empty { text.old ≡ [] }
+    requires values { state.old ≡ values_after agent.now [] }
+    requires sorts { AreInSorts agent.now state.old }
+    ensures { OnOk result (text.new ≡ report_text agent.now report.now) }
+{
+    let mut runs = report.runs.as_slice();
+    for (place, entry) in report.entries.as_slice().iter().enumerate() {
+        add_line(text, line, agent, state, runs, place, *entry)?;
+        state.roll(agent, &[*entry]);
+        runs = runs_behind(runs, place);
+    }
+    Ok(())
+}
+
+// The text of a report, each line of which is written in this room first.
+fn write_in(
+    line: &mut Line,
+    alloc: Global,
+    agent: &Agent,
+    report: &Report,
+) -> Result<Bytes, NoMemory>
+    requires formed { WellFormed agent.now }
+    requires report { IsReport agent.now report.now }
+    ensures { IfOk result (λ text. text ≡ report_text agent.now report.now) }
+{
+    let mut state = start(alloc, agent)?;
+    let mut text = Bytes::new(alloc);
+    let added = add_lines(&mut text, line, &mut state, agent, report);
+    drop(state);
+    match added {
+        Ok(()) => Ok(text),
+        Err(fault) => {
+            drop(text);
+            Err(fault)
+        }
+    }
+}
+
 /// The text of a report: a line for each entry, which is its place, a space and what the entry says, as in
 /// `3 do move(a,3) @arm`, `4 sense arm 3 true against false` or `5 end done`. A step that begins a run says
 /// its labels too, as in `0 test run -; move(a,3)`. Numbers are in decimal, places from 0 on.
@@ -24,16 +74,10 @@ pub fn write_journal(alloc: Global, agent: &Agent, report: &Report) -> Result<By
     requires report { IsReport agent.now report.now }
     ensures { IfOk result (λ text. text ≡ report_text agent.now report.now) }
 {
-    let mut text = Bytes::new(alloc);
     let mut line = Line::new(alloc)?;
-    let mut state = start(alloc, agent)?;
-    let mut runs = report.runs.as_slice();
-    for (place, entry) in report.entries.as_slice().iter().enumerate() {
-        add_line(&mut text, &mut line, agent, &state, runs, place, *entry)?;
-        state.roll(agent, &[*entry]);
-        runs = runs_behind(runs, place);
-    }
-    Ok(text)
+    let text = write_in(&mut line, alloc, agent, report);
+    drop(line);
+    text
 }
 
 // Adds the line of an entry that stands at this place, with these values before it, and its line feed. The

@@ -1,10 +1,11 @@
 // The report that the text of a journal says.
-ghost use Rattle.std.specs.Prelude.{◌≡◌, ◌<◌, ◌≤◌, true, length, is_some, IfOk, IsTrue, OnOk};
+ghost use Rattle.std.specs.Prelude.{◌≡◌, ◌<◌, ◌≤◌, [], true, length, is_some, IfOk, IsTrue, OnOk};
 ghost use Rattle.std.specs.Option.{option_map_or};
 ghost use Rattle.golog_tree.specs.Ground.{fluent_args, ground_count};
+ghost use Rattle.golog_rows.specs.Answers.{Leaves};
 ghost use Rattle.golog_semantics.specs.Reports.{IsReport};
 ghost use Rattle.golog_semantics.specs.WellFormed.{WellFormed};
-ghost use Rattle.golog_text.specs.Answers.{Answers, IsFirstRow};
+ghost use Rattle.golog_text.specs.Answers.{Answers, IsFirstRow, code_at};
 ghost use Rattle.golog_text.specs.Reads.{constant_named, is_in_place, has_small, sensed_by_entry, sensed_at, value_named, result_in, line_named, line_said, line_of, with_line, journal_of};
 ghost use Rattle.golog_text.specs.Views.{lent, body_of, said_of, named_of};
 
@@ -217,6 +218,36 @@ fn add_line(report: &mut Report, line: Line) -> Result<(), NoMemory>
     }
 }
 
+// Adds the lines that a text says to a report that has none.
+fn read_lines(
+    report: &mut Report,
+    alloc: Global,
+    agent: &Agent,
+    facts: &AgentFacts,
+    bytes: &[u8],
+) -> Result<(), TextFault>
+    requires formed { WellFormed agent.now }
+    requires facts { facts.now ≡ agent.now }
+    requires empty { (report.old.entries ≡ []) × (report.old.runs ≡ []) }
+    ensures { Leaves code_at result report.new (journal_of agent.now bytes.now) }
+{
+    let (mut text, mut behind) = cut(bytes, b'\n');
+    while let Some(rest) = behind {
+        let line = line_of(alloc, agent, facts, report.entries.as_slice(), text)?;
+        add_line(report, line)?;
+        let (next, others) = cut(rest, b'\n');
+        text = next;
+        behind = others;
+    }
+    if !text.is_empty() {
+        return Err(TextFault::Refused {
+            line: report.entries.len() as u32,
+            why: NO_BODY,
+        });
+    }
+    Ok(())
+}
+
 // The report that a text says.
 fn report_in(
     alloc: Global,
@@ -232,21 +263,13 @@ fn report_in(
         entries: List::new(alloc),
         runs: List::new(alloc),
     };
-    let (mut text, mut behind) = cut(bytes, b'\n');
-    while let Some(rest) = behind {
-        let line = line_of(alloc, agent, facts, report.entries.as_slice(), text)?;
-        add_line(&mut report, line)?;
-        let (next, others) = cut(rest, b'\n');
-        text = next;
-        behind = others;
+    match read_lines(&mut report, alloc, agent, facts, bytes) {
+        Ok(()) => Ok(report),
+        Err(fault) => {
+            drop(report);
+            Err(fault)
+        }
     }
-    if !text.is_empty() {
-        return Err(TextFault::Refused {
-            line: report.entries.len() as u32,
-            why: NO_BODY,
-        });
-    }
-    Ok(report)
 }
 
 /// The report that the text of a journal says, or its first refusal: the least line that is refused, and there
@@ -266,5 +289,7 @@ pub fn read_journal(alloc: Global, agent: &Agent, bytes: &[u8]) -> Result<Report
     ensures fits { IfOk result (IsReport agent.now) }
 {
     let facts = AgentFacts::of(alloc, agent)?;
-    report_in(alloc, agent, &facts, bytes)
+    let report = report_in(alloc, agent, &facts, bytes);
+    drop(facts);
+    report
 }

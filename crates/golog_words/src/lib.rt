@@ -6,8 +6,6 @@ mod matches;
 mod order;
 mod reading;
 mod size;
-#[cfg(test)]
-mod tests;
 
 pub use order::{Order, WordsFault};
 pub use reading::order_of;

@@ -15,15 +15,14 @@ pub(crate) fn run_matches<'w>(alloc: Global, words: &'w [String]) -> Result<ArgM
     ensures fails { IfErr result (λ error. IsSome (run_in (drop 1 (map string_bytes words.entry.now)))
         → kind_of error ≡ ErrorKind.OutOfMemory) }
 {
-    let agent = Arg::new(alloc, "agent");
-    let devices = Arg::new(alloc, "devices");
-    let inline = Arg::new(alloc, "inline")
-        .long("inline")
-        .action(ArgAction::SetTrue);
     let command = Command::new(alloc, "run")
-        .arg(agent)?
-        .arg(devices)?
-        .arg(inline)?;
+        .arg(Arg::new(alloc, "agent"))?
+        .arg(Arg::new(alloc, "devices"))?
+        .arg(
+            Arg::new(alloc, "inline")
+                .long("inline")
+                .action(ArgAction::SetTrue),
+        )?;
     command.try_get_matches_from(words)
 }
 
@@ -49,9 +48,9 @@ pub(crate) fn replay_matches<'w>(
     ensures fails { IfErr result (λ error. IsSome (replay_in (drop 1 (map string_bytes words.entry.now)))
         → kind_of error ≡ ErrorKind.OutOfMemory) }
 {
-    let agent = Arg::new(alloc, "agent");
-    let journal = Arg::new(alloc, "journal");
-    let command = Command::new(alloc, "replay").arg(agent)?.arg(journal)?;
+    let command = Command::new(alloc, "replay")
+        .arg(Arg::new(alloc, "agent"))?
+        .arg(Arg::new(alloc, "journal"))?;
     command.try_get_matches_from(words)
 }
 
@@ -62,13 +61,10 @@ pub(crate) fn ask_matches<'w>(alloc: Global, words: &'w [String]) -> Result<ArgM
     ensures fails { IfErr result (λ error. IsSome (ask_in (drop 1 (map string_bytes words.entry.now)))
         → kind_of error ≡ ErrorKind.OutOfMemory) }
 {
-    let agent = Arg::new(alloc, "agent");
-    let journal = Arg::new(alloc, "journal");
-    let condition = Arg::new(alloc, "condition");
     let command = Command::new(alloc, "ask")
-        .arg(agent)?
-        .arg(journal)?
-        .arg(condition)?;
+        .arg(Arg::new(alloc, "agent"))?
+        .arg(Arg::new(alloc, "journal"))?
+        .arg(Arg::new(alloc, "condition"))?;
     command.try_get_matches_from(words)
 }
 

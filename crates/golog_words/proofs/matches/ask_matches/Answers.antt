@@ -6,9 +6,9 @@ use Rattle.golog_words.proofs.matches.ask_matches.Goals as goal
 
 pub returns : goal.returns
 returns c =
-    let agent_is : rule_of c.new-agent.result ≡ new_rule (codes "agent") = search rules in
-    let journal_is : rule_of c.new-journal.result ≡ new_rule (codes "journal") = search rules in
-    let condition_is : rule_of c.new-condition.result ≡ new_rule (codes "condition") = search rules in
+    let agent_is : rule_of c.new-2.result ≡ new_rule (codes "agent") = search rules in
+    let journal_is : rule_of c.new-3.result ≡ new_rule (codes "journal") = search rules in
+    let condition_is : rule_of c.new-4.result ≡ new_rule (codes "condition") = search rules in
     let same : app_of c.in_ok-command.command ≡ asking = c.in_ok-command.ensures.shape (search rules)
     ∙ ap₂ with_rule (c.in_ok-arg-2.ensures.shape (search rules)
     ∙ ap₂ with_rule (c.in_ok-arg.ensures.shape (search rules)

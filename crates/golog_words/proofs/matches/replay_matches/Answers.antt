@@ -6,8 +6,8 @@ use Rattle.golog_words.proofs.matches.replay_matches.Goals as goal
 
 pub returns : goal.returns
 returns c =
-    let agent_is : rule_of c.new-agent.result ≡ new_rule (codes "agent") = search rules in
-    let journal_is : rule_of c.new-journal.result ≡ new_rule (codes "journal") = search rules in
+    let agent_is : rule_of c.new-2.result ≡ new_rule (codes "agent") = search rules in
+    let journal_is : rule_of c.new-3.result ≡ new_rule (codes "journal") = search rules in
     let same : app_of c.in_ok-command.command ≡ replaying = c.in_ok-command.ensures.shape (search rules)
     ∙ ap₂ with_rule (c.in_ok-arg.ensures.shape (search rules) ∙ ap₂ with_rule c.new.ensures.app agent_is) journal_is in
     let words = map string_bytes c.args.words.now in

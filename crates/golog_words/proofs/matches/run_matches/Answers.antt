@@ -6,13 +6,13 @@ use Rattle.golog_words.proofs.matches.run_matches.Goals as goal
 
 pub returns : goal.returns
 returns c =
-    let agent_is : rule_of c.new-agent.result ≡ new_rule (codes "agent") = search rules in
-    let devices_is : rule_of c.new-devices.result ≡ new_rule (codes "devices") = search rules in
-    let inline_is : rule_of c.action-inline.result ≡ inline = search rules in
+    let agent_is : rule_of c.new-2.result ≡ new_rule (codes "agent") = search rules in
+    let devices_is : rule_of c.new-3.result ≡ new_rule (codes "devices") = search rules in
+    let inline_is : rule_of c.action.result ≡ inline = search rules in
     let same : app_of c.in_ok-command.command ≡ running = c.in_ok-command.ensures.shape (search rules)
     ∙ ap₂ with_rule (c.in_ok-arg-2.ensures.shape (search rules)
     ∙ ap₂ with_rule (c.in_ok-arg.ensures.shape (search rules)
-    ∙ ap₂ with_rule c.new-2.ensures.app agent_is) devices_is) inline_is in
+    ∙ ap₂ with_rule c.new.ensures.app agent_is) devices_is) inline_is in
     let words = map string_bytes c.args.words.now in
     let parse = c.try_get_matches_from in
     record {

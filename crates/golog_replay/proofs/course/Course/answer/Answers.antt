@@ -36,5 +36,5 @@ returns c =
     let V = values_after agent before in
     let P = left_after agent before in
     answer-decided agent before V P (sym c.is_full.ensures ∙ c.if-is_full.false) (sym c.is_unanswered.ensures ∙ c.if-is_unanswered.false)
-    (sym c.is_settled.ensures ∙ c.if-not-is_settled.false) c.is_quiet.result c.in_ok-decision.decision c.answer_of.result c.answer_of.ensures
+    (sym c.is_settled.ensures ∙ c.if-not-is_settled.false) c.is_quiet.result c.in_ok-decision.decision c.answer_of-answer.result c.answer_of-answer.ensures
     c.is_quiet.ensures c.in_ok-decision.ensures

@@ -4,7 +4,7 @@ use Rattle.golog_text.proofs.RunsBehind.{from_place}
 use Rattle.golog_replay.specs.Courses.{Follows}
 use Rattle.golog_replay.specs.Verdicts.{lines_in}
 use Rattle.golog_replay.proofs.Along.{faults_from}
-use Rattle.golog_replay.proofs.replaying.replay.Given as goal
+use Rattle.golog_replay.proofs.replaying.go_along.Given as goal
 
 abbrev pub invariant-loop-place : goal.invariant-loop-place
 invariant-loop-place l = record {

@@ -3,7 +3,7 @@ use Rattle.golog_semantics.specs.Progress.{values_after}
 use Rattle.golog_semantics.specs.SortLaws.{AreInSorts}
 use Rattle.golog_text.proofs.Lines.{lines_from}
 use Rattle.golog_text.proofs.RunsBehind.{from_place}
-use Rattle.golog_text.proofs.journal.write_journal.Given as goal
+use Rattle.golog_text.proofs.journal.add_lines.Given as goal
 
 abbrev pub invariant-loop-place : goal.invariant-loop-place
 invariant-loop-place l = record {

@@ -6,7 +6,7 @@ use Rattle.golog_text.specs.Forms.{parts_behind}
 use Rattle.golog_text.specs.Reads.{journal_from, journal_of, line_of}
 use Rattle.golog_text.specs.Views.{lent}
 use Rattle.golog_text.proofs.JournalSteps.{begun, line_goes_on, line_is_refused, no_line_feed, nothing_behind, passed_on}
-use Rattle.golog_text.proofs.reading.report_in.Goals as goal
+use Rattle.golog_text.proofs.reading.read_lines.Goals as goal
 
 pub loop-behind-init : goal.loop-behind-init
 loop-behind-init c =
@@ -15,9 +15,9 @@ loop-behind-init c =
     let others = parts_behind 10 (lent c.cut.result.1) in
     record {
       same =
-          (λ i. (journal_from agent (record { entries = c.new.ensures i; runs = c.new-2.ensures i }) (first ∷ others)).outcome)
+          (λ i. (journal_from agent (record { entries = c.requires.empty.0 i; runs = c.requires.empty.1 i }) (first ∷ others)).outcome)
           ∙ begun agent c.args.bytes.now first others c.cut.ensures.parts;
-      few = omega (arith, ap length c.new.ensures);
+      few = omega (arith, ap length c.requires.empty.0);
     }
 
 pub returns-in_err-line : goal.returns-in_err-line
@@ -29,7 +29,7 @@ returns-in_err-line c =
     let whole = journal_of agent c.args.bytes.now in
     let so_far = subst (λ b. (journal_from agent report (text ∷ parts_behind 10 (lent b))).outcome ≡ whole.outcome) c.in-Some.is c.loop-behind.invariant.same in
     let here = subst (λ (es : List Entry). Answers {A = Line} (Err fault) (line_of agent es text)) c.as_slice.ensures c.in_err-line.ensures.said in
-    passed_on c.from_residual.result fault whole c.from_residual.ensures.1
+    passed_on c.from_residual.result fault report whole c.from_residual.ensures.1
     (line_is_refused agent report text c.in-Some.rest.now whole.outcome so_far (code_at fault) here)
 
 pub loop-behind-preserved : goal.loop-behind-preserved

@@ -15,14 +15,14 @@ use Rattle.golog_replay.specs.Courses.{Follows, TakenIs}
 use Rattle.golog_replay.specs.Verdicts.{VerdictIs, lines_in}
 use Rattle.golog_replay.proofs.Along.{broken-here, fits-there, from-end, from-start, kept-here, lines-on, not-online, then-more}
 use Rattle.golog_replay.proofs.Noting.{not-some}
-use Rattle.golog_replay.proofs.replaying.replay.Goals as goal
+use Rattle.golog_replay.proofs.replaying.go_along.Goals as goal
 
 pub loop-place-init : goal.loop-place-init
 loop-place-init c = record {
-  follows = c.in_ok-course.ensures;
+  follows = c.requires.follows;
   so_far = from-start c.args.agent.now (lines_in c.args.bytes.now) c.args.report.now;
   runs = c.as_slice-runs.ensures ∙ from_start c.args.report.now.runs;
-  lines = c.of-lines.ensures;
+  lines = c.requires.lines;
 }
 
 pub take-requires-clause-follows : goal.take-requires-clause-follows

@@ -11,15 +11,15 @@ use Rattle.golog_text.specs.Named.{AreFrom, AreLabels, AreNamed, IsNamed}
 use Rattle.golog_text.proofs.Lines.{lines_from, lines_go_on, next_values, no_lines, whole_text}
 use Rattle.golog_text.proofs.RunsBehind.{behind_place, from_grows, from_next, from_start}
 use Rattle.golog_text.proofs.Things.{entries_named, named_fits, runs_named}
-use Rattle.golog_text.proofs.journal.write_journal.Goals as goal
+use Rattle.golog_text.proofs.journal.add_lines.Goals as goal
 
 pub loop-place-init : goal.loop-place-init
 loop-place-init c =
     let report = c.args.report.now in
     record {
-      text = ap (λ t. t ++ lines_from c.args.agent.now report.runs report.entries 0) c.new-text.ensures;
-      values = c.in_ok-state.ensures.values;
-      sorts = c.in_ok-state.ensures.sorts;
+      text = ap (λ t. t ++ lines_from c.args.agent.now report.runs report.entries 0) c.requires.empty;
+      values = c.requires.values;
+      sorts = c.requires.sorts;
       runs = c.as_slice-runs.ensures ∙ from_start report.runs;
     }
 

@@ -2,7 +2,7 @@ use Rattle.std.proofs.Common.{◌≡◌, ◌≤◌, ◌∷◌, length}
 use Rattle.golog_text.specs.Forms.{parts_behind, length_behind}
 use Rattle.golog_text.specs.Reads.{journal_from, journal_of}
 use Rattle.golog_text.specs.Views.{lent}
-use Rattle.golog_text.proofs.reading.report_in.Given as goal
+use Rattle.golog_text.proofs.reading.read_lines.Given as goal
 
 abbrev pub invariant-loop-behind : goal.invariant-loop-behind
 invariant-loop-behind l = record {
