@@ -11,6 +11,7 @@ ghost use Rattle.golog_search.specs.Decided.{IsAhead, IsDecided};
 ghost use Rattle.golog_agent.specs.Configuration.{IsSound, configuration_after, with_entry};
 ghost use Rattle.golog_agent.specs.Deciding.{is_standing};
 
+use crate::both::both;
 use golog_base::{Bytes, List, NoMemory};
 use golog_progress::{State, start};
 use golog_search::{Decision, decide_blocked, decide_step_of};
@@ -98,9 +99,8 @@ impl<'a> Decider<'a> {
         requires { WellFormed agent.now }
         ensures { IfOk result (λ decider. decider ≡ configuration_after agent.now []) }
     {
-        let state = start(alloc, agent)?;
-        let left = copy_prog(alloc, &agent.main)?;
-        let watches = Watches::new(alloc)?;
+        let known = both(start(alloc, agent), copy_prog(alloc, &agent.main));
+        let ((state, left), watches) = both(known, Watches::new(alloc))?;
         Ok(Decider {
             agent,
             state,

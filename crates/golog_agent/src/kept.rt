@@ -2,6 +2,7 @@
 ghost use Rattle.std.specs.Prelude.{◌≡◌, ◌≤◌, [], ◌∷◌, ◌++◌, length, IfOk};
 ghost use Rattle.golog_semantics.specs.Journal.{longest};
 
+use crate::both::both;
 use crate::record::Record;
 use crate::runs::Runs;
 use crate::under_way::Core;
@@ -72,8 +73,7 @@ impl Kept {
         ensures entries { IfOk result (λ kept. kept.entries ≡ []) }
         ensures runs { IfOk result (λ kept. kept.runs ≡ []) }
     {
-        let entries = Entries::new(alloc)?;
-        let runs = Runs::new(alloc)?;
+        let (entries, runs) = both(Entries::new(alloc), Runs::new(alloc))?;
         Ok(Kept { entries, runs })
     }
 

@@ -1,6 +1,7 @@
 //! The online execution of an agent's program, over a board.
 #![tactic(auto)]
 
+mod both;
 mod decider;
 mod driver;
 mod kept;

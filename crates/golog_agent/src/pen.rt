@@ -2,6 +2,7 @@
 ghost use Rattle.std.specs.Prelude.{◌≡◌, [], IfOk};
 ghost use Rattle.golog_semantics.specs.WellFormed.{WellFormed};
 
+use crate::both::both;
 use crate::under_way::Core;
 use golog_base::NoMemory;
 use golog_text::Line;
@@ -21,8 +22,7 @@ impl<'a> Pen<'a> {
         requires { WellFormed agent.now }
         ensures { IfOk result (λ pen. pen.core ≡ record { agent = agent.now; list = [] }) }
     {
-        let line = Line::new(alloc)?;
-        let core = Core::new(alloc, agent)?;
+        let (line, core) = both(Line::new(alloc), Core::new(alloc, agent))?;
         Ok(Pen { core, line })
     }
 }

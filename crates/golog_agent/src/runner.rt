@@ -11,6 +11,7 @@ ghost use Rattle.golog_agent.specs.Leading.{led_for};
 ghost use Rattle.golog_agent.specs.Turns.{TurnIs};
 
 use crate::OnlineLead;
+use crate::both::both;
 use crate::driver::{Driver, Stepped};
 use crate::kept::Kept;
 use crate::under_way::Core;
@@ -62,8 +63,7 @@ impl<'a> Runner<'a> {
         requires { WellFormed agent.now }
         ensures { IfOk result (λ runner. runner ≡ record { agent = agent.now; list = [] }) }
     {
-        let record = Kept::new(alloc)?;
-        let core = Core::new(alloc, agent)?;
+        let (record, core) = both(Kept::new(alloc), Core::new(alloc, agent))?;
         Ok(Runner {
             driver: Driver { core, record },
         })

@@ -14,6 +14,7 @@ ghost use Rattle.golog_journal.specs.Boards.{IsBoardList};
 ghost use Rattle.golog_agent.specs.Keeping.{awaited_by, ended_by, EndsBy, IsUnderWay, KeepsRules};
 ghost use Rattle.golog_agent.specs.Planned.{PlanIs, IsNextStep};
 
+use crate::both::both;
 use crate::decider::Decider;
 use crate::plan::{Plan, planned};
 use golog_base::NoMemory;
@@ -94,8 +95,7 @@ impl<'a> Core<'a> {
         requires { WellFormed agent.now }
         ensures { IfOk result (λ core. core ≡ record { agent = agent.now; list = [] }) }
     {
-        let counts = Counts::new(alloc, agent)?;
-        let decider = Decider::new(alloc, agent)?;
+        let (counts, decider) = both(Counts::new(alloc, agent), Decider::new(alloc, agent))?;
         Ok(Core {
             alloc,
             counts,

@@ -31,6 +31,12 @@ pub ended-so : (fault : Unready) (P Q : Outcome → Type 0) → ((outcome : Outc
 ended-so (Ended outcome) P Q so h = so outcome h
 ended-so Memory P Q so h = tt
 
+-- what is so of a refusal is so of what the call comes to
+pub ends-so : {E : Type 0} (r : Result Outcome E) (fault : Unready) (P Q : Outcome → Type 0) → IfOk r (λ outcome. fault ≡ Ended outcome)
+    → ((outcome : Outcome) → P outcome → Q outcome) → IfEnded fault P → IfOk r Q
+ends-so (Ok outcome) fault P Q is so h = so outcome (subst (λ f. IfEnded f P) is h)
+ends-so (Err e) fault P Q is so h = tt
+
 module _ (input : Input) (held : Option (List HeldFile)) (name : Text) (before after : ℕ) where
   -- a file with more bytes than the limit
   pub too-long : (limit : ℕ) (fault : Unready) → limit ≡ input_limit input → FileHas held name (λ told. limit < length told)

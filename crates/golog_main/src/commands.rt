@@ -14,7 +14,7 @@ ghost use Rattle.golog_main.specs.declared.outcome.Outcome.TheVariants.{Checked}
 use crate::demos::demonstrated;
 use crate::judged::replayed;
 use crate::outcome::Outcome;
-use crate::ready::{Told, Unready, agent_in, condition_in, ready_in, told_in, understood_in};
+use crate::ready::{Told, agent_in, condition_in, ended, ready_in, told_in, understood_in};
 use crate::run::{run_in_rounds, run_on_threads};
 use crate::writing::{report_if, report_unready};
 use golog_ask::ask;
@@ -149,8 +149,7 @@ fn checked<F: Files>(alloc: Global, files: &mut F, name: &str) -> Result<Outcome
             drop(agent);
             outcome
         }
-        Err(Unready::Ended(outcome)) => Ok(outcome),
-        Err(Unready::Memory) => Err(NoMemory),
+        Err(unready) => ended(unready),
     }
 }
 
@@ -181,8 +180,7 @@ fn asked<F: Files>(
             drop(understood);
             outcome
         }
-        Err(Unready::Ended(outcome)) => Ok(outcome),
-        Err(Unready::Memory) => Err(NoMemory),
+        Err(unready) => ended(unready),
     }
 }
 
@@ -207,8 +205,7 @@ fn asked_of<F: Files>(
             drop(told);
             outcome
         }
-        Err(Unready::Ended(outcome)) => Ok(outcome),
-        Err(Unready::Memory) => Err(NoMemory),
+        Err(unready) => ended(unready),
     }
 }
 
@@ -231,8 +228,7 @@ fn asked_after(
             drop(cond);
             outcome
         }
-        Err(Unready::Ended(outcome)) => Ok(outcome),
-        Err(Unready::Memory) => Err(NoMemory),
+        Err(unready) => ended(unready),
     }
 }
 

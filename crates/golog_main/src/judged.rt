@@ -1,5 +1,5 @@
 // What a replay comes to.
-ghost use Rattle.std.specs.Prelude.{◌≡◌, IfOk};
+ghost use Rattle.std.specs.Prelude.{◌≡◌, ◌++◌, IfOk, OnOk};
 ghost use Rattle.golog_semantics.specs.Reports.{IsReport};
 ghost use Rattle.golog_semantics.specs.Verdicts.{why_text};
 ghost use Rattle.golog_semantics.specs.WellFormed.{WellFormed};
@@ -7,7 +7,8 @@ ghost use Rattle.golog_main.specs.Outcome.{Judges, OfAgent, OfJournal, verdict_l
 ghost use Rattle.golog_replay.specs.declared.verdict.Verdict.TheVariants.{Online, Not};
 
 use crate::outcome::Outcome;
-use crate::ready::{Told, Unready, agent_in, told_in};
+use crate::ready::{Told, agent_in, ended, told_in};
+use crate::writing::add_count;
 use golog_base::{Bytes, Files, NoMemory};
 use golog_replay::{Verdict, replay};
 use golog_semantics::{Answer, Why};
@@ -31,8 +32,7 @@ pub fn replayed<F: Files>(
             drop(agent);
             outcome
         }
-        Err(Unready::Ended(outcome)) => Ok(outcome),
-        Err(Unready::Memory) => Err(NoMemory),
+        Err(unready) => ended(unready),
     }
 }
 
@@ -53,8 +53,7 @@ fn replayed_of<F: Files>(
             drop(told);
             outcome
         }
-        Err(Unready::Ended(outcome)) => Ok(outcome),
-        Err(Unready::Memory) => Err(NoMemory),
+        Err(unready) => ended(unready),
     }
 }
 
@@ -84,10 +83,22 @@ fn online_line(alloc: Global, answer: Answer) -> Result<Bytes, NoMemory>
     ensures { IfOk result (λ text. text ≡ verdict_line (Online answer)) }
 {
     let mut text = Bytes::new(alloc);
+    match add_online(&mut text, answer) {
+        Ok(()) => Ok(text),
+        Err(fault) => {
+            drop(text);
+            Err(fault)
+        }
+    }
+}
+
+// Adds that line.
+fn add_online(text: &mut Bytes, answer: Answer) -> Result<(), NoMemory>
+    ensures { OnOk result (text.new ≡ text.old ++ verdict_line (Online answer)) }
+{
     text.extend(b"online ")?;
     text.extend(answer_name(answer))?;
-    text.extend(b"\n")?;
-    Ok(text)
+    text.extend(b"\n")
 }
 
 // The line of a journal in which this rule is broken at a place.
@@ -95,12 +106,23 @@ fn not_online_line(alloc: Global, place: u32, why: Why) -> Result<Bytes, NoMemor
     ensures { IfOk result (λ text. text ≡ verdict_line (Not place why)) }
 {
     let mut text = Bytes::new(alloc);
-    text.extend(b"not online ")?;
-    text.extend(format!(in alloc; "{place}")?.as_bytes())?;
+    match add_not_online(alloc, &mut text, place, why) {
+        Ok(()) => Ok(text),
+        Err(fault) => {
+            drop(text);
+            Err(fault)
+        }
+    }
+}
+
+// Adds that line.
+fn add_not_online(alloc: Global, text: &mut Bytes, place: u32, why: Why) -> Result<(), NoMemory>
+    ensures { OnOk result (text.new ≡ text.old ++ verdict_line (Not place why)) }
+{
+    add_count(alloc, text, b"not online ", place as usize)?;
     text.extend(b" ")?;
     text.extend(why_name(why))?;
-    text.extend(b"\n")?;
-    Ok(text)
+    text.extend(b"\n")
 }
 
 // The word for a rule.

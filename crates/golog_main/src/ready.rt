@@ -1,5 +1,5 @@
 // What the inputs of a command hold.
-ghost use Rattle.std.specs.Prelude.{◌≡◌, ◌≤◌, All, IfOk, IfErr, IsTrue, IsSomeAnd, length, option_map};
+ghost use Rattle.std.specs.Prelude.{◌≡◌, ◌≤◌, ◌++◌, All, IfOk, IfErr, IsTrue, IsSomeAnd, OnOk, length, option_map};
 ghost use Rattle.golog_semantics.specs.Fits.{cond_fits, nothing_bound};
 ghost use Rattle.golog_semantics.specs.Reports.{IsReport};
 ghost use Rattle.golog_semantics.specs.WellFormed.{WellFormed};
@@ -13,6 +13,7 @@ ghost use Rattle.golog_main.specs.declared.outcome.Input.TheVariants.{Agent as A
 ghost use Rattle.golog_main.specs.declared.outcome.Outcome.TheVariants.{Refused};
 
 use crate::outcome::{Input, Outcome};
+use crate::writing::add_count;
 use golog_base::{Bytes, Files, List, NoMemory, ReadFault, read_all};
 use golog_file::{AgentFault, CondFault, Understood, read_condition, read_theory_and_agent};
 use golog_script::{Script, ScriptFault, scripts_of};
@@ -51,6 +52,16 @@ pub enum Unready {
     Memory,
 }
 
+/// What it comes to that an input holds nothing, unless memory ran out.
+pub fn ended(unready: Unready) -> Result<Outcome, NoMemory>
+    ensures { IfOk result (λ outcome. unready ≡ Unready.Ended outcome) }
+{
+    match unready {
+        Unready::Ended(outcome) => Ok(outcome),
+        Unready::Memory => Err(NoMemory),
+    }
+}
+
 /// What the files of these names hold: an agent, and scripts of its devices.
 pub fn ready_in<F: Files>(
     alloc: Global,
@@ -67,7 +78,10 @@ pub fn ready_in<F: Files>(
     match agent_in(alloc, files, agent) {
         Ok(agent) => match scripts_in(alloc, files, devices, &agent) {
             Ok(scripts) => Ok(Ready { agent, scripts }),
-            Err(unready) => Err(unready),
+            Err(unready) => {
+                drop(agent);
+                Err(unready)
+            }
         },
         Err(unready) => Err(unready),
     }
@@ -83,12 +97,18 @@ pub fn agent_in<F: Files>(alloc: Global, files: &mut F, name: &str) -> Result<Ag
     ensures faults { F.faults files.old ≤ F.faults files.new }
 {
     match understood_in(alloc, files, name) {
-        Ok(Understood { theory, agent }) => {
-            drop(theory);
-            Ok(agent)
-        }
+        Ok(understood) => Ok(without_theory(understood)),
         Err(unready) => Err(unready),
     }
+}
+
+// The agent alone.
+fn without_theory(understood: Understood) -> Agent
+    ensures { result ≡ understood.agent }
+{
+    let Understood { theory, agent } = understood;
+    drop(theory);
+    agent
 }
 
 /// The agent that the file of this name spells, with its theory.
@@ -108,9 +128,18 @@ pub fn understood_in<F: Files>(
 {
     match bytes_in(alloc, files, Input::Agent, name) {
         Ok(bytes) => match read_theory_and_agent(alloc, bytes.as_slice()) {
-            Ok(understood) => Ok(understood),
-            Err(AgentFault::Refused { code, at }) => Err(refused(alloc, Input::Agent, code, at)),
-            Err(AgentFault::Memory) => Err(Unready::Memory),
+            Ok(understood) => {
+                drop(bytes);
+                Ok(understood)
+            }
+            Err(AgentFault::Refused { code, at }) => {
+                drop(bytes);
+                Err(refused(alloc, Input::Agent, code, at))
+            }
+            Err(AgentFault::Memory) => {
+                drop(bytes);
+                Err(Unready::Memory)
+            }
         },
         Err(unready) => Err(unready),
     }
@@ -151,11 +180,18 @@ fn scripts_under<F: Files>(
 {
     match bytes_in(alloc, files, Input::Devices, name) {
         Ok(bytes) => match scripts_of(alloc, bytes.as_slice(), &agent.devices) {
-            Ok(scripts) => Ok(scripts),
+            Ok(scripts) => {
+                drop(bytes);
+                Ok(scripts)
+            }
             Err(ScriptFault::Refused { code, at }) => {
+                drop(bytes);
                 Err(refused(alloc, Input::Devices, code, at))
             }
-            Err(ScriptFault::Memory) => Err(Unready::Memory),
+            Err(ScriptFault::Memory) => {
+                drop(bytes);
+                Err(Unready::Memory)
+            }
         },
         Err(unready) => Err(unready),
     }
@@ -179,9 +215,13 @@ pub fn told_in<F: Files>(
         Ok(bytes) => match read_journal(alloc, agent, bytes.as_slice()) {
             Ok(report) => Ok(Told { bytes, report }),
             Err(TextFault::Refused { line, why }) => {
+                drop(bytes);
                 Err(refused(alloc, Input::Journal, why, line))
             }
-            Err(TextFault::Memory) => Err(Unready::Memory),
+            Err(TextFault::Memory) => {
+                drop(bytes);
+                Err(Unready::Memory)
+            }
         },
         Err(unready) => Err(unready),
     }
@@ -236,14 +276,30 @@ fn refusal_text(alloc: Global, input: Input, code: u8, at: u32) -> Result<Bytes,
     ensures { IfOk result (λ text. text ≡ refusal_text input code at) }
 {
     let mut text = Bytes::new(alloc);
+    match add_refusal(alloc, &mut text, input, code, at) {
+        Ok(()) => Ok(text),
+        Err(fault) => {
+            drop(text);
+            Err(fault)
+        }
+    }
+}
+
+// Adds that.
+fn add_refusal(
+    alloc: Global,
+    text: &mut Bytes,
+    input: Input,
+    code: u8,
+    at: u32,
+) -> Result<(), NoMemory>
+    ensures { OnOk result (text.new ≡ text.old ++ refusal_text input code at) }
+{
     text.extend(b"refused ")?;
     text.extend(input.name().as_bytes())?;
-    text.extend(b" ")?;
-    text.extend(format!(in alloc; "{code}")?.as_bytes())?;
-    text.extend(b" at ")?;
-    text.extend(format!(in alloc; "{at}")?.as_bytes())?;
-    text.extend(b"\n")?;
-    Ok(text)
+    add_count(alloc, text, b" ", usize::from(code))?;
+    add_count(alloc, text, b" at ", at as usize)?;
+    text.extend(b"\n")
 }
 
 // The refusal of an input.

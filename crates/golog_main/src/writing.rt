@@ -1,13 +1,14 @@
 // What a call writes of what it comes to, and its exit status.
-ghost use Rattle.std.specs.Prelude.{◌≡◌, true, false, IfSome, IsSome};
+ghost use Rattle.std.specs.Prelude.{◌≡◌, ◌++◌, true, false, IfSome, IsSome, OnOk, decimal};
 ghost use Rattle.golog_semantics.specs.Execution.{status_of as answer_status};
 ghost use Rattle.golog_main.specs.Outcome.{Reports, outcome_status, outcome_text};
 ghost use Rattle.golog_main.specs.Writing.{IfReported, ReportsUnready};
 
 use crate::outcome::{Outcome, exit_status};
 use crate::ready::Unready;
-use golog_base::{NoMemory, Sink, write_all};
+use golog_base::{Bytes, NoMemory, Sink, write_all};
 use golog_semantics::Answer;
+use std::alloc::Global;
 
 /// The exit status where a write failed.
 const WRITE_FAULT: u8 = 5;
@@ -17,8 +18,11 @@ pub fn report<K: Sink>(out: &mut K, outcome: Outcome) -> u8
     ensures { Reports result (outcome_text outcome) (outcome_status outcome)
         (K.taken out.old) (K.taken out.new) (K.faults out.old) (K.faults out.new) }
 {
-    match write_all(out, outcome.text()) {
-        Ok(()) => outcome.status(),
+    let written = write_all(out, outcome.text());
+    let status = outcome.status();
+    drop(outcome);
+    match written {
+        Ok(()) => status,
         Err(_) => WRITE_FAULT,
     }
 }
@@ -61,4 +65,20 @@ pub fn run_status(faulted: bool, answer: Option<Answer>) -> u8
         }
         None => unreachable!(),
     }
+}
+
+/// Adds what is counted, and how many there are.
+pub fn add_count(
+    alloc: Global,
+    text: &mut Bytes,
+    counted: &[u8],
+    count: usize,
+) -> Result<(), NoMemory>
+    ensures { OnOk result (text.new ≡ text.old ++ counted.now ++ decimal count) }
+{
+    text.extend(counted)?;
+    let number = format!(in alloc; "{count}")?;
+    let added = text.extend(number.as_bytes());
+    drop(number);
+    added
 }

@@ -1,9 +1,10 @@
 use Rattle.golog_file.specs.Spelled.{IsFirstRefusal}
 use Rattle.golog_file.specs.declared.reading.Understood.{Understood}
+use Rattle.golog_main.specs.declared.outcome.Outcome.{Outcome}
 use Rattle.golog_main.specs.declared.outcome.Input.TheVariants.{Agent as AgentFile}
 use Rattle.golog_main.specs.Inputs.{SpellsBoth}
-use Rattle.golog_main.specs.Outcome.{OfCondition, OfJournal, TruthOf}
-use Rattle.golog_main.proofs.OutcomeLemmas.{file-comes, both-come}
+use Rattle.golog_main.specs.Outcome.{FileFails, OfBoth, OfCondition, OfJournal, TruthOf}
+use Rattle.golog_main.proofs.OutcomeLemmas.{both-come, ends-so, file-comes}
 use Rattle.golog_main.proofs.commands.asked.Goals as goal
 
 pub returns-in-Ok : goal.returns-in-Ok
@@ -14,12 +15,11 @@ returns-in-Ok g c =
     (λ (u : Understood) told. OfCondition u.theory u.agent c.args.word.now (TruthOf u.agent told)) c.in-Ok.understood c.asked_of-outcome.result
     c.in-Ok.ensures.faults c.in-Ok.ensures.reads (rw c.in-Ok.ensures.held at c.asked_of-outcome.ensures)
 
-pub returns-in-Err-Ended : goal.returns-in-Err-Ended
-returns-in-Err-Ended g c =
+pub returns-in-Err : goal.returns-in-Err
+returns-in-Err g c =
     let held = g.F.Files.held c.args.files.now in
     let first = g.F.Files.faults c.args.files.now in
     let now = g.F.Files.faults c.understood_in.new.files in
-    rw c.in-Err-Ended.field-0-is
-    (file-comes AgentFile held c.args.name.now first now IsFirstRefusal SpellsBoth
-    (λ (u : Understood). OfJournal held first now u.agent c.args.journal.now (λ told. OfCondition u.theory u.agent c.args.word.now (TruthOf u.agent told))) c.in-Err-Ended.outcome
-    (rw c.in-Err-Ended.field-0-is at c.in-Err-Ended.ensures.unready))
+    let next : Understood → Outcome → Type 0 = λ u. OfJournal held first now u.agent c.args.journal.now (λ told. OfCondition u.theory u.agent c.args.word.now (TruthOf u.agent told)) in
+    ends-so c.ended.result c.in-Err.unready (FileFails AgentFile IsFirstRefusal held c.args.name.now first now) (OfBoth held first now c.args.name.now next) c.ended.ensures
+    (file-comes AgentFile held c.args.name.now first now IsFirstRefusal SpellsBoth next) c.in-Err.ensures.unready

@@ -5,7 +5,8 @@ use Rattle.std.specs.Prelude.{◌≡◌}
 use Rattle.golog_main.specs.declared.outcome.Input.TheVariants.{Agent as AgentFile}
 use Rattle.golog_main.specs.declared.outcome.Outcome.{Outcome}
 use Rattle.golog_main.specs.declared.outcome.Outcome.TheVariants.{Checked}
-use Rattle.golog_main.proofs.OutcomeLemmas.{agent-comes, file-comes}
+use Rattle.golog_main.specs.Outcome.{FileFails, OfAgent}
+use Rattle.golog_main.proofs.OutcomeLemmas.{agent-comes, ends-so, file-comes}
 use Rattle.golog_main.proofs.commands.checked.Goals as goal
 
 pub returns-in-Ok : goal.returns-in-Ok
@@ -13,9 +14,11 @@ returns-in-Ok g c =
     agent-comes (g.F.Files.held c.args.files.now) c.args.name.now (g.F.Files.faults c.args.files.now) (g.F.Files.faults c.agent_in.new.files)
     (λ (agent : Agent) (outcome : Outcome). outcome ≡ Checked (check_text agent)) c.in-Ok.agent c.checked_of-outcome.result c.in-Ok.ensures.reads c.checked_of-outcome.ensures
 
-pub returns-in-Err-Ended : goal.returns-in-Err-Ended
-returns-in-Err-Ended g c =
-    rw c.in-Err-Ended.field-0-is
-    (file-comes AgentFile (g.F.Files.held c.args.files.now) c.args.name.now (g.F.Files.faults c.args.files.now) (g.F.Files.faults c.agent_in.new.files)
-    IsFirstRefusal SpellsAgent (λ (agent : Agent) (outcome : Outcome). outcome ≡ Checked (check_text agent)) c.in-Err-Ended.outcome
-    (rw c.in-Err-Ended.field-0-is at c.in-Err-Ended.ensures.unready))
+pub returns-in-Err : goal.returns-in-Err
+returns-in-Err g c =
+    let held = g.F.Files.held c.args.files.now in
+    let first = g.F.Files.faults c.args.files.now in
+    let now = g.F.Files.faults c.agent_in.new.files in
+    let next : Agent → Outcome → Type 0 = λ agent outcome. outcome ≡ Checked (check_text agent) in
+    ends-so c.ended.result c.in-Err.unready (FileFails AgentFile IsFirstRefusal held c.args.name.now first now) (OfAgent held first now c.args.name.now next) c.ended.ensures
+    (file-comes AgentFile held c.args.name.now first now IsFirstRefusal SpellsAgent next) c.in-Err.ensures.unready

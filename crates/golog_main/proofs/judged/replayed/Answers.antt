@@ -1,8 +1,9 @@
 use Rattle.golog_tree.specs.declared.agent.Agent.{Agent}
 use Rattle.golog_file.specs.Spelled.{SpellsAgent, IsFirstRefusal}
+use Rattle.golog_main.specs.declared.outcome.Outcome.{Outcome}
 use Rattle.golog_main.specs.declared.outcome.Input.TheVariants.{Agent as AgentFile}
-use Rattle.golog_main.specs.Outcome.{Judges, OfJournal}
-use Rattle.golog_main.proofs.OutcomeLemmas.{agent-comes, file-comes, journal-since}
+use Rattle.golog_main.specs.Outcome.{FileFails, Judges, OfAgent, OfJournal}
+use Rattle.golog_main.proofs.OutcomeLemmas.{agent-comes, ends-so, file-comes, journal-since}
 use Rattle.golog_main.proofs.judged.replayed.Goals as goal
 
 pub returns-in-Ok : goal.returns-in-Ok
@@ -16,12 +17,11 @@ returns-in-Ok g c =
     (journal-since held c.args.journal.now first later now agent (Judges agent) c.replayed_of-outcome.result c.in-Ok.ensures.faults
     (rw c.in-Ok.ensures.held at c.replayed_of-outcome.ensures))
 
-pub returns-in-Err-Ended : goal.returns-in-Err-Ended
-returns-in-Err-Ended g c =
+pub returns-in-Err : goal.returns-in-Err
+returns-in-Err g c =
     let held = g.F.Files.held c.args.files.now in
     let first = g.F.Files.faults c.args.files.now in
     let now = g.F.Files.faults c.agent_in.new.files in
-    rw c.in-Err-Ended.field-0-is
-    (file-comes AgentFile held c.args.name.now first now IsFirstRefusal SpellsAgent
-    (λ (a : Agent). OfJournal held first now a c.args.journal.now (Judges a)) c.in-Err-Ended.outcome
-    (rw c.in-Err-Ended.field-0-is at c.in-Err-Ended.ensures.unready))
+    let next : Agent → Outcome → Type 0 = λ agent. OfJournal held first now agent c.args.journal.now (Judges agent) in
+    ends-so c.ended.result c.in-Err.unready (FileFails AgentFile IsFirstRefusal held c.args.name.now first now) (OfAgent held first now c.args.name.now next) c.ended.ensures
+    (file-comes AgentFile held c.args.name.now first now IsFirstRefusal SpellsAgent next) c.in-Err.ensures.unready

@@ -27,7 +27,7 @@ returns-in-Err-Refused-clause-unready g c =
     (rw c.as_slice.ensures at (subst {A = ScriptFault} (λ f. IsFirstRow {A = List Script} (Err f) (scripts_of names bytes).rows) fault c.in-Err-Refused.ensures.first)))
     c.refused.ensures
 
-pub returns-clause-unready : goal.returns-clause-unready
-returns-clause-unready g c =
+pub returns-in-Err-clause-unready : goal.returns-in-Err-clause-unready
+returns-in-Err-clause-unready g c =
     scripts-bytes c.args.agent.now (g.F.Files.held c.args.files.now) c.args.name.now (g.F.Files.faults c.args.files.now) (g.F.Files.faults c.bytes_in.new.files)
     c.in-Err.unready c.in-Err.ensures.unready

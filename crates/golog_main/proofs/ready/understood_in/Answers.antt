@@ -16,7 +16,7 @@ returns-in-Err-Refused-clause-unready g c =
     (rw c.as_slice.ensures at (subst {A = AgentFault} (λ fault. ReadsWith (Err fault) c.as_slice.result.now) c.in-Err-Refused.field-0-is c.in-Err-Refused.ensures.answer))
     c.refused.ensures
 
-pub returns-clause-unready : goal.returns-clause-unready
-returns-clause-unready g c =
+pub returns-in-Err-clause-unready : goal.returns-in-Err-clause-unready
+returns-in-Err-clause-unready g c =
     agent-bytes (g.F.Files.held c.args.files.now) c.args.name.now (g.F.Files.faults c.args.files.now) (g.F.Files.faults c.bytes_in.new.files) c.in-Err.unready
     c.in-Err.ensures.unready

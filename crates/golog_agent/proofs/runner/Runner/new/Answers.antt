@@ -1,4 +1,6 @@
-use Rattle.std.proofs.Common.{sym, subst}
+use Rattle.std.proofs.Common.{◌≡◌, [], sym, subst}
+use Rattle.std.specs.Prelude.{IfOk}
+use Rattle.golog_agent.specs.declared.kept.Kept.{Kept}
 use Rattle.golog_agent.specs.Recording.{IsKept}
 use Rattle.golog_agent.specs.Turns.{Course}
 use Rattle.golog_agent.proofs.runner.Runner.new.Goals as goal
@@ -6,5 +8,10 @@ use Rattle.golog_agent.proofs.runner.Runner.new.Goals as goal
 pub invariant_of-result : goal.invariant_of-result
 invariant_of-result c =
     let kept = c.in_ok-record.record in
-    subst (λ (v : Course). IsKept v.agent v.list kept.entries kept.runs) (sym c.in_ok-core.ensures)
-    (record { entries_so = c.in_ok-record.ensures.entries; runs_so = c.in_ok-record.ensures.runs })
+    let both = c.in_ok-record.ensures in
+    let core = subst (λ r. IfOk r (λ (v : Course). v ≡ record { agent = c.args.agent.now; list = [] })) both.1 c.new-2.ensures in
+    subst (λ (v : Course). IsKept v.agent v.list kept.entries kept.runs) (sym core)
+    (record {
+      entries_so = subst (λ r. IfOk r (λ (k : Kept). k.entries ≡ [])) both.0 c.new.ensures.entries;
+      runs_so = subst (λ r. IfOk r (λ (k : Kept). k.runs ≡ [])) both.0 c.new.ensures.runs;
+    })
