@@ -9,3 +9,7 @@ mod asks_after;
 mod demos;
 #[cfg(test)]
 mod replays;
+#[cfg(test)]
+mod scripts;
+#[cfg(test)]
+mod words;

@@ -18,6 +18,3 @@ pub use table::TableDevice;
 pub use told::{Told, ToldItems};
 pub use turn::{Turned, one_turn};
 pub use twin::{TryClone, Twin, reversed_twins};
-
-#[cfg(test)]
-mod tests;

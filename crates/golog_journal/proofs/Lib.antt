@@ -14,4 +14,3 @@ pub mod Views
 pub mod CommandsKept
 pub mod KeptGrows
 mod Quieting
-pub mod SmallAgent

@@ -14,4 +14,3 @@ pub mod Trails
 pub mod Ledgers
 pub mod Laws
 pub mod Quiet
-pub mod Examples

@@ -24,6 +24,3 @@ pub use journal::Journal;
 pub use laws::{driven_stays, fitting_stays, ready_stays, well_formed_serves};
 pub use lead::{Lead, Led};
 pub use totals::is_counted;
-
-#[cfg(test)]
-mod tests;

@@ -2,4 +2,3 @@ pub mod Arguments
 pub mod Evaluated
 pub mod Folds
 pub mod InWorlds
-pub mod Lamps

@@ -1,4 +1,3 @@
 pub mod Fits
 pub mod InWorlds
 pub mod Laws
-pub mod Examples

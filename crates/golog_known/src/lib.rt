@@ -13,6 +13,3 @@ pub use answer::{term, value};
 pub use env::Env;
 pub use kleene::{UNKNOWN, both, chosen, either, negation};
 pub use laws::{conditions_fit_at_arguments, terms_fit_at_arguments};
-
-#[cfg(test)]
-mod tests;

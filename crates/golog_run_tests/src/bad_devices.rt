@@ -1,4 +1,4 @@
-ghost use Rattle.std.specs.Prelude.{◌≡◌, true, IfOk, length};
+ghost use Rattle.std.specs.Prelude.{◌≡◌, ◌≤◌, true, IfOk, length};
 ghost use Rattle.golog_device.specs.Slots.{standings, FreshBelow};
 
 use crate::calls::{Call, file_of};
@@ -226,6 +226,23 @@ const POKE: &str = "(seq (act poke) (act look) (test (lit)) (test (over)) (test 
 const PEEK: &str =
     "(seq (act look) (test (lit)) (test (over)) (act peek) (test (seen)) (test (not (over))))";
 
+/// Runs this program over these devices.
+fn played_over<R: Threads + Wait + Sync>(
+    threads: &R,
+    alloc: Global,
+    program: &str,
+    devices: &mut [Actor<HostRuntime>],
+) -> Result<Call, NoMemory>
+    requires boxes { 16 ≤ length devices.old }
+    requires fresh { FreshBelow 16
+        (standings ⟦<Actor<HostRuntime> as Device>⟧.fresh ⟦<Actor<HostRuntime> as Device>⟧.meaning devices.old) }
+{
+    let agent = file_of(alloc, ITEMS, program)?;
+    let ran = ran_on_threads(threads, alloc, agent.as_slice(), b"[]", devices);
+    drop(agent);
+    ran
+}
+
 /// Runs this program over a device with this part, beside a good one that awaits so many of its words.
 fn played<R: Threads + Wait + Sync>(
     threads: &R,
@@ -238,17 +255,14 @@ fn played<R: Threads + Wait + Sync>(
         awaited,
         ..Part::of("true", GREETINGS)
     };
-    let agent = file_of(rt.alloc(), ITEMS, program)?;
-    let mut devices = actors(rt, bad, &good)?;
-    let ran = ran_on_threads(
-        threads,
-        rt.alloc(),
-        agent.as_slice(),
-        b"[]",
-        devices.as_mut_slice(),
-    );
-    drop(devices);
-    ran
+    match actors(rt, bad, &good) {
+        Ok(mut devices) => {
+            let ran = played_over(threads, rt.alloc(), program, devices.as_mut_slice());
+            drop(devices);
+            ran
+        }
+        Err(NoMemory) => Err(NoMemory),
+    }
 }
 
 /// Whether nothing of the good device is lost.

@@ -3,9 +3,14 @@ ghost use Rattle.golog_device.specs.Slots.{standings, FreshBelow};
 
 use golog_base::{Bytes, HeldFile, List, MemFiles, MemSink, NoMemory, Text};
 use golog_device::Device;
-use golog_main::{NO_MEMORY, is_threaded, script_devices, serve_inline};
+use golog_main::{NO_MEMORY, golog, is_threaded, script_devices, serve_inline};
 use golog_words::order_of;
 use std::alloc::Global;
+use std::sync::Wait;
+use std::thread::Threads;
+
+/// How many bytes the journal of a run over threads may have.
+const ROOM: u32 = 4_000_000;
 
 /// The words of a run of `x.agent`.
 pub const RUN: [&str; 3] = ["run", "x.agent", "--inline"];
@@ -45,7 +50,7 @@ pub fn files_of(
 }
 
 /// The words of a command, as a program is given them. `NoMemory` where none is left for them.
-pub fn words_of(alloc: Global, of: &[&str]) -> Result<Vec<String>, NoMemory> {
+fn words_of(alloc: Global, of: &[&str]) -> Result<Vec<String>, NoMemory> {
     let mut words = Vec::new(alloc);
     for word in of {
         words.push(String::from_str(alloc, word)?)?;
@@ -53,27 +58,72 @@ pub fn words_of(alloc: Global, of: &[&str]) -> Result<Vec<String>, NoMemory> {
     Ok(words)
 }
 
+/// Both, where there was memory for each.
+fn both<A: Drop, B: Drop>(
+    one: Result<A, NoMemory>,
+    other: Result<B, NoMemory>,
+) -> Result<(A, B), NoMemory> {
+    let one = one?;
+    let other = other?;
+    Ok((one, other))
+}
+
 /// Calls the program with these words, over these files, this sink and devices that follow scripts.
 pub fn called_over(
     alloc: Global,
     words: &[&str],
+    files: Result<MemFiles, NoMemory>,
+    out: Result<MemSink, NoMemory>,
+) -> Result<Call, NoMemory> {
+    match script_devices(alloc) {
+        Ok(mut devices) => {
+            let call = called_by(alloc, words, files, out, devices.as_mut_slice());
+            drop(devices);
+            call
+        }
+        Err(NoMemory) => {
+            drop(files);
+            drop(out);
+            Err(NoMemory)
+        }
+    }
+}
+
+/// The same over these devices.
+pub fn called_by<D: Device>(
+    alloc: Global,
+    words: &[&str],
+    files: Result<MemFiles, NoMemory>,
+    out: Result<MemSink, NoMemory>,
+    devices: &mut [D],
+) -> Result<Call, NoMemory>
+    requires boxes { 16 ≤ length devices.old }
+    requires fresh { FreshBelow 16 (standings D.fresh D.meaning devices.old) }
+{
+    match both(words_of(alloc, words), both(files, out)) {
+        Ok((words, (files, out))) => Ok(call_of(alloc, words, files, out, devices)),
+        Err(NoMemory) => Err(NoMemory),
+    }
+}
+
+fn call_of<D: Device>(
+    alloc: Global,
+    words: Vec<String>,
     mut files: MemFiles,
     mut out: MemSink,
-) -> Result<Call, NoMemory> {
-    let words = words_of(alloc, words)?;
-    let mut devices = script_devices(alloc)?;
-    let status = served(
-        alloc,
-        words.as_slice(),
-        &mut files,
-        &mut out,
-        devices.as_mut_slice(),
-    );
-    Ok(Call { status, out })
+    devices: &mut [D],
+) -> Call
+    requires boxes { 16 ≤ length devices.old }
+    requires fresh { FreshBelow 16 (standings D.fresh D.meaning devices.old) }
+{
+    let status = served(alloc, words.as_slice(), &mut files, &mut out, devices);
+    drop(words);
+    drop(files);
+    Call { status, out }
 }
 
 /// Does what these words say, which need no threads, and answers the exit status.
-pub fn served<D: Device>(
+fn served<D: Device>(
     alloc: Global,
     words: &[String],
     files: &mut MemFiles,
@@ -89,21 +139,74 @@ pub fn served<D: Device>(
     }
 }
 
-/// The same over a sink with ample room.
-pub fn called(alloc: Global, words: &[&str], files: MemFiles) -> Result<Call, NoMemory> {
-    let out = MemSink::new(alloc, 1000, List::new(alloc))?;
+/// Calls the program with these words over these files, devices that follow scripts and a sink with ample room.
+pub fn called(
+    alloc: Global,
+    words: &[&str],
+    files: Result<MemFiles, NoMemory>,
+) -> Result<Call, NoMemory> {
+    let out = MemSink::new(alloc, 1000, List::new(alloc));
     called_over(alloc, words, files, out)
+}
+
+/// Calls the program with these words over these files and these devices, each on a thread of its own.
+pub fn called_on_threads<R: Threads + Wait + Sync, D: Device + Send>(
+    rt: &R,
+    alloc: Global,
+    words: &[&str],
+    files: Result<MemFiles, NoMemory>,
+    devices: &mut [D],
+) -> Result<Call, NoMemory>
+    requires boxes { 16 ≤ length devices.old }
+    requires fresh { FreshBelow 16 (standings D.fresh D.meaning devices.old) }
+{
+    let out = MemSink::new(alloc, ROOM, List::new(alloc));
+    match both(words_of(alloc, words), both(files, out)) {
+        Ok((words, (files, out))) => Ok(threaded(rt, alloc, words, files, out, devices)),
+        Err(NoMemory) => Err(NoMemory),
+    }
+}
+
+fn threaded<R: Threads + Wait + Sync, D: Device + Send>(
+    rt: &R,
+    alloc: Global,
+    words: Vec<String>,
+    mut files: MemFiles,
+    mut out: MemSink,
+    devices: &mut [D],
+) -> Call
+    requires boxes { 16 ≤ length devices.old }
+    requires fresh { FreshBelow 16 (standings D.fresh D.meaning devices.old) }
+{
+    let status = status_of(rt, alloc, words.as_slice(), &mut files, &mut out, devices);
+    drop(words);
+    drop(files);
+    Call { status, out }
+}
+
+fn status_of<R: Threads + Wait + Sync, D: Device + Send>(
+    rt: &R,
+    alloc: Global,
+    words: &[String],
+    files: &mut MemFiles,
+    out: &mut MemSink,
+    devices: &mut [D],
+) -> u8
+    requires boxes { 16 ≤ length devices.old }
+    requires fresh { FreshBelow 16 (standings D.fresh D.meaning devices.old) }
+{
+    golog(rt, alloc, words, files, out, devices)
 }
 
 /// Runs an agent file of these bytes.
 pub fn ran(alloc: Global, agent: &[u8]) -> Result<Call, NoMemory> {
-    let files = files_of(alloc, &[("x.agent", agent)], &[])?;
+    let files = files_of(alloc, &[("x.agent", agent)], &[]);
     called(alloc, &RUN, files)
 }
 
 /// Runs it with a devices file of these bytes.
 pub fn ran_with(alloc: Global, agent: &[u8], devices: &[u8]) -> Result<Call, NoMemory> {
-    let files = files_of(alloc, &[("x.agent", agent), ("x.devices", devices)], &[])?;
+    let files = files_of(alloc, &[("x.agent", agent), ("x.devices", devices)], &[]);
     called(alloc, &RUN_BOTH, files)
 }
 

@@ -25,7 +25,7 @@ fn called_on(
     journal: &[u8],
 ) -> Result<Call, NoMemory> {
     let both = [("x.agent", agent), ("x.journal", journal)];
-    called(alloc, words, files_of(alloc, &both, &[])?)
+    called(alloc, words, files_of(alloc, &both, &[]))
 }
 
 /// Asks for a condition after a journal of the lamp's agent.
@@ -121,11 +121,11 @@ fn a_replay_reads_the_agent_first(rt: HostRuntime) -> Result<(), Fail> {
     let reads = [(2, "read fault agent\n"), (3, "read fault journal\n")];
     for (number, said) in reads {
         let both: [(&str, &[u8]); 2] = [("x.agent", ONE), ("x.journal", b"0 do a\n")];
-        let files = files_of(rt.alloc(), &both, &[number])?;
+        let files = files_of(rt.alloc(), &both, &[number]);
         let call = called(rt.alloc(), &REPLAY, files)?;
         assert_eq!(rt; call.said(), (4, said));
     }
-    let files = files_of(rt.alloc(), &[("x.agent", ONE)], &[])?;
+    let files = files_of(rt.alloc(), &[("x.agent", ONE)], &[]);
     let call = called(rt.alloc(), &REPLAY, files)?;
     assert_eq!(rt; call.said(), (4, "read fault journal\n"));
     Ok(())
@@ -168,7 +168,7 @@ fn a_file_that_is_missing_is_a_read_fault(rt: HostRuntime) -> Result<(), Fail> {
         ("x.agent", b"(agent)", "refused agent 27 at 0\n"),
     ];
     for (name, bytes, said) in held {
-        let files = files_of(alloc, &[(name, bytes)], &[])?;
+        let files = files_of(alloc, &[(name, bytes)], &[]);
         let call = called(alloc, &["ask", "x.agent", "x.journal", "("], files)?;
         let status = if said.starts_with("read") { 4 } else { 3 };
         assert_eq!(rt; call.said(), (status, said));
@@ -189,7 +189,7 @@ fn a_read_that_fails_is_a_read_fault(rt: HostRuntime) -> Result<(), Fail> {
     ];
     for (number, said) in reads {
         let both: [(&str, &[u8]); 2] = [("x.agent", ONE), ("x.journal", b"0 do a\n")];
-        let files = files_of(rt.alloc(), &both, &[number])?;
+        let files = files_of(rt.alloc(), &both, &[number]);
         let call = called(rt.alloc(), &ASK, files)?;
         assert_eq!(rt; call.said(), (4, said));
     }
@@ -209,8 +209,8 @@ fn a_write_that_fails_is_told(rt: HostRuntime) -> Result<(), Fail> {
     ];
     for (words, said) in lines {
         let both: [(&str, &[u8]); 2] = [("x.agent", ONE), ("x.journal", b"0 do a\n")];
-        let out = MemSink::new(alloc, 2, List::new(alloc))?;
-        let call = called_over(alloc, words, files_of(alloc, &both, &[])?, out)?;
+        let out = MemSink::new(alloc, 2, List::new(alloc));
+        let call = called_over(alloc, words, files_of(alloc, &both, &[]), out)?;
         assert_eq!(rt; call.said(), (5, said), "{words:?}");
     }
     Ok(())

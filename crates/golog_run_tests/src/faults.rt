@@ -45,7 +45,7 @@ const FLOORS_JOURNAL: &str = "0 do up run up; -\n1 test\n2 end done\n";
 
 #[test]
 fn a_file_that_is_not_there_is_a_read_fault(rt: HostRuntime) -> Result<(), Fail> {
-    let files = files_of(rt.alloc(), &[("x.agent", ONE)], &[])?;
+    let files = files_of(rt.alloc(), &[("x.agent", ONE)], &[]);
     let call = called(rt.alloc(), &["run", "y.agent", "--inline"], files)?;
     assert_eq!(rt; call.said(), (4, "read fault agent\n"));
     Ok(())
@@ -53,7 +53,7 @@ fn a_file_that_is_not_there_is_a_read_fault(rt: HostRuntime) -> Result<(), Fail>
 
 #[test]
 fn a_read_that_fails_in_mid_stream_is_a_read_fault(rt: HostRuntime) -> Result<(), Fail> {
-    let files = files_of(rt.alloc(), &[("x.agent", &[b' '; 3000])], &[2])?;
+    let files = files_of(rt.alloc(), &[("x.agent", &[b' '; 3000])], &[2]);
     let call = called(rt.alloc(), &RUN, files)?;
     assert_eq!(rt; call.said(), (4, "read fault agent\n"));
     Ok(())
@@ -73,11 +73,11 @@ fn each_read_may_fail(rt: HostRuntime) -> Result<(), Fail> {
         (5, devices),
     ];
     for (number, said) in reads {
-        let files = files_of(rt.alloc(), &BUTTON_FILES, &[number])?;
+        let files = files_of(rt.alloc(), &BUTTON_FILES, &[number]);
         let call = called(rt.alloc(), &RUN_BOTH, files)?;
         assert_eq!(rt; call.said(), (4, said));
     }
-    let files = files_of(rt.alloc(), &BUTTON_FILES, &[6])?;
+    let files = files_of(rt.alloc(), &BUTTON_FILES, &[6]);
     let call = called(rt.alloc(), &RUN_BOTH, files)?;
     assert_eq!(rt; call.said(), (0, BUTTON_JOURNAL));
     Ok(())
@@ -110,8 +110,9 @@ fn a_file_above_its_limit_is_refused(rt: HostRuntime) -> Result<(), Fail> {
 
 /// Runs an agent over a sink with room for so many bytes. The calls of these numbers fail.
 fn ran_into(alloc: Global, agent: &[u8], room: u32, fails: &[u32]) -> Result<Call, NoMemory> {
-    let files = files_of(alloc, &[("x.agent", agent)], &[])?;
-    let out = MemSink::new(alloc, room, List::copy_of(alloc, fails)?)?;
+    let fails = List::copy_of(alloc, fails)?;
+    let files = files_of(alloc, &[("x.agent", agent)], &[]);
+    let out = MemSink::new(alloc, room, fails);
     called_over(alloc, &RUN, files, out)
 }
 
@@ -143,8 +144,9 @@ fn written_into(
     room: u32,
     fails: &[u32],
 ) -> Result<Call, NoMemory> {
-    let out = MemSink::new(alloc, room, List::copy_of(alloc, fails)?)?;
-    called_over(alloc, &RUN_BOTH, files_of(alloc, both, &[])?, out)
+    let fails = List::copy_of(alloc, fails)?;
+    let out = MemSink::new(alloc, room, fails);
+    called_over(alloc, &RUN_BOTH, files_of(alloc, both, &[]), out)
 }
 
 /// Whether the call wrote the journal, or tells of a write that failed and wrote some of its first bytes.

@@ -1,7 +1,7 @@
 ghost use Rattle.std.specs.Prelude.{◌≡◌, ◌≤◌, IfOk, length};
 ghost use Rattle.golog_device.specs.Slots.{standings, FreshBelow};
 
-use crate::calls::{Call, RUN_BOTH, file_of, files_of, served, words_of};
+use crate::calls::{Call, RUN_BOTH, called_by, file_of, files_of};
 use crate::devices::{DOOR, LOOK};
 use golog_base::{Bytes, List, MemSink, NoMemory, Word};
 use golog_device::{Begun, Device, Idle, Served};
@@ -15,11 +15,10 @@ fn called_over<D: Device>(alloc: Global, program: &str, devices: &mut [D]) -> Re
 {
     let file = file_of(alloc, DOOR, program)?;
     let both: [(&str, &[u8]); 2] = [("x.agent", file.as_slice()), ("x.devices", b"[]")];
-    let mut files = files_of(alloc, &both, &[])?;
-    let words = words_of(alloc, &RUN_BOTH)?;
-    let mut out = MemSink::new(alloc, 1000, List::new(alloc))?;
-    let status = served(alloc, words.as_slice(), &mut files, &mut out, devices);
-    Ok(Call { status, out })
+    let files = files_of(alloc, &both, &[]);
+    drop(file);
+    let out = MemSink::new(alloc, 1000, List::new(alloc));
+    called_by(alloc, &RUN_BOTH, files, out, devices)
 }
 
 /// A device of the test's own: it answers the first command that senses with `false`, and rests. It keeps

@@ -1,17 +1,14 @@
 ghost use Rattle.std.specs.Prelude.{◌≤◌, length};
 ghost use Rattle.golog_device.specs.Slots.{standings, FreshBelow};
 
-use crate::calls::{Call, called, files_of, words_of};
-use golog_base::{Bytes, List, MemSink, NoMemory};
+use crate::calls::{Call, called, called_on_threads, files_of};
+use golog_base::{Bytes, NoMemory};
 use golog_device::Device;
-use golog_main::{golog, script_devices};
+use golog_main::script_devices;
 use std::alloc::Global;
 use std::sync::Wait;
 use std::test::Fail;
 use std::thread::Threads;
-
-/// How many bytes the journal of a run may have.
-const ROOM: u32 = 4_000_000;
 
 /// Runs an agent file over these devices, which may follow these scripts, each on a thread of its own.
 pub fn ran_on_threads<R: Threads + Wait + Sync, D: Device + Send>(
@@ -24,16 +21,13 @@ pub fn ran_on_threads<R: Threads + Wait + Sync, D: Device + Send>(
     requires boxes { 16 ≤ length devices.old }
     requires fresh { FreshBelow 16 (standings D.fresh D.meaning devices.old) }
 {
-    let mut files = files_of(alloc, &[("x.agent", agent), ("x.devices", scripts)], &[])?;
-    let words = words_of(alloc, &["run", "x.agent", "x.devices"])?;
-    let mut out = MemSink::new(alloc, ROOM, List::new(alloc))?;
-    let status = golog(rt, alloc, words.as_slice(), &mut files, &mut out, devices);
-    Ok(Call { status, out })
+    let files = files_of(alloc, &[("x.agent", agent), ("x.devices", scripts)], &[]);
+    called_on_threads(rt, alloc, &["run", "x.agent", "x.devices"], files, devices)
 }
 
 /// Replays a journal of an agent file.
 pub fn replayed(alloc: Global, agent: &[u8], journal: &[u8]) -> Result<Call, NoMemory> {
-    let files = files_of(alloc, &[("x.agent", agent), ("x.journal", journal)], &[])?;
+    let files = files_of(alloc, &[("x.agent", agent), ("x.journal", journal)], &[]);
     called(alloc, &["replay", "x.agent", "x.journal"], files)
 }
 
@@ -131,17 +125,31 @@ fn exchanged(alloc: Global, journal: &str, one: &str, other: &str) -> Result<Str
     Ok(text)
 }
 
-/// Runs the agent with the switches over its scripts.
-fn ran_with_ticks<R: Threads + Wait + Sync>(rt: &R, alloc: Global) -> Result<Call, NoMemory> {
+/// Runs the agent with the switches over these devices, which follow its scripts.
+fn ran_over<R: Threads + Wait + Sync, D: Device + Send>(
+    rt: &R,
+    alloc: Global,
+    devices: &mut [D],
+) -> Result<Call, NoMemory>
+    requires boxes { 16 ≤ length devices.old }
+    requires fresh { FreshBelow 16 (standings D.fresh D.meaning devices.old) }
+{
     let scripts = scripts_of(alloc)?;
-    let mut devices = script_devices(alloc)?;
-    ran_on_threads(
-        rt,
-        alloc,
-        SWITCHES,
-        scripts.as_slice(),
-        devices.as_mut_slice(),
-    )
+    let ran = ran_on_threads(rt, alloc, SWITCHES, scripts.as_slice(), devices);
+    drop(scripts);
+    ran
+}
+
+/// The same over new ones.
+fn ran_with_ticks<R: Threads + Wait + Sync>(rt: &R, alloc: Global) -> Result<Call, NoMemory> {
+    match script_devices(alloc) {
+        Ok(mut devices) => {
+            let ran = ran_over(rt, alloc, devices.as_mut_slice());
+            drop(devices);
+            ran
+        }
+        Err(NoMemory) => Err(NoMemory),
+    }
 }
 
 /// Whether what the clock has posted is all that it is to post, in order.

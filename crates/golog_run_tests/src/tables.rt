@@ -1,8 +1,8 @@
-ghost use Rattle.std.specs.Prelude.{◌≡◌, true, IfOk, length};
+ghost use Rattle.std.specs.Prelude.{◌≡◌, ◌≤◌, true, IfOk, length};
 ghost use Rattle.golog_device.specs.Slots.{standings, FreshBelow};
 ghost use Rattle.golog_device.specs.Tables.{is_fresh};
 
-use crate::calls::{Call, RUN, file_of, files_of, served, words_of};
+use crate::calls::{Call, RUN, called_by, file_of, files_of};
 use crate::devices::LIFT;
 use golog_base::{Bytes, List, MemSink, NoMemory};
 use golog_device::{Begun, Device, Idle, Served, TableDevice};
@@ -84,21 +84,29 @@ fn wild_devices(alloc: Global, wild: &Wild<'_>) -> Result<Vec<TableDevice>, NoMe
     Ok(devices)
 }
 
-/// Runs the lift's agent with this program over them.
-fn played(alloc: Global, program: &str, wild: &Wild<'_>) -> Result<Call, NoMemory> {
+/// Runs the lift's agent with this program over these devices.
+fn played_over(alloc: Global, program: &str, devices: &mut [TableDevice]) -> Result<Call, NoMemory>
+    requires boxes { 16 ≤ length devices.old }
+    requires fresh { FreshBelow 16
+        (standings ⟦<TableDevice as Device>⟧.fresh ⟦<TableDevice as Device>⟧.meaning devices.old) }
+{
     let file = file_of(alloc, LIFT, program)?;
-    let mut files = files_of(alloc, &[("x.agent", file.as_slice())], &[])?;
-    let words = words_of(alloc, &RUN)?;
-    let mut out = MemSink::new(alloc, ROOM, List::new(alloc))?;
-    let mut devices = wild_devices(alloc, wild)?;
-    let status = served(
-        alloc,
-        words.as_slice(),
-        &mut files,
-        &mut out,
-        devices.as_mut_slice(),
-    );
-    Ok(Call { status, out })
+    let files = files_of(alloc, &[("x.agent", file.as_slice())], &[]);
+    drop(file);
+    let out = MemSink::new(alloc, ROOM, List::new(alloc));
+    called_by(alloc, &RUN, files, out, devices)
+}
+
+/// The same over such wild devices.
+fn played(alloc: Global, program: &str, wild: &Wild<'_>) -> Result<Call, NoMemory> {
+    match wild_devices(alloc, wild) {
+        Ok(mut devices) => {
+            let call = played_over(alloc, program, devices.as_mut_slice());
+            drop(devices);
+            call
+        }
+        Err(NoMemory) => Err(NoMemory),
+    }
 }
 
 // A program, how the panel begins and what it does, what the lift answers, with the status and the journal.

@@ -1,18 +1,15 @@
 ghost use Rattle.std.specs.Prelude.{◌≡◌, ◌≤◌, true, IfOk, length};
 ghost use Rattle.golog_device.specs.Slots.{standings, FreshBelow};
 
-use crate::calls::{Call, files_of, words_of};
-use golog_base::{Bytes, List, MemSink, NoMemory};
+use crate::calls::{Call, called_on_threads, files_of};
+use golog_base::{Bytes, List, NoMemory};
 use golog_device::{Begun, Device, Idle, Served};
-use golog_main::{golog, script_devices};
+use golog_main::script_devices;
 use std::alloc::Global;
 use std::sync::atomic::{AtomicU64, Ordering};
 use std::sync::{Arc, Wait};
 use std::test::Fail;
 use std::thread::Threads;
-
-/// How many bytes the journal of a run may have.
-const ROOM: u32 = 4_000_000;
 
 /// Runs an agent file of these bytes over these devices, each on a thread of its own.
 fn called_over<R: Threads + Wait + Sync, D: Device + Send>(
@@ -28,7 +25,7 @@ fn called_over<R: Threads + Wait + Sync, D: Device + Send>(
 }
 
 /// Calls the program with these words over an agent file of these bytes and these devices.
-pub fn called_with<R: Threads + Wait + Sync, D: Device + Send>(
+fn called_with<R: Threads + Wait + Sync, D: Device + Send>(
     rt: &R,
     alloc: Global,
     words: &[&str],
@@ -38,11 +35,25 @@ pub fn called_with<R: Threads + Wait + Sync, D: Device + Send>(
     requires boxes { 16 ≤ length devices.old }
     requires fresh { FreshBelow 16 (standings D.fresh D.meaning devices.old) }
 {
-    let mut files = files_of(alloc, &[("x.agent", agent)], &[])?;
-    let words = words_of(alloc, words)?;
-    let mut out = MemSink::new(alloc, ROOM, List::new(alloc))?;
-    let status = golog(rt, alloc, words.as_slice(), &mut files, &mut out, devices);
-    Ok(Call { status, out })
+    let files = files_of(alloc, &[("x.agent", agent)], &[]);
+    called_on_threads(rt, alloc, words, files, devices)
+}
+
+/// The same over devices that follow scripts.
+pub fn called_with_scripts<R: Threads + Wait + Sync>(
+    rt: &R,
+    alloc: Global,
+    words: &[&str],
+    agent: &[u8],
+) -> Result<Call, NoMemory> {
+    match script_devices(alloc) {
+        Ok(mut devices) => {
+            let call = called_with(rt, alloc, words, agent, devices.as_mut_slice());
+            drop(devices);
+            call
+        }
+        Err(NoMemory) => Err(NoMemory),
+    }
 }
 
 // Without devices a run over threads has the text of one without.
@@ -50,8 +61,7 @@ pub fn called_with<R: Threads + Wait + Sync, D: Device + Send>(
 fn a_run_over_threads_without_devices(rt: HostRuntime) -> Result<(), Fail> {
     let agent: &[u8] = b"(agent (fluent p () bool false) (action a ()) (causes (a) (p) true)
         (main (seq (act a) (test (p)))))";
-    let mut devices = script_devices(rt.alloc())?;
-    let call = called_over(&rt, rt.alloc(), agent, devices.as_mut_slice())?;
+    let call = called_with_scripts(&rt, rt.alloc(), &["run", "x.agent"], agent)?;
     assert_eq!(rt; call.said(), (0, "0 do a\n1 test\n2 end done\n"));
     Ok(())
 }

@@ -1,5 +1,4 @@
-use crate::threads::called_with;
-use golog_main::script_devices;
+use crate::threads::called_with_scripts;
 use std::test::Fail;
 
 const AGENT: &[u8] = b"(agent (main nil))";
@@ -26,8 +25,7 @@ fn other_words_are_no_command(rt: HostRuntime) -> Result<(), Fail> {
         &["--version"],
     ];
     for words in lines {
-        let mut devices = script_devices(rt.alloc())?;
-        let call = called_with(&rt, rt.alloc(), words, AGENT, devices.as_mut_slice())?;
+        let call = called_with_scripts(&rt, rt.alloc(), words, AGENT)?;
         assert_eq!(rt; call.said(), (2, "words refused\n"), "{words:?}");
     }
     Ok(())
@@ -57,8 +55,7 @@ fn commands_are_served(rt: HostRuntime) -> Result<(), Fail> {
         ),
     ];
     for (words, status, said) in lines {
-        let mut devices = script_devices(rt.alloc())?;
-        let call = called_with(&rt, rt.alloc(), words, AGENT, devices.as_mut_slice())?;
+        let call = called_with_scripts(&rt, rt.alloc(), words, AGENT)?;
         assert_eq!(rt; call.said(), (status, said), "{words:?}");
     }
     Ok(())

@@ -12,6 +12,3 @@ pub use device::ScriptDevice;
 pub use fault::{NO_DEVICE, NOT_JSON, SAME_NAME, SHAPE, ScriptFault, TOO_MANY};
 pub use scripts::{DEVICES, Script, scripts_of};
 pub use text::script_text;
-
-#[cfg(test)]
-mod tests;

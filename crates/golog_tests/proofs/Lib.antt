@@ -4,3 +4,4 @@ pub mod Grounded
 pub mod Evaluated
 pub mod Searched
 pub mod Unblocked
+pub mod Lamps

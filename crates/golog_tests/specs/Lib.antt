@@ -1,1 +1,2 @@
 pub mod Blockless
+pub mod Lamps

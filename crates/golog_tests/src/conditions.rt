@@ -17,6 +17,7 @@ fn is_taken(alloc: Global, agent: &Agent) -> bool
         Err(_fault) => false,
     };
     drop(checked);
+    drop(cond);
     answer
 }
 
@@ -43,6 +44,7 @@ fn is_refused(alloc: Global, agent: &Agent) -> bool
         Err(fault) => is_clash(fault),
     };
     drop(checked);
+    drop(cond);
     answer
 }
 

@@ -1,7 +1,9 @@
+ghost use Rattle.golog_semantics.specs.Reports.{IsReport};
 ghost use Rattle.golog_semantics.specs.WellFormed.{WellFormed};
 
 use golog_base::{Bytes, NoMemory};
 use golog_file::read_agent;
+use golog_semantics::Report;
 use golog_text::{TextFault, read_journal, write_journal};
 use golog_tree::Agent;
 use std::alloc::Global;
@@ -27,10 +29,24 @@ enum Read {
 fn read_of(alloc: Global, agent: &Agent, text: &[u8]) -> Read
     requires { WellFormed agent.now }
 {
-    match read_journal(alloc, agent, text) {
+    let read = read_journal(alloc, agent, text);
+    let answer = match &read {
         Ok(report) => Read::Entries(report.entries.len()),
-        Err(TextFault::Refused { line, why }) => Read::Refused(why, line),
+        Err(TextFault::Refused { line, why }) => Read::Refused(*why, *line),
         Err(TextFault::Memory) => Read::NoMemory,
+    };
+    drop(read);
+    answer
+}
+
+/// Whether the report has this text.
+fn is_written(alloc: Global, agent: &Agent, report: &Report, text: &[u8]) -> bool
+    requires formed { WellFormed agent.now }
+    requires report { IsReport agent.now report.now }
+{
+    match write_journal(alloc, agent, report) {
+        Ok(written) => written.as_slice() == text,
+        Err(NoMemory) => false,
     }
 }
 
@@ -38,27 +54,33 @@ fn read_of(alloc: Global, agent: &Agent, text: &[u8]) -> Read
 fn is_written_back(alloc: Global, agent: &Agent, text: &[u8]) -> bool
     requires { WellFormed agent.now }
 {
-    match read_journal(alloc, agent, text) {
-        Ok(report) => match write_journal(alloc, agent, &report) {
-            Ok(written) => written.as_slice() == text,
-            Err(NoMemory) => false,
-        },
-        Err(_) => false,
-    }
+    let read = read_journal(alloc, agent, text);
+    let answer = match &read {
+        Ok(report) => is_written(alloc, agent, report, text),
+        Err(_fault) => false,
+    };
+    drop(read);
+    answer
 }
 
 fn read_by_arm(alloc: Global, text: &[u8]) -> Read {
-    match read_agent(alloc, ARM) {
-        Ok(agent) => read_of(alloc, &agent, text),
-        Err(_) => Read::NoMemory,
-    }
+    let read = read_agent(alloc, ARM);
+    let answer = match &read {
+        Ok(agent) => read_of(alloc, agent, text),
+        Err(_fault) => Read::NoMemory,
+    };
+    drop(read);
+    answer
 }
 
 fn is_back_by_arm(alloc: Global, text: &[u8]) -> bool {
-    match read_agent(alloc, ARM) {
-        Ok(agent) => is_written_back(alloc, &agent, text),
-        Err(_) => false,
-    }
+    let read = read_agent(alloc, ARM);
+    let answer = match &read {
+        Ok(agent) => is_written_back(alloc, agent, text),
+        Err(_fault) => false,
+    };
+    drop(read);
+    answer
 }
 
 /// Each line that a journal may have.

@@ -18,6 +18,8 @@ mod fronts;
 #[cfg(test)]
 mod journals;
 #[cfg(test)]
+mod known;
+#[cfg(test)]
 mod limits;
 #[cfg(test)]
 mod lines;

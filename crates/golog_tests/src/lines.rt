@@ -65,10 +65,13 @@ fn is_filled(line: &mut Line, alloc: Global, agent: &Agent, before: &State, text
     requires formed { WellFormed agent.now }
     requires sorts { AreInSorts agent.now before.now }
 {
-    match read_journal(alloc, agent, text) {
-        Ok(report) => is_first_line(line, agent, before, &report, text),
-        Err(_) => false,
-    }
+    let read = read_journal(alloc, agent, text);
+    let answer = match &read {
+        Ok(report) => is_first_line(line, agent, before, report, text),
+        Err(_fault) => false,
+    };
+    drop(read);
+    answer
 }
 
 /// The longest line of the wide agent at the first place.

@@ -15,15 +15,36 @@ fn star(alloc: Global) -> Result<Prog, NoMemory> {
 
 /// Whether equal programs have one number, others another, and the last number is that of its program.
 #[tactic(auto, using(std::proofs::lemmas::Option::slice_get_within))]
-fn has_numbers(alloc: Global) -> Result<bool, NoMemory> {
-    let mut nodes = Nodes::new(alloc)?;
-    let star = star(alloc)?;
+fn are_numbered(nodes: &mut Nodes, star: &Prog) -> Result<bool, NoMemory> {
     let nil = nodes.number(&Prog::Nil)?;
-    let one = nodes.number(&star)?;
+    let one = nodes.number(star)?;
     let same_nil = nodes.number(&Prog::Nil)? == nil;
-    let again = nodes.number(&star)?;
-    let is_star = is_same_prog(nodes.prog(again), &star);
+    let again = nodes.number(star)?;
+    let is_star = is_same_prog(nodes.prog(again), star);
     Ok(same_nil && again == one && nil != one && is_star)
+}
+
+/// The same, where no program has a number yet.
+fn are_numbered_anew(alloc: Global, star: &Prog) -> Result<bool, NoMemory> {
+    match Nodes::new(alloc) {
+        Ok(mut nodes) => {
+            let answer = are_numbered(&mut nodes, star);
+            drop(nodes);
+            answer
+        }
+        Err(NoMemory) => Err(NoMemory),
+    }
+}
+
+/// The same of the empty program and its iteration.
+fn has_numbers(alloc: Global) -> Result<bool, NoMemory> {
+    let made = star(alloc);
+    let answer = match &made {
+        Ok(star) => are_numbered_anew(alloc, star),
+        Err(NoMemory) => Err(NoMemory),
+    };
+    drop(made);
+    answer
 }
 
 #[test]

@@ -1,6 +1,7 @@
-ghost use Rattle.std.specs.Prelude.{◌<◌, IfSome, length};
+ghost use Rattle.std.specs.Prelude.{◌<◌, All, IfSome, length};
 ghost use Rattle.golog_tree.specs.Ground.{ground_actions};
 ghost use Rattle.golog_semantics.specs.WellFormed.{WellFormed};
+ghost use Rattle.golog_regress.specs.Regression.{EventFits};
 
 use crate::agents::WORLD;
 use golog_base::{Boxed, List, NoMemory};
@@ -59,38 +60,86 @@ fn is_c_blocked(cond: &Cond) -> bool {
     }
 }
 
-/// Once the way to `b` is blocked it is, and that to `c` is if it was; of a place that is not named it turns on
-/// whether it is `b`: so many nodes more.
-fn before_blocking(alloc: Global, agent: &Agent, action: u32) -> Result<[bool; 3], NoMemory>
+/// What was made of a condition.
+#[derive(Clone, Copy)]
+struct Made {
+    is_true: bool,
+    is_c_blocked: bool,
+    nodes: u64,
+}
+
+/// The condition that was made, as it stands.
+fn seen(made: Result<Cond, NoMemory>) -> Option<Made> {
+    let answer = match &made {
+        Ok(cond) => Some(Made {
+            is_true: is_true(cond),
+            is_c_blocked: is_c_blocked(cond),
+            nodes: nodes(cond),
+        }),
+        Err(NoMemory) => None,
+    };
+    drop(made);
+    answer
+}
+
+/// What a condition is before the action of this number.
+fn before(alloc: Global, agent: &Agent, action: u32, cond: Result<Cond, NoMemory>) -> Option<Made>
     requires formed { WellFormed agent.now }
     requires action { action < length (ground_actions agent.now) }
 {
-    let b = regress(
-        alloc,
-        agent,
-        &blocked(alloc, Arg::Const(1))?,
-        Event::Did(action),
-    )?;
-    let c = regress(
-        alloc,
-        agent,
-        &blocked(alloc, Arg::Const(2))?,
-        Event::Did(action),
-    )?;
-    let some = regress(alloc, agent, &some_blocked(alloc)?, Event::Did(action))?;
-    Ok([is_true(&b), is_c_blocked(&c), nodes(&some) == 12])
+    let answer = match &cond {
+        Ok(cond) => seen(regress(alloc, agent, cond, Event::Did(action))),
+        Err(NoMemory) => None,
+    };
+    drop(cond);
+    answer
+}
+
+/// What a condition is before these events.
+fn before_all(
+    alloc: Global,
+    agent: &Agent,
+    events: &[Event],
+    cond: Result<Cond, NoMemory>,
+) -> Option<Made>
+    requires formed { WellFormed agent.now }
+    requires events { All (EventFits agent.now) events.now }
+{
+    let answer = match &cond {
+        Ok(cond) => seen(regress_all(alloc, agent, cond, events)),
+        Err(NoMemory) => None,
+    };
+    drop(cond);
+    answer
+}
+
+/// Once the way to `b` is blocked it is, and that to `c` is if it was; of a place that is not named it turns on
+/// whether it is `b`: so many nodes more.
+fn is_taken_back(alloc: Global, agent: &Agent, action: u32) -> bool
+    requires formed { WellFormed agent.now }
+    requires action { action < length (ground_actions agent.now) }
+{
+    let b = before(alloc, agent, action, blocked(alloc, Arg::Const(1)));
+    let c = before(alloc, agent, action, blocked(alloc, Arg::Const(2)));
+    let some = before(alloc, agent, action, some_blocked(alloc));
+    match (b, c, some) {
+        (Some(b), Some(c), Some(some)) => b.is_true && c.is_c_blocked && some.nodes == 12,
+        _ => false,
+    }
 }
 
 /// Over no event a condition stays; over two of them the last comes first.
-fn before_all(alloc: Global, agent: &Agent, action: u32) -> Result<[bool; 2], NoMemory>
+fn is_taken_back_over_all(alloc: Global, agent: &Agent, action: u32) -> bool
     requires formed { WellFormed agent.now }
     requires action { action < length (ground_actions agent.now) }
 {
-    let c = blocked(alloc, Arg::Const(2))?;
-    let none = regress_all(alloc, agent, &c, &[])?;
-    let b = blocked(alloc, Arg::Const(1))?;
-    let twice = regress_all(alloc, agent, &b, &[Event::Did(action), Event::Did(action)])?;
-    Ok([is_c_blocked(&none), is_true(&twice)])
+    let events = [Event::Did(action), Event::Did(action)];
+    let none = before_all(alloc, agent, &[], blocked(alloc, Arg::Const(2)));
+    let twice = before_all(alloc, agent, &events, blocked(alloc, Arg::Const(1)));
+    match (none, twice) {
+        (Some(none), Some(twice)) => none.is_c_blocked && twice.is_true,
+        _ => false,
+    }
 }
 
 /// Whether all of that holds over the agent.
@@ -99,8 +148,7 @@ fn regresses(alloc: Global, agent: &Agent) -> bool
 {
     match blocking(agent) {
         Some(action) => {
-            before_blocking(alloc, agent, action).ok() == Some([true; 3])
-                && before_all(alloc, agent, action).ok() == Some([true; 2])
+            is_taken_back(alloc, agent, action) && is_taken_back_over_all(alloc, agent, action)
         }
         None => false,
     }

@@ -59,10 +59,13 @@ fn told_by_watch(alloc: Global, agent: &Agent, run: &[Way], state: &State) -> Re
     requires blockless { IsBlockless agent.now }
     requires sorts { AreInSorts agent.now state.now }
 {
-    match Watch::of(alloc, agent, &agent.main, run) {
+    let made = Watch::of(alloc, agent, &agent.main, run);
+    let answer = match &made {
         Ok(watch) => watch.still(alloc, agent, state),
         Err(NoMemory) => Err(NoMemory),
-    }
+    };
+    drop(made);
+    answer
 }
 
 /// What a watch tells, watches that may have one, and stepping the run again.
@@ -123,7 +126,9 @@ fn told_after(
     match start(alloc, agent) {
         Ok(mut state) => {
             state_by(agent, text, &mut state);
-            told(alloc, agent, run, &state, watches)
+            let answer = told(alloc, agent, run, &state, watches);
+            drop(state);
+            answer
         }
         Err(NoMemory) => Err(NoMemory),
     }
@@ -159,7 +164,11 @@ fn told_of_run(
     requires blockless { IsBlockless agent.now }
 {
     match Watches::new(alloc) {
-        Ok(mut watches) => told_of_each(alloc, agent, run, actions, &mut watches),
+        Ok(mut watches) => {
+            let answer = told_of_each(alloc, agent, run, actions, &mut watches);
+            drop(watches);
+            answer
+        }
         Err(NoMemory) => Err(NoMemory),
     }
 }
@@ -175,11 +184,14 @@ fn told_of_block(
     requires blockless { IsBlockless agent.now }
     requires body { block.now.body ≡ agent.now.main }
 {
-    match find_at_start(alloc, agent, block, true) {
+    let found = find_at_start(alloc, agent, block, true);
+    let answer = match &found {
         Ok(Found::Run(run)) => told_of_run(alloc, agent, run.as_slice(), actions),
         Ok(_) => Ok([[false; 3]; 4]),
         Err(NoMemory) => Err(NoMemory),
-    }
+    };
+    drop(found);
+    answer
 }
 
 /// The same of the agent's program.
@@ -196,10 +208,13 @@ fn told_of_main(
         fuel: 1000,
         certain: true,
     };
-    match block_of(alloc, agent, asked) {
-        Ok(block) => told_of_block(alloc, agent, &block, actions),
+    let made = block_of(alloc, agent, asked);
+    let answer = match &made {
+        Ok(block) => told_of_block(alloc, agent, block, actions),
         Err(NoMemory) => Err(NoMemory),
-    }
+    };
+    drop(made);
+    answer
 }
 
 /// The same of the program of an agent that is read, which has no search blocks.

@@ -4,4 +4,3 @@ pub mod Turns
 pub mod Steps
 pub mod Seats
 pub mod Rests
-pub mod Examples

@@ -7,8 +7,6 @@ mod lock;
 mod object;
 mod rest;
 mod steps;
-#[cfg(test)]
-mod tests;
 mod view;
 
 pub use lock::{Seat, TurnLock};

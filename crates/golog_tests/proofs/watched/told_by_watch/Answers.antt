@@ -1,4 +1,4 @@
 use Rattle.golog_tests.proofs.watched.told_by_watch.Goals as goal
 
-pub of-requires-clause-program : goal.of-requires-clause-program
-of-requires-clause-program c = c.requires.formed.programs.main
+pub of-made-requires-clause-program : goal.of-made-requires-clause-program
+of-made-requires-clause-program c = c.requires.formed.programs.main

@@ -1,0 +1,101 @@
+use anyhow::{Result, bail};
+use golog_words::{WordsFault, order_of};
+use std::alloc::Global;
+
+// What the words of a line, with a space between each two, are answered.
+fn answer(alloc: Global, line: &str) -> Result<String> {
+    let mut words = Vec::new(alloc);
+    for word in line.split(' ') {
+        words.push(String::from_str(alloc, word)?)?;
+    }
+    match order_of(alloc, words.as_slice()) {
+        Ok(order) => Ok(format!(in alloc; "{order:?}")?),
+        Err(WordsFault::Refused) => Ok(String::from_str(alloc, "refused")?),
+        Err(WordsFault::Memory) => bail!("memory ran out"),
+    }
+}
+
+#[test]
+fn commands_are_read(rt: HostRuntime) -> Result<()> {
+    let table = [
+        (
+            "run a",
+            "Run { agent: \"a\", devices: None, inline: false }",
+        ),
+        (
+            "run --inline a",
+            "Run { agent: \"a\", devices: None, inline: true }",
+        ),
+        (
+            "run a d",
+            "Run { agent: \"a\", devices: Some(\"d\"), inline: false }",
+        ),
+        (
+            "run a --inline d",
+            "Run { agent: \"a\", devices: Some(\"d\"), inline: true }",
+        ),
+        (
+            "run run check --inline",
+            "Run { agent: \"run\", devices: Some(\"check\"), inline: true }",
+        ),
+        ("check check", "Check { agent: \"check\" }"),
+        ("replay a j", "Replay { agent: \"a\", journal: \"j\" }"),
+        (
+            "ask a j (p)",
+            "Ask { agent: \"a\", journal: \"j\", condition: \"(p)\" }",
+        ),
+        ("demo 1", "Demo { size: 1 }"),
+        ("demo 200", "Demo { size: 200 }"),
+    ];
+    for (line, expected) in table {
+        let given = answer(rt.alloc(), line)?;
+        assert!(rt; given.as_str() == expected, "at {line}");
+    }
+    Ok(())
+}
+
+#[test]
+fn other_words_are_refused(rt: HostRuntime) -> Result<()> {
+    let table = [
+        "",
+        "run",
+        "run --inline",
+        "run ",
+        "run a  --inline",
+        "run a -i",
+        "run a -- d",
+        "run a d e",
+        "run a --inline --inline",
+        "run --inline a --inline d",
+        "Run a",
+        "check",
+        "check a b",
+        "check --inline",
+        "check a --inline",
+        "replay a",
+        "replay a j k",
+        "ask a j",
+        "ask a j -p",
+        "ask a j (not (p))",
+        "demo",
+        "demo 0",
+        "demo 01",
+        "demo +1",
+        "demo 201",
+        "demo 1000",
+        "demo 18446744073709551617",
+        "demo 1 2",
+        "help",
+        "--help",
+        "--version",
+        "-h",
+    ];
+    for line in table {
+        let given = answer(rt.alloc(), line)?;
+        assert!(rt; given.as_str() == "refused", "at {line}");
+    }
+    match order_of(rt.alloc(), &[]) {
+        Err(WordsFault::Refused) => Ok(()),
+        _ => bail!("no word is no command"),
+    }
+}

@@ -1,0 +1,2 @@
+pub mod SmallAgent
+pub mod Counter
