@@ -8,6 +8,7 @@ use std::alloc::Global;
 // The most entries that it counts.
 const ROOM: usize = 4096;
 
+/// Whose each turn was, in order, for at most 4,096 turns.
 #[derive(Drop)]
 pub struct Counter {
     parties: Vec<u32>,
@@ -20,6 +21,7 @@ pub struct Counter {
 pub struct Add(pub u32);
 
 impl Counter {
+    /// A counter of no turn yet, with room for all that it counts. `NoMemory` where there is none for that.
     pub fn new(alloc: Global) -> Result<Counter, NoMemory>
         ensures { IfOk result (λ made. made.parties.items ≡ []) }
     {

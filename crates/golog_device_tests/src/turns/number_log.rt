@@ -16,12 +16,14 @@ pub struct Item {
     pub number: u32,
 }
 
+/// The items put so far, in order, at most 4,096.
 #[derive(Drop)]
 pub struct NumberLog {
     items: Vec<Item>,
     ghost roomy: { 4096 ≤ vec_capacity items },
 }
 
+/// What a party asks of the log in its turn.
 #[derive(Clone, Copy)]
 pub enum LogOp {
     /// Adds the item where there is room.
@@ -30,6 +32,7 @@ pub enum LogOp {
     Read(u32),
 }
 
+/// What the log replies.
 #[derive(Clone, Copy, Debug, PartialEq)]
 pub enum LogReply {
     /// The item was added.
@@ -43,6 +46,7 @@ pub enum LogReply {
 }
 
 impl NumberLog {
+    /// A log with no item, and with room for all that it keeps. `NoMemory` where there is none for that.
     pub fn new(alloc: Global) -> Result<NumberLog, NoMemory>
         ensures { IfOk result (λ made. made.items.items ≡ []) }
     {
