@@ -20,9 +20,12 @@ use Rattle.golog_check.specs.Terms.{is_other, args_in, sides_in}
 abbrev pub InScope : Type 0
 InScope = Scope → Reading Cond
 
--- conditions, one after another
+-- conditions, one after another, behind those before them
+abbrev pub conds_after : List Cond → Scope → List InScope → Reading (List Cond)
+conds_after before scope conds = each (λ _ (cond : InScope). cond scope) before conds
+
 abbrev pub conds_in : Scope → List InScope → Reading (List Cond)
-conds_in scope conds = each (λ _ (cond : InScope). cond scope) [] conds
+conds_in scope conds = conds_after [] scope conds
 
 module _ (names : Declared) where
   -- the arguments of a fluent that stands as a condition, and so in a place of the sort `bool`

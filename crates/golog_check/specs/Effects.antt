@@ -2,6 +2,9 @@
 use Rattle.std.specs.Prelude.{ℕ, ◌==◌, ◌&&◌, ◌||◌, not, Bool, false, List, [], ◌∷◌, ◌++◌, slice_get, is_some, unwrap_or}
 use Rattle.std.specs.List.{list_any}
 use Rattle.std.specs.Option.{option_map_or}
+use Rattle.golog_tree.specs.declared.cond.Arg.{Arg}
+use Rattle.golog_tree.specs.declared.cond.Term.{Term}
+use Rattle.golog_tree.specs.declared.cond.Cond.{Cond}
 use Rattle.golog_tree.specs.declared.agent.ActionItem.{ActionItem}
 use Rattle.golog_tree.specs.declared.agent.PossItem.{PossItem}
 use Rattle.golog_tree.specs.declared.agent.CauseItem.{CauseItem}
@@ -34,7 +37,25 @@ may_sense actions action =
 abbrev pub is_sensed : List DraftSense → ℕ → Bool
 is_sensed items action = list_any (λ (item : DraftSense). item.action == action) items
 
+-- an effect by its condition
+abbrev pub effect_with : DraftCause → List Arg → List Arg → Term → Reading Cond → Reading CauseItem
+effect_with item args fluent_args term cond = cond >>= λ cond.
+    gives (record {
+      action = item.action;
+      action_args = args;
+      fluent = item.fluent;
+      fluent_args = fluent_args;
+      term = term;
+      cond = cond;
+    })
+
 module _ (names : Declared) where
+  -- an effect behind its heads, the last of which binds these variables
+  abbrev pub effect_in : DraftCause → List Arg → List Arg → Scope → Reading CauseItem
+  effect_in item args fluent_args scope =
+      term_in names scope (unwrap_or (fluent_sort names item.fluent) 0) item.term >>= λ term.
+      effect_with item args fluent_args term (cond_in names item.cond scope)
+
   -- the precondition of an action, whose arguments are its variables
   unfoldable pub poss_in : DraftPoss → Reading PossItem
   poss_in item =

@@ -13,3 +13,7 @@ code_at Memory = None
 -- the value of the reading, or its first refusal, unless memory ran out
 abbrev pub Answers : {A : Type 0} → Result A CheckFault → Reading A → Type 0
 Answers result reading = rows.Answers code_at result reading
+
+-- the same of a call that changes what it is called on
+abbrev pub Leaves : {A : Type 0} → Result Unit CheckFault → A → Reading A → Type 0
+Leaves result new reading = rows.Leaves code_at result new reading

@@ -32,9 +32,12 @@ nested join [] = prog.Nil
 nested join (part ∷ []) = part
 nested join (part ∷ next ∷ parts) = joined join part (nested join (next ∷ parts))
 
--- programs, one after another
+-- programs, one after another, behind those before them
+abbrev pub progs_after : List Prog → Scope → List InScope → Reading (List Prog)
+progs_after before scope parts = each (λ _ (part : InScope). part scope) before parts
+
 abbrev pub progs_in : Scope → List InScope → Reading (List Prog)
-progs_in scope parts = each (λ _ (part : InScope). part scope) [] parts
+progs_in scope parts = progs_after [] scope parts
 
 abbrev pub parts_in : Join → Scope → List InScope → Reading Prog
 parts_in join scope parts = progs_in scope parts >>= λ parts. gives (nested join parts)

@@ -20,7 +20,7 @@ ghost use Rattle.golog_check.specs.Order.{IsLeastRow, all_rows};
 ghost use Rattle.golog_check.specs.Parts.{AreParts};
 
 use crate::blocks::blocks_refused;
-use crate::checked::Checked;
+use crate::checked::{Checked, both};
 use crate::copies::{copy_actions, copy_devices, copy_fluents, copy_sorts, sort_places};
 use crate::effects::{cause_items_in, poss_items_in};
 use crate::fault::{CheckFault, FRONT_DEEP, refuse_where};
@@ -122,14 +122,20 @@ fn parts_of(
 {
     let fluent_sum = sum_passes(sorts, GROUND_FLUENTS, theory.fluents.as_slice());
     let action_sum = sum_passes(sorts, GROUND_ACTIONS, theory.actions.as_slice());
-    let starts = starts_in(alloc, names, theory.starts.as_slice())?;
-    let poss = poss_items_in(alloc, names, theory.poss.as_slice())?;
-    let causes = cause_items_in(alloc, names, theory.causes.as_slice())?;
-    let senses = sense_items_in(alloc, names, theory.senses.as_slice())?;
-    let procs = proc_items_in(alloc, names, program.procs.as_slice())?;
     let fronts = fronts_refused(alloc, program.procs.as_slice())?;
     let blocks = blocks_refused(alloc, program.procs.as_slice(), &program.main.body)?;
-    let main = main_checked(alloc, names, &program.main)?;
+    let starts = starts_in(alloc, names, theory.starts.as_slice());
+    let poss = poss_items_in(alloc, names, theory.poss.as_slice());
+    let causes = cause_items_in(alloc, names, theory.causes.as_slice());
+    let senses = sense_items_in(alloc, names, theory.senses.as_slice());
+    let procs = proc_items_in(alloc, names, program.procs.as_slice());
+    let main = main_checked(alloc, names, &program.main);
+    let states = both(starts, poss);
+    let effects = both(causes, senses);
+    let programs = both(procs, main);
+    let later = both(effects, programs);
+    let items = both(states, later)?;
+    let ((starts, poss), ((causes, senses), (procs, main))) = items;
     Ok(Parts {
         fluent_sum,
         action_sum,
@@ -168,6 +174,13 @@ fn main_of(main: List<Prog>) -> Prog
     main.pop().unwrap_or(Prog::Nil)
 }
 
+/// Puts a value in the place of another.
+fn put<T: Drop>(place: &mut T, value: T)
+    ensures { place.new ≡ value }
+{
+    *place = value;
+}
+
 /// The agent of what is declared, of its start values and of the parts, none of which is refused.
 fn agent_with(agent: Agent, starts: List<u8>, parts: Parts) -> Agent
     ensures { (reading : Reading Prog) → parts.main.items ≡ given (reading ∷ [])
@@ -181,6 +194,7 @@ fn agent_with(agent: Agent, starts: List<u8>, parts: Parts) -> Agent
         } }
 {
     let Parts {
+        starts: checked,
         poss,
         causes,
         senses,
@@ -188,15 +202,15 @@ fn agent_with(agent: Agent, starts: List<u8>, parts: Parts) -> Agent
         main,
         ..
     } = parts;
-    Agent {
-        poss: poss.items,
-        causes: causes.items,
-        senses: senses.items,
-        starts,
-        procs: procs.items,
-        main: main_of(main.items),
-        ..agent
-    }
+    drop(checked);
+    let mut agent = agent;
+    put(&mut agent.poss, poss.items);
+    put(&mut agent.causes, causes.items);
+    put(&mut agent.senses, senses.items);
+    put(&mut agent.starts, starts);
+    put(&mut agent.procs, procs.items);
+    put(&mut agent.main, main_of(main.items));
+    agent
 }
 
 /// Checks all parts of a theory and a program, by what the theory declares.
@@ -220,7 +234,11 @@ fn parts_for(
         agent.actions.as_slice(),
         params.as_slice(),
     );
-    parts_of(alloc, &names, sorts, theory, program)
+    let parts = parts_of(alloc, &names, sorts, theory, program);
+    drop(names);
+    drop(params);
+    drop(places);
+    parts
 }
 
 /// The agent of what is declared and of the parts, none of which is refused.

@@ -6,9 +6,9 @@ ghost use Rattle.golog_semantics.specs.Fits.{nothing_bound};
 ghost use Rattle.golog_semantics.specs.WellFormed.{WellFormed};
 ghost use Rattle.golog_check.specs.CheckLaws.{IsCondOf};
 ghost use Rattle.golog_check.specs.DeclaredItems.{HasFewSorts, declared_in};
-ghost use Rattle.golog_check.specs.Faults.{Answers};
+ghost use Rattle.golog_check.specs.Faults.{Answers, Leaves};
 ghost use Rattle.golog_check.specs.Scope.{within};
-ghost use Rattle.golog_check.specs.Conditions.{is_in, cond_in, conds_in};
+ghost use Rattle.golog_check.specs.Conditions.{is_in, cond_in, conds_after, conds_in};
 ghost use Rattle.golog_check.specs.Order.{IsLeastRow};
 
 use crate::args::{args_in, is_other};
@@ -40,9 +40,26 @@ fn is_in(
     args_in(alloc, names, scope, names.fluent_sorts(fluent), args)
 }
 
-/// Conditions in a scope, one after another.
+/// Adds conditions in a scope, one after another.
 #[cycle(conditions)]
 #[tactic(auto, using(crate::proofs::Conds::laws))]
+fn add_conds(
+    alloc: Global,
+    names: &Names<'_>,
+    scope: &[Variable],
+    drafts: &[DraftCond],
+    conds: &mut List<Cond>,
+) -> Result<(), CheckFault>
+    ensures { Leaves result conds.new (conds_after conds.old scope.now (map (cond_in names.now) drafts.now)) }
+{
+    for draft in drafts {
+        conds.push(cond_in(alloc, names, scope, draft)?)?;
+    }
+    Ok(())
+}
+
+/// Conditions in a scope, one after another.
+#[cycle(conditions)]
 fn conds_in(
     alloc: Global,
     names: &Names<'_>,
@@ -52,10 +69,13 @@ fn conds_in(
     ensures { Answers result (conds_in scope.now (map (cond_in names.now) drafts.now)) }
 {
     let mut conds = List::new(alloc);
-    for draft in drafts {
-        conds.push(cond_in(alloc, names, scope, draft)?)?;
+    match add_conds(alloc, names, scope, drafts, &mut conds) {
+        Ok(()) => Ok(conds),
+        Err(fault) => {
+            drop(conds);
+            Err(fault)
+        }
     }
-    Ok(conds)
 }
 
 /// A condition that stands in a list of its own.
@@ -85,7 +105,9 @@ fn body_in(
     ensures { Answers result (cond_in names.now draft.now (within var.now sort scope.now)) }
 {
     let inner = within(alloc, *var, sort, scope)?;
-    boxed_in(alloc, names, inner.as_slice(), draft)
+    let body = boxed_in(alloc, names, inner.as_slice(), draft);
+    drop(inner);
+    body
 }
 
 /// What a condition of a draft is in a scope, or the first term that is no term of its sort, or word that is unbound.

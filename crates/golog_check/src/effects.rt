@@ -1,7 +1,9 @@
 ghost use Rattle.std.specs.Prelude.{◌≡◌, [], map, IfOk};
 ghost use Rattle.golog_check.specs.Faults.{Answers};
 ghost use Rattle.golog_check.specs.Checked.{IsChecked};
+ghost use Rattle.golog_check.specs.Conditions.{cond_in};
 ghost use Rattle.golog_check.specs.Effects.{poss_in as spec_poss_in, cause_in as spec_cause_in, head_within as spec_head_within};
+ghost use Rattle.golog_check.specs.Effects.{effect_in, effect_with};
 
 use crate::checked::Checked;
 use crate::conditions::cond_in;
@@ -11,7 +13,7 @@ use crate::names::Names;
 use crate::scope::Variable;
 use crate::terms::term_in;
 use golog_base::{List, NoMemory};
-use golog_tree::{CauseItem, DraftCause, DraftPoss, PossItem};
+use golog_tree::{Arg, CauseItem, DraftCause, DraftPoss, PossItem, Term};
 use std::alloc::Global;
 
 /// The precondition of an action, whose arguments are its variables.
@@ -53,6 +55,75 @@ fn head_within(alloc: Global, scope: List<Variable>) -> Head
     }
 }
 
+/// An effect whose condition is still a draft, in view of these variables.
+fn effect_with(
+    alloc: Global,
+    names: &Names<'_>,
+    scope: &[Variable],
+    item: &DraftCause,
+    action_args: List<Arg>,
+    fluent_args: List<Arg>,
+    term: Term,
+) -> Result<CauseItem, CheckFault>
+    ensures { Answers result
+        (effect_with item.now action_args fluent_args term (cond_in names.now item.now.cond scope.now)) }
+{
+    match cond_in(alloc, names, scope, &item.cond) {
+        Ok(cond) => Ok(CauseItem {
+            action: item.action,
+            action_args,
+            fluent: item.fluent,
+            fluent_args,
+            term,
+            cond,
+        }),
+        Err(fault) => {
+            drop(term);
+            drop(fluent_args);
+            drop(action_args);
+            Err(fault)
+        }
+    }
+}
+
+/// An effect behind its heads, in view of these variables.
+fn effect_in(
+    alloc: Global,
+    names: &Names<'_>,
+    scope: &[Variable],
+    item: &DraftCause,
+    action_args: List<Arg>,
+    fluent_args: List<Arg>,
+) -> Result<CauseItem, CheckFault>
+    ensures { Answers result (effect_in names.now item.now action_args fluent_args scope.now) }
+{
+    let sort = names.fluent_sort(item.fluent).unwrap_or(0);
+    match term_in(alloc, names, scope, sort, &item.term) {
+        Ok(term) => effect_with(alloc, names, scope, item, action_args, fluent_args, term),
+        Err(fault) => {
+            drop(fluent_args);
+            drop(action_args);
+            Err(fault)
+        }
+    }
+}
+
+/// An effect behind its heads.
+fn behind_heads(
+    alloc: Global,
+    names: &Names<'_>,
+    item: &DraftCause,
+    action_args: List<Arg>,
+    fluent: Head,
+) -> Result<CauseItem, CheckFault>
+    ensures { Answers result (effect_in names.now item.now action_args fluent.args fluent.scope) }
+{
+    let Head { args, scope } = fluent;
+    let effect = effect_in(alloc, names, scope.as_slice(), item, action_args, args);
+    drop(scope);
+    effect
+}
+
 /// An effect: the arguments of its action bind its variables, and those of its fluent bind more.
 #[tactic(auto, unfolding(crate::specs::Effects::cause_in))]
 fn cause_in(alloc: Global, names: &Names<'_>, item: &DraftCause) -> Result<CauseItem, CheckFault>
@@ -64,18 +135,13 @@ fn cause_in(alloc: Global, names: &Names<'_>, item: &DraftCause) -> Result<Cause
     let Head { args, scope } = action;
     let head = head_within(alloc, scope);
     let sorts = names.fluent_sorts(item.fluent);
-    let fluent = head_from(alloc, names, head, sorts, item.fluent_args.as_slice())?;
-    let sort = names.fluent_sort(item.fluent).unwrap_or(0);
-    let term = term_in(alloc, names, fluent.scope.as_slice(), sort, &item.term)?;
-    let cond = cond_in(alloc, names, fluent.scope.as_slice(), &item.cond)?;
-    Ok(CauseItem {
-        action: item.action,
-        action_args: args,
-        fluent: item.fluent,
-        fluent_args: fluent.args,
-        term,
-        cond,
-    })
+    match head_from(alloc, names, head, sorts, item.fluent_args.as_slice()) {
+        Ok(fluent) => behind_heads(alloc, names, item, args, fluent),
+        Err(fault) => {
+            drop(args);
+            Err(fault)
+        }
+    }
 }
 
 /// Effects, one after another.

@@ -1,9 +1,11 @@
-ghost use Rattle.std.specs.Prelude.{◌≡◌, ◌++◌, [], ◌∷◌, map, IfOk};
+ghost use Rattle.std.specs.Prelude.{◌≡◌, ◌++◌, [], ◌∷◌, map, Err, IfOk};
 ghost use Rattle.golog_tree.specs.Ground.{to_count};
-ghost use Rattle.golog_tree.specs.declared.draft_prog.DraftProg.TheOpen.{Act, Call, Test, Pick, Star, Cstar, Search};
-ghost use Rattle.golog_check.specs.Faults.{Answers};
+ghost use Rattle.golog_tree.specs.declared.draft_prog.DraftProg.TheOpen.{Act, Call, Test, Pick, Star};
+ghost use Rattle.golog_tree.specs.declared.draft_prog.DraftProg.TheOpen.{While, Cstar, Search};
+ghost use Rattle.golog_check.specs.Faults.{Answers, Leaves};
 ghost use Rattle.golog_check.specs.Scope.{within};
-ghost use Rattle.golog_check.specs.Programs.{prog_step, prog_in, progs_in, parts_in, nested, joined, with_no, with_body};
+ghost use Rattle.golog_check.specs.Programs.{prog_step, prog_in, progs_after, progs_in, parts_in};
+ghost use Rattle.golog_check.specs.Programs.{nested, joined, with_no, with_body};
 
 use crate::args::args_in;
 use crate::checked::both;
@@ -65,9 +67,26 @@ pub fn count_of(number: i32) -> u32
     if number < 0 { 0 } else { number as u32 }
 }
 
-/// Programs in a scope, one after another.
+/// Adds programs in a scope, one after another.
 #[cycle(programs)]
 #[tactic(auto, using(crate::proofs::Progs::laws))]
+fn add_progs(
+    alloc: Global,
+    names: &Names<'_>,
+    scope: &[Variable],
+    drafts: &[DraftProg],
+    progs: &mut List<Prog>,
+) -> Result<(), CheckFault>
+    ensures { Leaves result progs.new (progs_after progs.old scope.now (map (prog_in names.now) drafts.now)) }
+{
+    for draft in drafts {
+        progs.push(prog_in(alloc, names, scope, draft)?)?;
+    }
+    Ok(())
+}
+
+/// Programs in a scope, one after another.
+#[cycle(programs)]
 fn progs_in(
     alloc: Global,
     names: &Names<'_>,
@@ -77,10 +96,13 @@ fn progs_in(
     ensures { Answers result (progs_in scope.now (map (prog_in names.now) drafts.now)) }
 {
     let mut progs = List::new(alloc);
-    for draft in drafts {
-        progs.push(prog_in(alloc, names, scope, draft)?)?;
+    match add_progs(alloc, names, scope, drafts, &mut progs) {
+        Ok(()) => Ok(progs),
+        Err(fault) => {
+            drop(progs);
+            Err(fault)
+        }
     }
-    Ok(progs)
 }
 
 /// Programs in a scope, nested to the right.
@@ -125,7 +147,9 @@ fn body_in(
     ensures { Answers result (prog_in names.now draft.now (within var.now sort scope.now)) }
 {
     let inner = within(alloc, *var, sort, scope)?;
-    boxed_in(alloc, names, inner.as_slice(), draft)
+    let body = boxed_in(alloc, names, inner.as_slice(), draft);
+    drop(inner);
+    body
 }
 
 fn act_in(
@@ -213,6 +237,14 @@ fn cstar_in(
     Ok(Prog::Cstar(body))
 }
 
+/// The fault of a program whose condition was read.
+fn without(cond: Cond, fault: CheckFault) -> Result<Prog, CheckFault>
+    ensures { result ≡ Err fault }
+{
+    drop(cond);
+    Err(fault)
+}
+
 /// An `if` whose second program is still a draft.
 #[cycle(programs)]
 fn if_in(
@@ -227,13 +259,17 @@ fn if_in(
 {
     match boxed_in(alloc, names, scope, draft) {
         Ok(no) => Ok(Prog::If { cond, yes, no }),
-        Err(fault) => Err(fault),
+        Err(fault) => {
+            drop(yes);
+            drop(cond);
+            Err(fault)
+        }
     }
 }
 
 /// A `while` whose program is still a draft.
 #[cycle(programs)]
-fn while_in(
+fn while_with(
     alloc: Global,
     names: &Names<'_>,
     scope: &[Variable],
@@ -244,8 +280,26 @@ fn while_in(
 {
     match boxed_in(alloc, names, scope, draft) {
         Ok(body) => Ok(Prog::While { cond, body }),
-        Err(fault) => Err(fault),
+        Err(fault) => {
+            drop(cond);
+            Err(fault)
+        }
     }
+}
+
+/// A `while` whose condition is still a draft too.
+#[cycle(programs)]
+fn while_in(
+    alloc: Global,
+    names: &Names<'_>,
+    scope: &[Variable],
+    draft: &DraftProg,
+    cond: &DraftCond,
+) -> Result<Prog, CheckFault>
+    ensures { Answers result (prog_step names.now (While cond.now (prog_in names.now draft.now) 0) scope.now) }
+{
+    let cond = cond_in(alloc, names, scope, cond)?;
+    while_with(alloc, names, scope, draft, cond)
 }
 
 #[cycle(programs)]
@@ -299,13 +353,12 @@ pub fn prog_in(
         DraftProg::Star { body, .. } => star_in(alloc, names, scope, body.get()),
         DraftProg::If { cond, yes, no, .. } => {
             let cond = cond_in(alloc, names, scope, cond)?;
-            let yes = boxed_in(alloc, names, scope, yes.get())?;
-            if_in(alloc, names, scope, no.get(), cond, yes)
+            match boxed_in(alloc, names, scope, yes.get()) {
+                Ok(yes) => if_in(alloc, names, scope, no.get(), cond, yes),
+                Err(fault) => without(cond, fault),
+            }
         }
-        DraftProg::While { cond, body, .. } => {
-            let cond = cond_in(alloc, names, scope, cond)?;
-            while_in(alloc, names, scope, body.get(), cond)
-        }
+        DraftProg::While { cond, body, .. } => while_in(alloc, names, scope, body.get(), cond),
         DraftProg::Conc { parts, .. } => {
             parts_in(alloc, names, scope, Join::Conc, parts.as_slice())
         }

@@ -1,6 +1,6 @@
 ghost use Rattle.std.specs.Prelude.{◌≡◌};
 ghost use Rattle.golog_check.specs.Faults.{Answers};
-ghost use Rattle.golog_check.specs.Terms.{term_place, term_sort, term_as, term_in, common, sides_in};
+ghost use Rattle.golog_check.specs.Terms.{term_place, term_sort, term_as, term_in, common, sides_with, sides_in};
 
 use crate::args::{arg_as, arg_place, arg_sort, args_in, is_other};
 use crate::fault::{CheckFault, SORT_CLASH, refuse_where};
@@ -104,6 +104,26 @@ fn common(one: Option<u32>, other: Option<u32>) -> Option<u32>
     }
 }
 
+/// The two sides of a comparison, of which the second is still a draft.
+fn sides_with(
+    alloc: Global,
+    names: &Names<'_>,
+    scope: &[Variable],
+    sort: u32,
+    one: Term,
+    other: &DraftTerm,
+) -> Result<Sides, CheckFault>
+    ensures { Answers result (sides_with sort one (term_as names.now scope.now other.now sort)) }
+{
+    match term_as(alloc, names, scope, sort, other) {
+        Ok(other) => Ok(Sides { sort, one, other }),
+        Err(fault) => {
+            drop(one);
+            Err(fault)
+        }
+    }
+}
+
 /// The two sides of a comparison, which is of their sort. An order is one of whole numbers.
 #[tactic(auto, unfolding(crate::specs::Terms::sides_in))]
 pub fn sides_in(
@@ -126,6 +146,5 @@ pub fn sides_in(
     };
     refuse_where(is_order && !names.is_range(sort), SORT_CLASH, at)?;
     let one = term_as(alloc, names, scope, sort, one)?;
-    let other = term_as(alloc, names, scope, sort, other)?;
-    Ok(Sides { sort, one, other })
+    sides_with(alloc, names, scope, sort, one, other)
 }

@@ -4,6 +4,18 @@ use Rattle.golog_theory.specs.Names.{same}
 use Rattle.golog_prog.specs.declared.keyword.Keyword.{Keyword}
 use Rattle.golog_prog.specs.declared.keyword.Keyword.TheVariants.{Act, Test, Seq, Choice, Pick, Star, If, While, Conc, Prio, Cstar, Call, Search, Interrupt, Interrupts}
 
+-- one of the keywords behind `while` in their row
+abbrev pub later_keyword : List ℕ → Option Keyword
+later_keyword text =
+    if same text (codes "conc") then Some Conc
+    else if same text (codes "prio") then Some Prio
+    else if same text (codes "cstar") then Some Cstar
+    else if same text (codes "call") then Some Call
+    else if same text (codes "search") then Some Search
+    else if same text (codes "interrupt") then Some Interrupt
+    else if same text (codes "interrupts") then Some Interrupts
+    else None
+
 -- the keyword that a text spells
 unfoldable pub keyword_of : List ℕ → Option Keyword
 keyword_of text =
@@ -15,11 +27,4 @@ keyword_of text =
     else if same text (codes "star") then Some Star
     else if same text (codes "if") then Some If
     else if same text (codes "while") then Some While
-    else if same text (codes "conc") then Some Conc
-    else if same text (codes "prio") then Some Prio
-    else if same text (codes "cstar") then Some Cstar
-    else if same text (codes "call") then Some Call
-    else if same text (codes "search") then Some Search
-    else if same text (codes "interrupt") then Some Interrupt
-    else if same text (codes "interrupts") then Some Interrupts
-    else None
+    else later_keyword text

@@ -158,6 +158,16 @@ fn add_sides(
     text.push(b')')
 }
 
+// Adds a condition behind a space as the last of its list.
+#[cycle(add_cond)]
+fn add_last(text: &mut Bytes, agent: &Agent, stem: &[u8], cond: &Cond) -> Result<(), NoMemory>
+    ensures { OnOk result (text.new ≡ text.old ++ 32 ∷ (cond_text agent.now stem.now cond.now ++ 41 ∷ [])) }
+{
+    text.push(b' ')?;
+    add_cond(text, agent, stem, cond)?;
+    text.push(b')')
+}
+
 // Adds conditions in a list behind a word.
 #[cycle(add_cond)]
 fn add_conds(
@@ -195,9 +205,7 @@ fn add_bound(
 {
     open_list(text, word)?;
     add_binder(text, agent, stem, var, sort)?;
-    text.push(b' ')?;
-    add_cond(text, agent, stem, body)?;
-    text.push(b')')
+    add_last(text, agent, stem, body)
 }
 
 /// Adds a condition.
@@ -214,9 +222,7 @@ pub fn add_cond(text: &mut Bytes, agent: &Agent, stem: &[u8], cond: &Cond) -> Re
         Cond::AtMost { sort, one, other } => add_sides(text, agent, stem, b"<=", *sort, one, other),
         Cond::Not(body) => {
             open_list(text, b"not")?;
-            text.push(b' ')?;
-            add_cond(text, agent, stem, body.get())?;
-            text.push(b')')
+            add_last(text, agent, stem, body.get())
         }
         Cond::And(conds) => add_conds(text, agent, stem, b"and", conds.as_slice()),
         Cond::Or(conds) => add_conds(text, agent, stem, b"or", conds.as_slice()),

@@ -273,7 +273,10 @@ fn read_over(alloc: Global, theory: &DraftTheory, items: &[Form]) -> Result<SoFa
 {
     let index = Index::of(alloc, theory)?;
     let procs = Procedures::of(alloc, items)?;
-    read_items(alloc, &Indexed::new(theory, &index), &procs, items)
+    let so_far = read_items(alloc, &Indexed::new(theory, &index), &procs, items);
+    drop(procs);
+    drop(index);
+    so_far
 }
 
 /// The refusal of a file, at the place of its form, in which no item is `main`.

@@ -1,5 +1,5 @@
 ghost use Rattle.std.specs.Prelude.{◌≡◌};
-ghost use Rattle.golog_prog.specs.Keywords.{keyword_of};
+ghost use Rattle.golog_prog.specs.Keywords.{keyword_of, later_keyword};
 
 /// The words that a program in a list begins with.
 #[derive(Clone, Copy)]
@@ -19,6 +19,29 @@ pub enum Keyword {
     Search,
     Interrupt,
     Interrupts,
+}
+
+/// The keyword that a text spells, where it is one of those behind `while`.
+fn later_keyword(text: &[u8]) -> Option<Keyword>
+    ensures { result ≡ later_keyword text.now }
+{
+    if text == b"conc".as_slice() {
+        Some(Keyword::Conc)
+    } else if text == b"prio".as_slice() {
+        Some(Keyword::Prio)
+    } else if text == b"cstar".as_slice() {
+        Some(Keyword::Cstar)
+    } else if text == b"call".as_slice() {
+        Some(Keyword::Call)
+    } else if text == b"search".as_slice() {
+        Some(Keyword::Search)
+    } else if text == b"interrupt".as_slice() {
+        Some(Keyword::Interrupt)
+    } else if text == b"interrupts".as_slice() {
+        Some(Keyword::Interrupts)
+    } else {
+        None
+    }
 }
 
 /// The keyword that a text spells.
@@ -42,21 +65,7 @@ pub fn keyword_of(text: &[u8]) -> Option<Keyword>
         Some(Keyword::If)
     } else if text == b"while".as_slice() {
         Some(Keyword::While)
-    } else if text == b"conc".as_slice() {
-        Some(Keyword::Conc)
-    } else if text == b"prio".as_slice() {
-        Some(Keyword::Prio)
-    } else if text == b"cstar".as_slice() {
-        Some(Keyword::Cstar)
-    } else if text == b"call".as_slice() {
-        Some(Keyword::Call)
-    } else if text == b"search".as_slice() {
-        Some(Keyword::Search)
-    } else if text == b"interrupt".as_slice() {
-        Some(Keyword::Interrupt)
-    } else if text == b"interrupts".as_slice() {
-        Some(Keyword::Interrupts)
     } else {
-        None
+        later_keyword(text)
     }
 }

@@ -1,5 +1,5 @@
 ghost use Rattle.std.specs.Prelude.{◌≡◌, [], ◌∷◌, ◌++◌, OnOk, IfOk, codes, decimal};
-ghost use Rattle.golog_prog.specs.Printing.{in_list, args_texts, cond_text, prog_text, text_of_prog};
+ghost use Rattle.golog_prog.specs.Printing.{in_list, args_texts, binder_text, cond_text, prog_text, text_of_prog};
 ghost use Rattle.golog_prog.specs.ReadBack.{IsPrintable, ReadsBack};
 
 use crate::cond_text::{add_args, add_binder, add_cond, add_word, open_list};
@@ -44,6 +44,30 @@ fn open_guarded(
     add_cond(text, agent, stem, cond)
 }
 
+// Adds a test of a condition.
+fn add_test(text: &mut Bytes, agent: &Agent, stem: &[u8], cond: &Cond) -> Result<(), NoMemory>
+    ensures { OnOk result
+        (text.new ≡ text.old ++ in_list (codes "test" ∷ cond_text agent.now stem.now cond.now ∷ [])) }
+{
+    open_guarded(text, agent, stem, b"test", cond)?;
+    text.push(b')')
+}
+
+// Begins a list with `pick`, a variable and its sort.
+fn open_pick(
+    text: &mut Bytes,
+    agent: &Agent,
+    stem: &[u8],
+    var: u8,
+    sort: u32,
+) -> Result<(), NoMemory>
+    ensures { OnOk result
+        (text.new ≡ text.old ++ 40 ∷ (codes "pick" ++ 32 ∷ binder_text agent.now stem.now var sort)) }
+{
+    open_list(text, b"pick")?;
+    add_binder(text, agent, stem, var, sort)
+}
+
 // Begins a list with `search`, a depth and a fuel.
 fn open_search(text: &mut Bytes, depth: u32, fuel: u32) -> Result<(), NoMemory>
     ensures { OnOk result
@@ -63,6 +87,22 @@ fn add_part(text: &mut Bytes, agent: &Agent, stem: &[u8], prog: &Prog) -> Result
 {
     text.push(b' ')?;
     add_prog(text, agent, stem, prog)
+}
+
+// Begins a list with a word and a program.
+#[cycle(add_prog)]
+fn open_part(
+    text: &mut Bytes,
+    agent: &Agent,
+    stem: &[u8],
+    word: &[u8],
+    prog: &Prog,
+) -> Result<(), NoMemory>
+    ensures { OnOk result
+        (text.new ≡ text.old ++ 40 ∷ (word.now ++ 32 ∷ prog_text agent.now stem.now prog.now)) }
+{
+    open_list(text, word)?;
+    add_part(text, agent, stem, prog)
 }
 
 // Adds a program behind a space as the last of its list.
@@ -106,23 +146,17 @@ fn add_prog(text: &mut Bytes, agent: &Agent, stem: &[u8], prog: &Prog) -> Result
             action_sorts(agent, *action),
             args.as_slice(),
         ),
-        Prog::Test(cond) => {
-            open_guarded(text, agent, stem, b"test", cond)?;
-            text.push(b')')
-        }
+        Prog::Test(cond) => add_test(text, agent, stem, cond),
         Prog::Seq(first, second) => {
-            open_list(text, b"seq")?;
-            add_part(text, agent, stem, first.get())?;
+            open_part(text, agent, stem, b"seq", first.get())?;
             add_last(text, agent, stem, second.get())
         }
         Prog::Choice(first, second) => {
-            open_list(text, b"choice")?;
-            add_part(text, agent, stem, first.get())?;
+            open_part(text, agent, stem, b"choice", first.get())?;
             add_last(text, agent, stem, second.get())
         }
         Prog::Pick { var, sort, body } => {
-            open_list(text, b"pick")?;
-            add_binder(text, agent, stem, *var, *sort)?;
+            open_pick(text, agent, stem, *var, *sort)?;
             add_last(text, agent, stem, body.get())
         }
         Prog::Star(body) => add_one(text, agent, stem, b"star", body.get()),
@@ -136,13 +170,11 @@ fn add_prog(text: &mut Bytes, agent: &Agent, stem: &[u8], prog: &Prog) -> Result
             add_last(text, agent, stem, body.get())
         }
         Prog::Conc(first, second) => {
-            open_list(text, b"conc")?;
-            add_part(text, agent, stem, first.get())?;
+            open_part(text, agent, stem, b"conc", first.get())?;
             add_last(text, agent, stem, second.get())
         }
         Prog::Prio(first, second) => {
-            open_list(text, b"prio")?;
-            add_part(text, agent, stem, first.get())?;
+            open_part(text, agent, stem, b"prio", first.get())?;
             add_last(text, agent, stem, second.get())
         }
         Prog::Cstar(body) => add_one(text, agent, stem, b"cstar", body.get()),

@@ -1,4 +1,5 @@
-ghost use Rattle.std.specs.Prelude.{◌≡◌};
+ghost use Rattle.std.specs.Prelude.{◌≡◌, IfOk};
+ghost use Rattle.golog_tree.specs.declared.draft_prog.DraftProg.TheVariants.{If};
 ghost use Rattle.golog_theory.specs.Reading.{Answers};
 ghost use Rattle.golog_prog.specs.Constructs.{test_of, progs_of, several_of, seq_of, choice_of, conc_of, prio_of, pick_of, one_of, star_of, cstar_of, guarded_of, if_of, while_of, search_of, interrupt_of, interrupts_of};
 ghost use Rattle.golog_prog.specs.Programs.{nil_of, construct_of, prog_of, prog_part, prog_parts};
@@ -7,10 +8,10 @@ use crate::callees::{act_of, call_of};
 use crate::keyword::{Keyword, keyword_of};
 use crate::procedures::Procedures;
 use crate::written::{if_else, interrupt, interrupts};
-use golog_base::{Boxed, List};
+use golog_base::{Boxed, List, NoMemory};
 use golog_form::Form;
 use golog_theory::conditions::{Binder, binder_of};
-use golog_theory::fault::{COUNT, UNKNOWN_FORM, refuse_where, unknown_form};
+use golog_theory::fault::{COUNT, UNKNOWN_FORM, both, refuse_where, unknown_form};
 use golog_theory::heads::arguments;
 use golog_theory::limits::VARIABLES;
 use golog_theory::parts::{number_of, split_list, word};
@@ -315,9 +316,24 @@ fn guarded_of(
     ensures { Answers result (guarded_of theory.now scope (prog_part theory.now procs.now cond.now)
         (prog_part theory.now procs.now body.now)) }
 {
-    let cond = cond_of(alloc, theory, cond, scope)?;
-    let body = prog_of(alloc, theory, procs, body, scope)?;
+    let (cond, body) = both(
+        cond_of(alloc, theory, cond, scope),
+        prog_of(alloc, theory, procs, body, scope),
+    )?;
     Ok(Guarded { cond, body })
+}
+
+/// `(if COND PROG PROG)`, where the first program is guarded.
+fn guarded_or(
+    alloc: Global,
+    guarded: Guarded,
+    no: DraftProg,
+    at: Place,
+) -> Result<DraftProg, NoMemory>
+    ensures { IfOk result (λ prog. prog ≡ If guarded.cond guarded.body no at) }
+{
+    let Guarded { cond, body } = guarded;
+    if_else(alloc, cond, body, no, at)
 }
 
 /// `(if COND PROG)` or `(if COND PROG PROG)`
@@ -335,13 +351,15 @@ fn if_of(
 {
     match parts {
         [cond, yes] => {
-            let Guarded { cond, body } = guarded_of(alloc, theory, procs, scope, cond, yes)?;
-            Ok(if_else(alloc, cond, body, DraftProg::Nil { at }, at)?)
+            let guarded = guarded_of(alloc, theory, procs, scope, cond, yes)?;
+            Ok(guarded_or(alloc, guarded, DraftProg::Nil { at }, at)?)
         }
         [cond, yes, no] => {
-            let Guarded { cond, body } = guarded_of(alloc, theory, procs, scope, cond, yes)?;
-            let no = prog_of(alloc, theory, procs, no, scope)?;
-            Ok(if_else(alloc, cond, body, no, at)?)
+            let (guarded, no) = both(
+                guarded_of(alloc, theory, procs, scope, cond, yes),
+                prog_of(alloc, theory, procs, no, scope),
+            )?;
+            Ok(guarded_or(alloc, guarded, no, at)?)
         }
         _ => Err(unknown_form(at)),
     }
@@ -364,11 +382,8 @@ fn while_of(
         return Err(unknown_form(at));
     };
     let Guarded { cond, body } = guarded_of(alloc, theory, procs, scope, cond, body)?;
-    Ok(DraftProg::While {
-        cond,
-        body: Boxed::new(alloc, body)?,
-        at,
-    })
+    let (cond, body) = both(Ok(cond), Boxed::new(alloc, body))?;
+    Ok(DraftProg::While { cond, body, at })
 }
 
 /// `(search DEPTH FUEL PROG)`

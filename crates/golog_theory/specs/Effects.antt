@@ -79,16 +79,20 @@ cause_of at effect cond = record {
   at = at;
 }
 
+-- `(ACTION ARGS) (FLUENT ARGS) TERM COND`
+abbrev pub conditional_of : DraftTheory → ℕ → Form → Form → Form → Form → Reading DraftCause
+conditional_of theory at action fluent term cond =
+    effect_of theory action fluent term >>= λ effect.
+    cond_of theory cond (variable_count theory effect) >>= λ cond.
+    gives (cause_of at effect cond)
+
 -- `(causes (ACTION ARGS) (FLUENT ARGS) TERM)`, or with a COND last; without one the condition is `true`
 unfoldable pub causes_item : DraftTheory → ℕ → List Form → Reading DraftCause
 causes_item theory at (action ∷ fluent ∷ term ∷ []) =
     row (nat_le (BUILT_IN + CAUSES) (length theory.causes)) COUNT at
     (effect_of theory action fluent term >>= λ effect. gives (cause_of at effect (Truth true at)))
 causes_item theory at (action ∷ fluent ∷ term ∷ cond ∷ []) =
-    row (nat_le (BUILT_IN + CAUSES) (length theory.causes)) COUNT at
-    (effect_of theory action fluent term >>= λ effect.
-    cond_of theory cond (variable_count theory effect) >>= λ cond.
-    gives (cause_of at effect cond))
+    row (nat_le (BUILT_IN + CAUSES) (length theory.causes)) COUNT at (conditional_of theory at action fluent term cond)
 causes_item theory at _ = refused UNKNOWN_FORM at
 
 -- `(senses (ACTION VARS) (FLUENT ARGS))`

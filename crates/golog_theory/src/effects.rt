@@ -1,11 +1,12 @@
 ghost use Rattle.std.specs.Prelude.{◌≡◌, IfOk, OnOk};
 ghost use Rattle.golog_theory.specs.Reading.{Answers};
+ghost use Rattle.golog_theory.specs.Conditions.{cond_of};
 ghost use Rattle.golog_theory.specs.Draft.{IsDraft};
-ghost use Rattle.golog_theory.specs.Effects.{is_restricted, poss_item, is_new_variable, variable_after, variables_after, variable_count, effect_of, cause_of, causes_item, senses_item};
+ghost use Rattle.golog_theory.specs.Effects.{is_restricted, poss_item, is_new_variable, variable_after, variables_after, variable_count, effect_of, cause_of, conditional_of, causes_item, senses_item};
 
 use crate::conditions::cond_of;
 use crate::draft::Draft;
-use crate::fault::{COUNT, DUPLICATE, TheoryFault, refuse_where, unknown_form};
+use crate::fault::{COUNT, DUPLICATE, TheoryFault, both, refuse_where, unknown_form};
 use crate::heads::{Called, Schema, action_called, fluent_called, head_word, schema_of};
 use crate::indexed::Indexed;
 use crate::limits::{BUILT_IN, CAUSES};
@@ -107,6 +108,19 @@ impl Effect {
         Ok(vars.len())
     }
 
+    /// The condition that the form spells within the variables of the effect.
+    fn cond_of(
+        &self,
+        alloc: Global,
+        theory: &Indexed<'_>,
+        form: &Form,
+    ) -> Result<DraftCond, TheoryFault>
+        ensures { Answers result (cond_of theory.now form.now (variable_count theory.now self.now)) }
+    {
+        let scope = self.variable_count(alloc, theory)?;
+        cond_of(alloc, theory, form, scope)
+    }
+
     fn under(self, cond: DraftCond, at: Place) -> DraftCause
         ensures { result ≡ cause_of at self cond }
     {
@@ -138,14 +152,34 @@ fn effect_of(
 ) -> Result<Effect, TheoryFault>
     ensures { Answers result (effect_of theory.now action.now fluent.now term.now) }
 {
-    let action = action_called(alloc, theory, action)?;
-    let fluent = fluent_called(alloc, theory, fluent)?;
-    let term = term_of(alloc, theory, term)?;
+    let value = both(
+        fluent_called(alloc, theory, fluent),
+        term_of(alloc, theory, term),
+    );
+    let (action, (fluent, term)) = both(action_called(alloc, theory, action), value)?;
     Ok(Effect {
         action,
         fluent,
         term,
     })
+}
+
+/// `(ACTION ARGS) (FLUENT ARGS) TERM COND`
+fn conditional_of(
+    alloc: Global,
+    theory: &Indexed<'_>,
+    at: Place,
+    action: &Form,
+    fluent: &Form,
+    term: &Form,
+    cond: &Form,
+) -> Result<DraftCause, TheoryFault>
+    ensures { Answers result (conditional_of theory.now at action.now fluent.now term.now cond.now) }
+{
+    let effect = effect_of(alloc, theory, action, fluent, term)?;
+    let cond = effect.cond_of(alloc, theory, cond);
+    let (effect, cond) = both(Ok(effect), cond)?;
+    Ok(effect.under(cond, at))
 }
 
 /// `(causes (ACTION ARGS) (FLUENT ARGS) TERM)`, or with a COND last.
@@ -166,10 +200,7 @@ pub fn causes_item(
         }
         [action, fluent, term, cond] => {
             refuse_where(theory.causes().len() >= BUILT_IN + CAUSES, COUNT, at)?;
-            let effect = effect_of(alloc, theory, action, fluent, term)?;
-            let scope = effect.variable_count(alloc, theory)?;
-            let cond = cond_of(alloc, theory, cond, scope)?;
-            Ok(effect.under(cond, at))
+            conditional_of(alloc, theory, at, action, fluent, term, cond)
         }
         _ => Err(unknown_form(at)),
     }

@@ -248,6 +248,20 @@ pub fn theory_of(alloc: Global, form: &Form) -> Result<DraftTheory, TheoryFault>
     read_theory(alloc, form)
 }
 
+/// The condition that a form spells over a theory, with no variable around it.
+fn read_condition(
+    alloc: Global,
+    theory: &DraftTheory,
+    form: &Form,
+) -> Result<DraftCond, TheoryFault>
+    ensures { Answers result (cond_of theory.now form.now 0) }
+{
+    let index = Index::of(alloc, theory)?;
+    let cond = cond_of(alloc, &Indexed::new(theory, &index), form, 0);
+    drop(index);
+    cond
+}
+
 /// The condition that a form spells over a theory, with no variable around it. It is refused with the code
 /// and the place of the first row that fits, in reading order, with the codes of `theory_of`. `Memory` where
 /// memory runs out. Where the parts of the form stand in order, the places in the condition ascend.
@@ -262,6 +276,5 @@ pub fn condition_of(
     ensures keeps { IfOk result (CondKeeps theory.now) }
     ensures in_order { IsInOrder form.now → IfOk result (λ cond. IsAscending (cond_places cond)) }
 {
-    let index = Index::of(alloc, theory)?;
-    cond_of(alloc, &Indexed::new(theory, &index), form, 0)
+    read_condition(alloc, theory, form)
 }

@@ -19,14 +19,14 @@ new-names-requires c =
     (sym (c.as_slice-sorts.ensures ∙ ap (λ (a : Agent). a.sorts) c.requires.bare))
     (few-sorts c.args.theory.now c.requires.keeps)
 
-pub parts_of-requires-clause-fluents : goal.parts_of-requires-clause-fluents
-parts_of-requires-clause-fluents c = few-fluents c.args.theory.now c.requires.keeps
+pub parts_of-parts-requires-clause-fluents : goal.parts_of-parts-requires-clause-fluents
+parts_of-parts-requires-clause-fluents c = few-fluents c.args.theory.now c.requires.keeps
 
-pub parts_of-requires-clause-actions : goal.parts_of-requires-clause-actions
-parts_of-requires-clause-actions c = few-actions c.args.theory.now c.requires.keeps
+pub parts_of-parts-requires-clause-actions : goal.parts_of-parts-requires-clause-actions
+parts_of-parts-requires-clause-actions c = few-actions c.args.theory.now c.requires.keeps
 
-pub parts_of-requires-clause-sensed : goal.parts_of-requires-clause-sensed
-parts_of-requires-clause-sensed c =
+pub parts_of-parts-requires-clause-sensed : goal.parts_of-parts-requires-clause-sensed
+parts_of-parts-requires-clause-sensed c =
     subst (λ (actions : List ActionItem). All (λ (item : DraftSense). item.action < length actions) c.args.theory.now.senses)
     (sym (ap (λ (names : Declared). names.actions) c.new-names.ensures ∙ c.as_slice-5.ensures
     ∙ ap (λ (a : Agent). a.actions) c.requires.bare))
@@ -34,7 +34,7 @@ parts_of-requires-clause-sensed c =
 
 pub returns : goal.returns
 returns c =
-    subst (λ (names : Declared). IfOk c.parts_of.result (λ (parts : Parts). AreParts parts names c.args.theory.now c.args.program.now))
+    subst (λ (names : Declared). IfOk c.parts_of-parts.result (λ (parts : Parts). AreParts parts names c.args.theory.now c.args.program.now))
     (c.new-names.ensures ∙ names-are c.args.theory.now c.args.program.now c.as_slice-sorts.result.now c.as_slice-3.result.now
     c.as_slice-4.result.now c.as_slice-5.result.now c.as_slice-6.result.now
     (c.as_slice-sorts.ensures ∙ ap (λ (a : Agent). a.sorts) c.requires.bare)
@@ -44,4 +44,4 @@ returns c =
     (c.as_slice-5.ensures ∙ ap (λ (a : Agent). a.actions) c.requires.bare)
     (c.as_slice-6.ensures ∙ c.in_ok-params.ensures
     ∙ ap (λ (items : List DraftProc). map param_sorts items) c.as_slice-2.ensures))
-    c.parts_of.ensures
+    c.parts_of-parts.ensures

@@ -1,4 +1,5 @@
-use Rattle.std.proofs.Common.{List, [], ◌∷◌, map, subst}
+use Rattle.std.proofs.Common.{◌≡◌, List, [], ◌∷◌, map, subst}
+use Rattle.std.specs.Prelude.{Result, Ok, IfOk}
 use Rattle.golog_tree.specs.declared.agent.SortItem.{SortItem}
 use Rattle.golog_tree.specs.declared.draft.DraftFluent.{DraftFluent}
 use Rattle.golog_tree.specs.declared.draft.DraftAction.{DraftAction}
@@ -8,6 +9,7 @@ use Rattle.golog_tree.specs.declared.draft.DraftCause.{DraftCause}
 use Rattle.golog_tree.specs.declared.draft.DraftSense.{DraftSense}
 use Rattle.golog_tree.specs.declared.draft.DraftProc.{DraftProc}
 use Rattle.golog_check.specs.Procs.{proc_in}
+use Rattle.golog_check.specs.Check.{main_in}
 use Rattle.golog_check.specs.Unguarded.{all_front_refusals}
 use Rattle.golog_check.specs.DraftBlocks.{all_block_refusals}
 use Rattle.golog_rows.specs.Least.{IsLeastOf}
@@ -19,6 +21,10 @@ use Rattle.golog_check.specs.Effects.{poss_in, cause_in, senses_in}
 use Rattle.golog_check.proofs.PartLaws.{sum-least}
 use Rattle.golog_check.proofs.checking.parts_of.Goals as goal
 
+-- what is known of a value that was given
+of-ok : {A E : Type 0} (result : Result A E) (value : A) (P : A → Type 0) → result ≡ Ok value → IfOk result P → P value
+of-ok result value P e p = subst (λ r. IfOk r P) e p
+
 pub returns : goal.returns
 returns c =
     let theory = c.args.theory.now in
@@ -28,6 +34,19 @@ returns c =
     (sum_from c.args.sorts.now 4096 0 (map fluent_counted c.as_slice.result.now)) c.sum_passes-fluent_sum.ensures in
     let actions = sum-least c.sum_passes-action_sum.result
     (sum_from c.args.sorts.now 65536 0 (map action_counted c.as_slice-2.result.now)) c.sum_passes-action_sum.ensures in
+    let items = c.in_ok-items.items in
+    let states = of-ok c.both-states.result items.0
+    (λ pair. (c.starts_in-starts.result ≡ Ok pair.0) × (c.poss_items_in-poss.result ≡ Ok pair.1))
+    c.in_ok-items.ensures.0 c.both-states.ensures in
+    let later = of-ok c.both-later.result items.1
+    (λ pair. (c.both-effects.result ≡ Ok pair.0) × (c.both-programs.result ≡ Ok pair.1))
+    c.in_ok-items.ensures.1 c.both-later.ensures in
+    let effects = of-ok c.both-effects.result items.1.0
+    (λ pair. (c.cause_items_in-causes.result ≡ Ok pair.0) × (c.sense_items_in-senses.result ≡ Ok pair.1))
+    later.0 c.both-effects.ensures in
+    let programs = of-ok c.both-programs.result items.1.1
+    (λ pair. (c.proc_items_in-procs.result ≡ Ok pair.0) × (c.main_checked-main.result ≡ Ok pair.1))
+    later.1 c.both-programs.ensures in
     record {
       fluent_sum = subst (λ (sorts : List SortItem). IsLeastOf c.sum_passes-fluent_sum.result (refusals (sum_from sorts 4096 0 (map fluent_counted theory.fluents) ∷ [])))
           c.requires.sorts
@@ -37,12 +56,33 @@ returns c =
           c.requires.sorts
           (subst (λ (items : List DraftAction). IsLeastOf c.sum_passes-action_sum.result (refusals (sum_from c.args.sorts.now 65536 0 (map action_counted items) ∷ [])))
           c.as_slice-2.ensures actions);
-      starts = subst (λ (items : List DraftStart). IsChecked c.in_ok-starts.starts (map (start_in names) items)) c.as_slice-3.ensures c.in_ok-starts.ensures;
-      poss = subst (λ (items : List DraftPoss). IsChecked c.in_ok-poss.poss (map (poss_in names) items)) c.as_slice-4.ensures c.in_ok-poss.ensures;
-      causes = subst (λ (items : List DraftCause). IsChecked c.in_ok-causes.causes (map (cause_in names) items)) c.as_slice-5.ensures c.in_ok-causes.ensures;
-      senses = subst (λ (items : List DraftSense). IsChecked c.in_ok-senses.senses (senses_in names [] items)) c.as_slice-6.ensures c.in_ok-senses.ensures;
-      procs = subst (λ (items : List DraftProc). IsChecked c.in_ok-procs.procs (map (proc_in names) items)) c.as_slice-7.ensures c.in_ok-procs.ensures;
-      fronts = subst (λ (items : List DraftProc). IsLeastOf c.in_ok-fronts.fronts (all_front_refusals items)) c.as_slice-8.ensures c.in_ok-fronts.ensures;
-      blocks = subst (λ (items : List DraftProc). IsLeastOf c.in_ok-blocks.blocks (all_block_refusals items program.main.body)) c.as_slice-9.ensures c.in_ok-blocks.ensures;
-      main = c.in_ok-main.ensures;
+      starts = subst (λ (items : List DraftStart). IsChecked c.in_ok-items.items.0.0 (map (start_in names) items))
+          c.as_slice-5.ensures
+          (of-ok c.starts_in-starts.result c.in_ok-items.items.0.0
+          (λ checked. IsChecked checked (map (start_in names) c.as_slice-5.result.now))
+          states.0 c.starts_in-starts.ensures);
+      poss = subst (λ (items : List DraftPoss). IsChecked c.in_ok-items.items.0.1 (map (poss_in names) items))
+          c.as_slice-6.ensures
+          (of-ok c.poss_items_in-poss.result c.in_ok-items.items.0.1
+          (λ checked. IsChecked checked (map (poss_in names) c.as_slice-6.result.now))
+          states.1 c.poss_items_in-poss.ensures);
+      causes = subst (λ (items : List DraftCause). IsChecked c.in_ok-items.items.1.0.0 (map (cause_in names) items))
+          c.as_slice-7.ensures
+          (of-ok c.cause_items_in-causes.result c.in_ok-items.items.1.0.0
+          (λ checked. IsChecked checked (map (cause_in names) c.as_slice-7.result.now))
+          effects.0 c.cause_items_in-causes.ensures);
+      senses = subst (λ (items : List DraftSense). IsChecked c.in_ok-items.items.1.0.1 (senses_in names [] items))
+          c.as_slice-8.ensures
+          (of-ok c.sense_items_in-senses.result c.in_ok-items.items.1.0.1
+          (λ checked. IsChecked checked (senses_in names [] c.as_slice-8.result.now))
+          effects.1 c.sense_items_in-senses.ensures);
+      procs = subst (λ (items : List DraftProc). IsChecked c.in_ok-items.items.1.1.0 (map (proc_in names) items))
+          c.as_slice-9.ensures
+          (of-ok c.proc_items_in-procs.result c.in_ok-items.items.1.1.0
+          (λ checked. IsChecked checked (map (proc_in names) c.as_slice-9.result.now))
+          programs.0 c.proc_items_in-procs.ensures);
+      fronts = subst (λ (items : List DraftProc). IsLeastOf c.in_ok-fronts.fronts (all_front_refusals items)) c.as_slice-3.ensures c.in_ok-fronts.ensures;
+      blocks = subst (λ (items : List DraftProc). IsLeastOf c.in_ok-blocks.blocks (all_block_refusals items program.main.body)) c.as_slice-4.ensures c.in_ok-blocks.ensures;
+      main = of-ok c.main_checked-main.result c.in_ok-items.items.1.1.1
+          (λ checked. IsChecked checked (main_in names program.main ∷ [])) programs.1 c.main_checked-main.ensures;
     }
