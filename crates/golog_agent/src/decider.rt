@@ -150,10 +150,19 @@ impl<'a> Decider<'a> {
         ensures ahead { IfOk result (IsAhead self.old.agent self.old.values self.old.left true) }
     {
         let decided = self.look(alloc)?;
-        if let Some(ahead) = standing(&decided) {
-            self.keep(alloc, ahead);
-        }
+        self.keep_standing(alloc, &decided);
         Ok(decided)
+    }
+
+    // Keeps of what was decided what may stand.
+    fn keep_standing(&mut self, alloc: Global, decided: &Option<Decision>)
+        requires { IsAhead self.old.agent self.old.values self.old.left true decided.now }
+        ensures { self.new ≡ self.old }
+    {
+        match standing(decided) {
+            Some(ahead) => self.keep(alloc, ahead),
+            None => {}
+        }
     }
 
     // Takes what is kept at these values, or decides. Nothing is kept then.
@@ -163,7 +172,9 @@ impl<'a> Decider<'a> {
         ensures ahead { IfOk result (IsAhead self.old.agent self.old.values self.old.left true) }
     {
         let at = self.at.take();
-        if is_at(&at, self.state.values()) {
+        let here = is_at(&at, self.state.values());
+        drop(at);
+        if here {
             Ok(self.ahead.take())
         } else {
             decide_step_of(

@@ -62,6 +62,22 @@ fn are_same_conds(one: &[Cond], other: &[Cond]) -> bool
     rest.is_empty()
 }
 
+/// Whether what came before is the same, and two terms are equal.
+#[cycle(is_same_cond)]
+fn is_term_too(same: bool, one: &Term, other: &Term) -> bool
+    ensures { IsTrue result ↔ (IsTrue same × (one.now ≡ other.now)) }
+{
+    same && is_same_term(one, other)
+}
+
+/// Whether two variables, their sorts and the conditions on them are equal.
+#[cycle(is_same_cond)]
+fn are_same_bodies(var: u8, sort: u32, body: &Boxed<Cond>, x: u8, s: u32, c: &Boxed<Cond>) -> bool
+    ensures { IsTrue result ↔ ((var ≡ x) × (sort ≡ s) × (body.now ≡ c.now)) }
+{
+    var == x && sort == s && is_same_cond(body.get(), c.get())
+}
+
 /// Whether two conditions are equal.
 #[cycle(is_same_cond)]
 fn is_same_cond(one: &Cond, other: &Cond) -> bool
@@ -79,7 +95,7 @@ fn is_same_cond(one: &Cond, other: &Cond) -> bool
                 one: t,
                 other: u,
             },
-        ) => { sort == s && is_same_term(one, t) && is_same_term(other, u) }
+        ) => is_term_too(is_term_too(sort == s, one, t), other, u),
         (
             Cond::Less { sort, one, other },
             Cond::Less {
@@ -87,7 +103,7 @@ fn is_same_cond(one: &Cond, other: &Cond) -> bool
                 one: t,
                 other: u,
             },
-        ) => { sort == s && is_same_term(one, t) && is_same_term(other, u) }
+        ) => is_term_too(is_term_too(sort == s, one, t), other, u),
         (
             Cond::AtMost { sort, one, other },
             Cond::AtMost {
@@ -95,7 +111,7 @@ fn is_same_cond(one: &Cond, other: &Cond) -> bool
                 one: t,
                 other: u,
             },
-        ) => { sort == s && is_same_term(one, t) && is_same_term(other, u) }
+        ) => is_term_too(is_term_too(sort == s, one, t), other, u),
         (Cond::Not(body), Cond::Not(c)) => is_same_cond(body.get(), c.get()),
         (Cond::And(conds), Cond::And(cs)) => are_same_conds(conds.as_slice(), cs.as_slice()),
         (Cond::Or(conds), Cond::Or(cs)) => are_same_conds(conds.as_slice(), cs.as_slice()),
@@ -106,7 +122,7 @@ fn is_same_cond(one: &Cond, other: &Cond) -> bool
                 sort: s,
                 body: c,
             },
-        ) => { var == x && sort == s && is_same_cond(body.get(), c.get()) }
+        ) => are_same_bodies(*var, *sort, body, *x, *s, c),
         (
             Cond::ForAll { var, sort, body },
             Cond::ForAll {
@@ -114,7 +130,7 @@ fn is_same_cond(one: &Cond, other: &Cond) -> bool
                 sort: s,
                 body: c,
             },
-        ) => { var == x && sort == s && is_same_cond(body.get(), c.get()) }
+        ) => are_same_bodies(*var, *sort, body, *x, *s, c),
         _ => false,
     }
 }

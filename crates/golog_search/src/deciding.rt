@@ -286,7 +286,9 @@ pub fn decide_unbounded(
 fn is_nothing(ahead: Option<Decision>) -> bool
     ensures { result ≡ not (is_some ahead) }
 {
-    ahead.is_none()
+    let none = ahead.is_none();
+    drop(ahead);
+    none
 }
 
 /// Whether a program that does not certainly end has no certain step.

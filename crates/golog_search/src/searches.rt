@@ -64,7 +64,7 @@ impl<'a> Blocks for Searches<'a> {
         rest: &[Way],
     ) -> Result<Reach, Stop> {
         let block = block_of(alloc, depth, fuel, body)?;
-        reach_of_block(
+        let reach = reach_of_block(
             alloc,
             agent,
             &block,
@@ -72,6 +72,8 @@ impl<'a> Blocks for Searches<'a> {
             self.state,
             self.bounded,
             self.told,
-        )
+        );
+        drop(block);
+        reach
     }
 }

@@ -116,7 +116,9 @@ fn search_weighs(
         })) }
 {
     let block = block_of(alloc, depth, fuel, body)?;
-    block_weighs(alloc, agent, &block, state, at)
+    let weighs = block_weighs(alloc, agent, &block, state, at);
+    drop(block);
+    weighs
 }
 
 /// Whether a block of these parts weighs, unless it follows a run that goes through, when it does not.
@@ -276,7 +278,9 @@ fn weighs_in(
     requires sorts { AreInSorts agent.now state.now }
     ensures { IfOk result (λ b. b ≡ weighs_some agent.now state.now at.stepless at.higher prog) }
 {
-    some_weighs(alloc, agent, &prog, state, at)
+    let weighs = some_weighs(alloc, agent, &prog, state, at);
+    drop(prog);
+    weighs
 }
 
 /// Each constant of the sort is put in.

@@ -276,8 +276,8 @@ pub weighs_in_seq-returns-else-may_skip : goal.weighs_in_seq-returns-else-may_sk
 weighs_in_seq-returns-else-may_skip t c =
     ok_as c.some_weighs.result _ _ (seq_first c.args.agent.now c.args.state.now c.args.at.stepless c.args.at.higher c.requires.agent.programs.guarded c.args.one.now c.args.other.now (sym c.may_skip.ensures ∙ c.if-may_skip.false)) c.some_weighs.ensures
 
-pub weighs_in-some_weighs-requires : goal.weighs_in-some_weighs-requires
-weighs_in-some_weighs-requires t c =
+pub weighs_in-some_weighs-weighs-requires : goal.weighs_in-some_weighs-weighs-requires
+weighs_in-some_weighs-weighs-requires t c =
     let low : 1 + 3 * (front c.args.agent.now c.args.prog).height < 2 + 3 * (front c.args.agent.now c.args.prog).height = omega arith in
     search rules
 

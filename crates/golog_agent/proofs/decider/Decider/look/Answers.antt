@@ -24,13 +24,13 @@ decide_step_of-requires-clause-shallow c = c.self.invariant.0
 pub decide_step_of-requires-clause-serves : goal.decide_step_of-requires-clause-serves
 decide_step_of-requires-clause-serves c = c.self.invariant.2
 
-pub returns-then-is_at-clause-ahead : goal.returns-then-is_at-clause-ahead
-returns-then-is_at-clause-ahead c =
+pub returns-then-here-clause-ahead : goal.returns-then-here-clause-ahead
+returns-then-here-clause-ahead c =
     let r = c.self.inside in
     subst (λ (o : Option Decision). IsAhead c.args.self.now.agent c.args.self.now.values c.args.self.now.left true o) (sym c.take.ensures.value)
     (subst (λ (v : Configuration). IsAhead v.agent v.values v.left true r.ahead) c.self.view_is
-    (kept-ahead r.agent.now r.left r.state r.ahead r.at (sym c.take-at.ensures.value ∙ (c.is_at.ensures.0 c.if-is_at.true ∙ ap (λ vs. Some vs) c.values.ensures)) c.self.invariant.1))
+    (kept-ahead r.agent.now r.left r.state r.ahead r.at (sym c.take-at.ensures.value ∙ (c.is_at-here.ensures.0 c.if-here.true ∙ ap (λ vs. Some vs) c.values.ensures)) c.self.invariant.1))
 
-pub returns-clause-ahead : goal.returns-clause-ahead
-returns-clause-ahead c =
+pub returns-else-here-clause-ahead : goal.returns-else-here-clause-ahead
+returns-else-here-clause-ahead c =
     subst (λ (v : Configuration). IfOk c.decide_step_of.result (IsAhead v.agent v.values v.left true)) c.self.view_is c.decide_step_of.ensures.ahead
