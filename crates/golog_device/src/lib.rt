@@ -2,6 +2,7 @@
 #![tactic(auto)]
 
 mod begin;
+mod both;
 mod device;
 mod laws;
 mod served;

@@ -1,7 +1,8 @@
 // A device that answers by a table.
-ghost use Rattle.std.specs.Prelude.{◌≡◌, ◌<◌, ◌+◌, false, vec_len};
-ghost use Rattle.golog_device.specs.Logs.{SERVED_ROOM, is_over, kept_by, room_of, bytes_room};
+ghost use Rattle.std.specs.Prelude.{◌≡◌, ◌<◌, ◌≤◌, ◌+◌, [], false, vec_len, IfOk};
+ghost use Rattle.golog_device.specs.Logs.{SERVED_ROOM, is_over, is_cut, kept_by, room_of, bytes_room, told_by, given_by};
 
+use crate::both::both;
 use crate::served::{SERVED_ROOM, ServedTexts};
 use crate::told::{Told, ToldItems};
 use crate::twin::{Twin, reversed_twins};
@@ -28,6 +29,21 @@ pub struct TableDevice {
     ghost served_room: { bytes_room served ≡ SERVED_ROOM },
 }
 
+// What is told and what is given, with room for so many tellings.
+fn logs_with_room(alloc: Global, room: usize) -> Result<(ToldItems, ServedTexts), NoMemory>
+    ensures told { IfOk result (λ logs. told_by logs.0 ≡ []) }
+    ensures empty { IfOk result (λ logs. kept_by logs.0 ≡ 0) }
+    ensures room { IfOk result (λ logs. room ≤ room_of logs.0) }
+    ensures given { IfOk result (λ logs. given_by logs.1 ≡ []) }
+    ensures whole { IfOk result (λ logs. is_cut logs.1 ≡ false) }
+    ensures served_room { IfOk result (λ logs. bytes_room logs.1 ≡ SERVED_ROOM) }
+{
+    both(
+        ToldItems::with_room(alloc, room),
+        ServedTexts::with_room(alloc, SERVED_ROOM),
+    )
+}
+
 impl TableDevice {
     ghost use Rattle.std.specs.Prelude.{◌≡◌, true, Some, IfOk};
     ghost use Rattle.golog_device.specs.Devices.{rest_of, told_after, told_then, tells};
@@ -47,18 +63,23 @@ impl TableDevice {
         ensures table { IfOk result (λ device. table_of device
             ≡ record { begun = begun; serves = serves; idles = idles }) }
     {
-        let serves = reversed_twins(alloc, serves)?;
-        let idles = reversed_twins(alloc, idles)?;
-        let told = ToldItems::with_room(alloc, serves.len() + idles.len() + 1)?;
-        let served = ServedTexts::with_room(alloc, SERVED_ROOM)?;
-        Ok(TableDevice {
-            fresh: true,
-            begun,
-            serves,
-            idles,
-            told,
-            served,
-        })
+        let (serves, idles) = both(reversed_twins(alloc, serves), reversed_twins(alloc, idles))?;
+        let room = serves.len() + idles.len() + 1;
+        match logs_with_room(alloc, room) {
+            Ok((told, served)) => Ok(TableDevice {
+                fresh: true,
+                begun,
+                serves,
+                idles,
+                told,
+                served,
+            }),
+            Err(fault) => {
+                drop(serves);
+                drop(idles);
+                Err(fault)
+            }
+        }
     }
 
     // The next answer to an action, which is told.

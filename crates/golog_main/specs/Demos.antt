@@ -33,6 +33,12 @@ is_short Memory = true
 is_short Fuel = true
 is_short answer = false
 
+-- what stands in the line of a demo before its answer
+abbrev pub demo_counts : ℕ → Journal → Text
+demo_counts size journal =
+    codes "demo " ++ decimal size ++ codes " entries " ++ decimal (length journal)
+    ++ codes " actions " ++ decimal (count_by is_do journal) ++ codes " posts " ++ decimal (count_by is_exo journal)
+
 -- the line of a demo of this size: how many entries its journal has, how many actions and posts are among them,
 -- and its answer
 abbrev pub demo_text : ℕ → Journal → Answer → Text

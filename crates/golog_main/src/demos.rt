@@ -1,5 +1,5 @@
 // The demo: a run of the lift of a size, and what is said of it.
-ghost use Rattle.std.specs.Prelude.{◌≡◌, ◌≤◌, ◌++◌, IfOk, OnOk, Ok, All, false, count_by, decimal, length};
+ghost use Rattle.std.specs.Prelude.{◌≡◌, ◌≤◌, ◌++◌, IfOk, OnOk, Ok, All, false, count_by, length};
 ghost use Rattle.golog_semantics.specs.WellFormed.{WellFormed};
 ghost use Rattle.golog_device.specs.Slots.{standings, FreshBelow};
 ghost use Rattle.golog_script.specs.DevicesFile.{scripts_of};
@@ -7,11 +7,12 @@ ghost use Rattle.golog_script.specs.ScriptTexts.{HasTexts};
 ghost use Rattle.golog_file.specs.Spelled.{SpellsAgent};
 ghost use Rattle.golog_demo.specs.Demo.{demo_agent, demo_devices};
 ghost use Rattle.golog_main.specs.declared.outcome.Outcome.TheVariants.{Demonstrated};
-ghost use Rattle.golog_main.specs.Demos.{Demonstrates, demo_text, is_do, is_exo, is_short};
+ghost use Rattle.golog_main.specs.Demos.{Demonstrates, demo_counts, demo_text, is_do, is_exo, is_short};
 
 use crate::outcome::Outcome;
 use crate::ready::Ready;
 use crate::run::{answer_in, reported_in_rounds};
+use crate::writing::add_count;
 use golog_base::{Bytes, List, NoMemory};
 use golog_demo::{DemoFiles, demo_files};
 use golog_device::Device;
@@ -104,7 +105,10 @@ fn ready_of(alloc: Global, files: &DemoFiles) -> Result<Ready, NoMemory>
     match agent_of(alloc, files.agent.as_slice()) {
         Ok(agent) => match scripts_for(alloc, &agent, files.devices.as_slice()) {
             Ok(scripts) => Ok(Ready { agent, scripts }),
-            Err(fault) => Err(fault),
+            Err(fault) => {
+                drop(agent);
+                Err(fault)
+            }
         },
         Err(fault) => Err(fault),
     }
@@ -144,14 +148,39 @@ fn demo_text(alloc: Global, size: u32, entries: &[Entry], answer: Answer) -> Res
     ensures { IfOk result (λ text. text ≡ demo_text size entries.now answer) }
 {
     let mut text = Bytes::new(alloc);
-    add_count(alloc, &mut text, b"demo ", size as usize)?;
-    add_count(alloc, &mut text, b" entries ", entries.len())?;
-    add_count(alloc, &mut text, b" actions ", actions_in(entries))?;
-    add_count(alloc, &mut text, b" posts ", posts_in(entries))?;
+    match add_demo(alloc, &mut text, size, entries, answer) {
+        Ok(()) => Ok(text),
+        Err(fault) => {
+            drop(text);
+            Err(fault)
+        }
+    }
+}
+
+// Adds that line.
+fn add_demo(
+    alloc: Global,
+    text: &mut Bytes,
+    size: u32,
+    entries: &[Entry],
+    answer: Answer,
+) -> Result<(), NoMemory>
+    ensures { OnOk result (text.new ≡ text.old ++ demo_text size entries.now answer) }
+{
+    add_counts(alloc, text, size, entries)?;
     text.extend(b" answer ")?;
     text.extend(answer_name(answer))?;
-    text.extend(b"\n")?;
-    Ok(text)
+    text.extend(b"\n")
+}
+
+// Adds what stands in it before the answer.
+fn add_counts(alloc: Global, text: &mut Bytes, size: u32, entries: &[Entry]) -> Result<(), NoMemory>
+    ensures { OnOk result (text.new ≡ text.old ++ demo_counts size entries.now) }
+{
+    add_count(alloc, text, b"demo ", size as usize)?;
+    add_count(alloc, text, b" entries ", entries.len())?;
+    add_count(alloc, text, b" actions ", actions_in(entries))?;
+    add_count(alloc, text, b" posts ", posts_in(entries))
 }
 
 // How many actions of the program stand in a journal.
@@ -172,12 +201,4 @@ fn posts_in(entries: &[Entry]) -> usize
         .iter()
         .filter(|entry| matches!(entry, Entry::Exo { .. }))
         .count()
-}
-
-// Adds what is counted, and how many there are.
-fn add_count(alloc: Global, text: &mut Bytes, counted: &[u8], count: usize) -> Result<(), NoMemory>
-    ensures { OnOk result (text.new ≡ text.old ++ counted.now ++ decimal count) }
-{
-    text.extend(counted)?;
-    text.extend(format!(in alloc; "{count}")?.as_bytes())
 }

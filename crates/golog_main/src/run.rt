@@ -50,7 +50,9 @@ pub fn run_in_rounds<K: Sink, D: Device>(
     ensures nothing { OnErr result (K.taken out.new ≡ K.taken out.old) }
 {
     let texts = texts_for(alloc, agent, listed)?;
-    write_in_rounds(alloc, agent, &texts, out, devices)
+    let status = write_in_rounds(alloc, agent, &texts, out, devices);
+    drop(texts);
+    status
 }
 
 /// The same with each device on a thread of its own, and the program on this one.
@@ -73,7 +75,9 @@ pub fn run_on_threads<R: Threads + Wait + Sync, K: Sink, D: Device + Send>(
     ensures nothing { OnErr result (K.taken out.new ≡ K.taken out.old) }
 {
     let texts = texts_for(alloc, agent, listed)?;
-    write_on_threads(rt, alloc, agent, &texts, out, devices)
+    let status = write_on_threads(rt, alloc, agent, &texts, out, devices);
+    drop(texts);
+    status
 }
 
 /// The report of a run of the agent's program without threads, with these scripts for its devices.
@@ -91,7 +95,9 @@ pub fn reported_in_rounds<D: Device>(
         (standings D.fresh D.meaning devices.old) (standings D.fresh D.meaning devices.new)) }
 {
     let texts = texts_for(alloc, agent, listed)?;
-    report_in_rounds(alloc, agent, &texts, devices)
+    let report = report_in_rounds(alloc, agent, &texts, devices);
+    drop(texts);
+    report
 }
 
 // The texts of the scripts of the agent's devices.
@@ -159,7 +165,10 @@ fn begun<D: Device>(
     let mut journal = Journal::new(alloc, agent)?;
     match begin_all(alloc, devices, agent, texts, &mut journal) {
         Ok(()) => Ok(journal),
-        Err(fault) => Err(fault),
+        Err(fault) => {
+            drop(journal);
+            Err(fault)
+        }
     }
 }
 
@@ -264,6 +273,7 @@ fn in_rounds<D: Device>(
 {
     run_inline(&mut runner, devices, agent, &mut journal);
     let _length = journal.len();
+    drop(journal);
     runner.report()
 }
 

@@ -285,6 +285,7 @@ fn run_named<
     match TurnLock::new(alloc, Shared::<A>::new(journal), LEAD + 1) {
         Ok((lock, seat)) => {
             run_locked::<A, Brand, G, L, D, R>(rt, &lock, seat, agent, hall, lead, devices);
+            drop(lock);
             Ok(())
         }
         Err(fault) => Err(fault),
@@ -340,5 +341,7 @@ pub fn run_threads<L: Lead, D: Device + Send, R: Threads + Wait + Sync>(
     ensures memory { OnErr result ((L.mind lead.new ≡ L.mind lead.old) × (devices.new ≡ devices.old)) }
 {
     let hall = Hall::new(opens_of(&journal, devices.len()));
-    run_sealed::<Journal, L, D, R>(rt, alloc, lead, devices, agent, &hall, journal)
+    let ran = run_sealed::<Journal, L, D, R>(rt, alloc, lead, devices, agent, &hall, journal);
+    drop(hall);
+    ran
 }

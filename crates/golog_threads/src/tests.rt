@@ -129,7 +129,9 @@ fn tell_of<A: Naming, R: Wait>(
 {
     let (lock, mut seat) = TurnLock::new(alloc, Shared::<A>::new(journal), LEAD + 1)?;
     let lead_seat = split_lead(&lock, &mut seat);
-    Ok(tell::<A, Brand, R>(rt, &lock, agent, seat, lead_seat))
+    let told = tell::<A, Brand, R>(rt, &lock, agent, seat, lead_seat);
+    drop(lock);
+    Ok(told)
 }
 
 fn tell_with<R: Wait>(rt: &R, alloc: Global, agent: &Agent) -> Result<Told, NoMemory>
@@ -145,7 +147,9 @@ fn tell_all<R: Wait>(rt: &R, alloc: Global) -> Result<Told, NoMemory> {
         return Err(NoMemory);
     };
     let agent = bare_agent(alloc, name)?;
-    tell_with(rt, alloc, &agent)
+    let told = tell_with(rt, alloc, &agent);
+    drop(agent);
+    told
 }
 
 #[test]

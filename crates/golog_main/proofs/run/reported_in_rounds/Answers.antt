@@ -6,8 +6,8 @@ use Rattle.golog_main.proofs.Begun.{as-many, all-spelled}
 use Rattle.golog_main.proofs.Reported.{for-scripts}
 use Rattle.golog_main.proofs.run.reported_in_rounds.Goals as goal
 
-pub report_in_rounds-requires : goal.report_in_rounds-requires
-report_in_rounds-requires g c =
+pub report_in_rounds-report-requires : goal.report_in_rounds-report-requires
+report_in_rounds-report-requires g c =
     let scripts = scripts_for c.args.agent.now c.args.listed.now in
     record {
       formed = c.requires.formed;
@@ -20,5 +20,5 @@ report_in_rounds-requires g c =
 pub returns : goal.returns
 returns g c =
     let stand = standings g.D.Device.fresh g.D.Device.meaning in
-    for-scripts c.args.agent.now c.in_ok-texts.texts (scripts_for c.args.agent.now c.args.listed.now) true (stand c.args.devices.now) (stand c.report_in_rounds.new.devices)
-    c.report_in_rounds.result c.in_ok-texts.ensures c.report_in_rounds.ensures
+    for-scripts c.args.agent.now c.in_ok-texts.texts (scripts_for c.args.agent.now c.args.listed.now) true (stand c.args.devices.now) (stand c.report_in_rounds-report.new.devices)
+    c.report_in_rounds-report.result c.in_ok-texts.ensures c.report_in_rounds-report.ensures

@@ -7,8 +7,8 @@ use Rattle.golog_main.proofs.Begun.{as-many, all-spelled}
 use Rattle.golog_main.proofs.Reporting.{writes-more}
 use Rattle.golog_main.proofs.run.run_in_rounds.Goals as goal
 
-pub write_in_rounds-requires : goal.write_in_rounds-requires
-write_in_rounds-requires g c =
+pub write_in_rounds-status-requires : goal.write_in_rounds-status-requires
+write_in_rounds-status-requires g c =
     let scripts = scripts_for c.args.agent.now c.args.listed.now in
     record {
       formed = c.requires.formed;
@@ -25,6 +25,6 @@ returns-clause-written g c =
     let scripts = scripts_for agent c.args.listed.now in
     let stand = standings g.D.Device.fresh g.D.Device.meaning in
     let olds = stand c.args.devices.now in
-    let news = stand c.write_in_rounds.new.devices in
-    writes-more (ReportsRun agent texts true olds news) (IsReportOf agent scripts true olds news) agent _ _ _ _ c.write_in_rounds.result
-    (λ report of. of scripts c.in_ok-texts.ensures) c.write_in_rounds.ensures.written
+    let news = stand c.write_in_rounds-status.new.devices in
+    writes-more (ReportsRun agent texts true olds news) (IsReportOf agent scripts true olds news) agent _ _ _ _ c.write_in_rounds-status.result
+    (λ report of. of scripts c.in_ok-texts.ensures) c.write_in_rounds-status.ensures.written

@@ -7,8 +7,8 @@ use Rattle.golog_main.proofs.Begun.{as-many, all-spelled}
 use Rattle.golog_main.proofs.Reporting.{writes-more}
 use Rattle.golog_main.proofs.run.run_on_threads.Goals as goal
 
-pub write_on_threads-requires : goal.write_on_threads-requires
-write_on_threads-requires g c =
+pub write_on_threads-status-requires : goal.write_on_threads-status-requires
+write_on_threads-status-requires g c =
     let scripts = scripts_for c.args.agent.now c.args.listed.now in (
       c.type_bounds.send-D,
       (
@@ -36,6 +36,6 @@ returns-clause-written g c =
     let scripts = scripts_for agent c.args.listed.now in
     let stand = standings g.D.Device.fresh g.D.Device.meaning in
     let olds = stand c.args.devices.now in
-    let news = stand c.write_on_threads.new.devices in
-    writes-more (ReportsRun agent texts false olds news) (IsReportOf agent scripts false olds news) agent _ _ _ _ c.write_on_threads.result
-    (λ report of. of scripts c.in_ok-texts.ensures) c.write_on_threads.ensures.written
+    let news = stand c.write_on_threads-status.new.devices in
+    writes-more (ReportsRun agent texts false olds news) (IsReportOf agent scripts false olds news) agent _ _ _ _ c.write_on_threads-status.result
+    (λ report of. of scripts c.in_ok-texts.ensures) c.write_on_threads-status.ensures.written
