@@ -1,4 +1,3 @@
 mod Numbers
 mod Pairs
-pub mod SameArguments
 pub mod SamePrograms

@@ -8,53 +8,50 @@ use Rattle.std.proofs.lemmas.List.{length_push}
 use Rattle.std.proofs.lemmas.Option.{slice_get_within}
 use Rattle.std.proofs.Math.Seq.{take-append_seam}
 use Rattle.golog_tree.specs.declared.prog.Prog.{Prog}
-use Rattle.golog_semantics.specs.Same.{same_prog}
 use Rattle.golog_semantics.proofs.GroundNumbers.{slice_get-left, slice_get-right, some-same}
-use Rattle.golog_semantics.proofs.SameLaws.{same_prog-eq, same_prog-same}
-use Rattle.golog_memo.specs.declared.key.Key.{Key}
-use Rattle.golog_memo.specs.Keys.{same_key}
-use Rattle.golog_memo.specs.Numbered.{AreNumbered, AreOnce, number_in}
+use Rattle.golog_memo.specs.Numbered.{AreNumbered, AreOnce, number_in, same}
+use Rattle.golog_tree.proofs.EqualPrograms.{prog-decides}
 
 module _ {S : Type 0} where
-  pub are_once : (progs : List Prog) (numbers : HashMap Key ℕ S) → AreNumbered progs numbers → AreOnce progs
+  pub are_once : (progs : List Prog) (numbers : HashMap Prog ℕ S) → AreNumbered progs numbers → AreOnce progs
   are_once progs numbers h = record { place = λ i j prog e k. some-same i j (sym (h.has prog i e) ∙ h.has prog j k) }
 
   -- the same programs, and the same numbers
-  pub numbered_still : (progs more : List Prog) (old new : HashMap Key ℕ S) → AreNumbered progs old → more ≡ progs → IsUnchanged old new → AreNumbered more new
-  numbered_still progs more old new h same entries = record {
-    has = λ q i e. ap (lookup (λ key. same_prog q key.prog)) entries ∙ h.has q i (ap (λ ps. slice_get ps i) (sym same) ∙ e);
-    only = λ q i e. ap (λ ps. slice_get ps i) same ∙ h.only q i (ap (lookup (λ key. same_prog q key.prog)) (sym entries) ∙ e);
+  pub numbered_still : (progs more : List Prog) (old new : HashMap Prog ℕ S) → AreNumbered progs old → more ≡ progs → IsUnchanged old new → AreNumbered more new
+  numbered_still progs more old new h is entries = record {
+    has = λ q i e. ap (lookup (same q)) entries ∙ h.has q i (ap (λ ps. slice_get ps i) (sym is) ∙ e);
+    only = λ q i e. ap (λ ps. slice_get ps i) is ∙ h.only q i (ap (lookup (same q)) (sym entries) ∙ e);
   }
 
   -- one more program, which had no number
-  module _ (progs : List Prog) (old new : HashMap Key ℕ S) (prog : Prog) (h : AreNumbered progs old) (absent : number_in old prog ≡ None)
-      (updates : (q : Prog) → number_in new q ≡ cond (same_prog prog q) (Some (length progs)) (number_in old q)) where
+  module _ (progs : List Prog) (old new : HashMap Prog ℕ S) (prog : Prog) (h : AreNumbered progs old) (absent : number_in old prog ≡ None)
+      (updates : (q : Prog) → number_in new q ≡ cond (same prog q) (Some (length progs)) (number_in old q)) where
     last : slice_get (progs ++ prog ∷ []) (length progs) ≡ Some prog
     last = slice_get-right progs (prog ∷ []) (length progs) 0 (omega arith)
 
     has : (q : Prog) (i : ℕ) → slice_get (progs ++ prog ∷ []) i ≡ Some q → number_in new q ≡ Some i
-    has q i e = elim (cases_lt i (length progs)) [ inl l ↦ before l (same_prog prog q) refl | inr l ↦ behind (i - length progs) (omega arith) ]
+    has q i e = elim (cases_lt i (length progs)) [ inl l ↦ before l (same prog q) refl | inr l ↦ behind (i - length progs) (omega arith) ]
       where
-        before : i < length progs → (b : Bool) → same_prog prog q ≡ b → number_in new q ≡ Some i
+        before : i < length progs → (b : Bool) → same prog q ≡ b → number_in new q ≡ Some i
         before l true t =
             let there = h.has q i (sym (slice_get-left progs (prog ∷ []) i l) ∙ e) in
-            let none : number_in old q ≡ None = subst (λ (p : Prog). number_in old p ≡ None) (same_prog-eq prog q t) absent in
+            let none : number_in old q ≡ None = subst (λ (p : Prog). number_in old p ≡ None) ((prog-decides prog q).0 t) absent in
             absurd (cc)
         before l false t = updates q ∙ ap (λ b. cond b (Some (length progs)) (number_in old q)) t ∙ h.has q i (sym (slice_get-left progs (prog ∷ []) i l) ∙ e)
 
         behind : (j : ℕ) → i ≡ length progs + j → number_in new q ≡ Some i
         behind zero k =
-            let same : prog ≡ q = some-same prog q (sym (slice_get-right progs (prog ∷ []) i 0 k) ∙ e) in
-            updates q ∙ ap (λ b. cond b (Some (length progs)) (number_in old q)) (subst (λ (p : Prog). same_prog prog p ≡ true) same (same_prog-same prog)) ∙ ap Some (let n : length progs ≡ i = omega arith in n)
+            let is : prog ≡ q = some-same prog q (sym (slice_get-right progs (prog ∷ []) i 0 k) ∙ e) in
+            updates q ∙ ap (λ b. cond b (Some (length progs)) (number_in old q)) ((prog-decides prog q).1 is) ∙ ap Some (let n : length progs ≡ i = omega arith in n)
         behind (suc j) k = absurd (let none = sym (slice_get-right progs (prog ∷ []) i (suc j) k) ∙ e in cc)
 
     only : (q : Prog) (i : ℕ) → number_in new q ≡ Some i → slice_get (progs ++ prog ∷ []) i ≡ Some q
-    only q i e = go (same_prog prog q) refl
+    only q i e = go (same prog q) refl
       where
-        go : (b : Bool) → same_prog prog q ≡ b → slice_get (progs ++ prog ∷ []) i ≡ Some q
+        go : (b : Bool) → same prog q ≡ b → slice_get (progs ++ prog ∷ []) i ≡ Some q
         go true t =
             let number : length progs ≡ i = some-same (length progs) i (sym (updates q ∙ ap (λ b. cond b (Some (length progs)) (number_in old q)) t) ∙ e) in
-            ap (slice_get (progs ++ prog ∷ [])) (sym number) ∙ last ∙ ap Some (same_prog-eq prog q t)
+            ap (slice_get (progs ++ prog ∷ [])) (sym number) ∙ last ∙ ap Some ((prog-decides prog q).0 t)
         go false t =
             let there = h.only q i (sym (updates q ∙ ap (λ b. cond b (Some (length progs)) (number_in old q)) t) ∙ e) in
             slice_get-left progs (prog ∷ []) i (slice_get_within progs i q there) ∙ there
@@ -72,15 +69,15 @@ stands-last progs more prog copy number copied pushed last =
     (λ i. slice_get (pushed i) (last i)) ∙ slice_get-right progs (copy ∷ []) (length progs) 0 (omega arith) ∙ ap Some copied
 
 -- one more program, whose copy is the key
-pub numbered_next : {S A E : Type 0} (progs more : List Prog) (old new : HashMap Key ℕ S) (prog key copy : Prog) (number : ℕ) (result : Result A E) → AreNumbered progs old
+pub numbered_next : {S A E : Type 0} (progs more : List Prog) (old new : HashMap Prog ℕ S) (prog key copy : Prog) (number : ℕ) (result : Result A E) → AreNumbered progs old
     → key ≡ prog → copy ≡ prog → more ≡ progs ++ copy ∷ [] → number ≡ length progs → number_in old key ≡ None → is_err result ≡ false
-    → OnOk result (Updates same_key old new (record { prog = key }) (Some number)) → AreNumbered more new
+    → OnOk result (Updates same old new key (Some number)) → AreNumbered more new
 numbered_next progs more old new prog key copy number result h keyed copied pushed last absent ok updates =
-    let same : key ≡ copy = keyed ∙ sym copied in
+    let is : key ≡ copy = keyed ∙ sym copied in
     let changed = ok-then result updates ok in
     subst (λ ps. AreNumbered ps new) (sym pushed)
-    (numbered_more progs old new copy h (ap (number_in old) (sym same) ∙ absent)
-    (λ q. changed.0 (record { prog = q }) ∙ (λ i. cond (same_prog (same i) q) (Some (last i)) (number_in old q))))
+    (numbered_more progs old new copy h (ap (number_in old) (sym is) ∙ absent)
+    (λ q. changed.0 q ∙ (λ i. cond (same (is i) q) (Some (last i)) (number_in old q))))
 
 -- what is left of a list once the program is taken that was put behind it
 pub popped : (progs more left : List Prog) (copy : Prog) (count : ℕ) → more ≡ progs ++ copy ∷ [] → count ≡ length more → left ≡ take (count - 1) more → left ≡ progs

@@ -1,7 +1,6 @@
 ghost use Rattle.std.specs.Prelude.{◌≡◌, ◌<◌, [], IfOk, OnOk, OnErr, Some, length, slice_get};
 ghost use Rattle.golog_memo.specs.Numbered.{AreOnce, IsAddedTo};
 
-use crate::key::Key;
 use golog_base::NoMemory;
 use golog_tree::{Prog, copy_prog};
 use std::alloc::Global;
@@ -14,7 +13,7 @@ use std::marker::Model;
 pub struct Nodes {
     alloc: Global,
     progs: Vec<Prog>,
-    numbers: HashMap<Key, u64>,
+    numbers: HashMap<Prog, u64>,
 }
 
 impl Model for Nodes {
@@ -53,13 +52,11 @@ impl Nodes {
         ensures ok { OnOk result (IsAddedTo self.old prog.now self.new) }
         ensures err { OnErr result (self.new ≡ self.old) }
     {
-        let number = self.progs.len() as u64;
-        let key = Key {
-            prog: copy_prog(self.alloc, prog)?,
-        };
-        if let Some(number) = self.numbers.get(&key) {
+        if let Some(number) = self.numbers.get(prog) {
             return Ok(*number);
         }
+        let number = self.progs.len() as u64;
+        let key = copy_prog(self.alloc, prog)?;
         self.progs.push(copy_prog(self.alloc, prog)?)?;
         if self.numbers.insert(key, number).is_err() {
             self.progs.pop();

@@ -1,6 +1,10 @@
 pub mod Substituted
 mod Copied
-pub mod Places
-pub mod Numbers
+mod EqualArguments
+mod Tells
 pub mod Decoded
+pub mod EqualConditions
+pub mod EqualPrograms
 pub mod Items
+pub mod Numbers
+pub mod Places

@@ -10,6 +10,7 @@ mod draft_prog;
 mod ground;
 mod nesting;
 mod prog;
+mod same;
 mod substitute;
 mod tidy;
 
@@ -29,5 +30,6 @@ pub use ground::{
 };
 pub use nesting::nest;
 pub use prog::{Label, Prog, Way};
+pub use same::{are_same_ways, is_same_cond, is_same_prog, is_same_term, is_same_way};
 pub use substitute::{put_arg, put_cond};
 pub use tidy::{tidy_conc, tidy_prio, tidy_seq};

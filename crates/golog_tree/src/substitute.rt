@@ -3,7 +3,7 @@ ghost use Rattle.golog_tree.specs.Substitute.{arg_put, within as spec_within, te
 
 use crate::cond::{Arg, Cond, Term};
 use crate::prog::{Prog, Way};
-use golog_base::{Boxed, List, NoMemory};
+use golog_base::{Boxed, List, NoMemory, both};
 use std::alloc::Global;
 
 type Put = Option<(u8, u8)>;
@@ -34,18 +34,6 @@ fn args_with(alloc: Global, args: &[Arg], put: Put) -> Result<List<Arg>, NoMemor
         list.push(arg_with(*arg, put))?;
     }
     Ok(list)
-}
-
-/// Both values, where neither call wanted memory.
-pub(crate) fn both<A: Drop, B: Drop>(
-    one: Result<A, NoMemory>,
-    other: Result<B, NoMemory>,
-) -> Result<(A, B), NoMemory>
-    ensures { IfOk result (λ pair. (one ≡ Ok pair.0) × (other ≡ Ok pair.1)) }
-{
-    let one = one?;
-    let other = other?;
-    Ok((one, other))
 }
 
 /// The condition itself: where nothing is put in, it is shared.
