@@ -11,8 +11,7 @@ ghost use Rattle.golog_search.specs.Decided.{IsAhead, IsDecided};
 ghost use Rattle.golog_agent.specs.Configuration.{IsSound, configuration_after, with_entry};
 ghost use Rattle.golog_agent.specs.Deciding.{is_standing};
 
-use crate::both::both;
-use golog_base::{Bytes, List, NoMemory};
+use golog_base::{Bytes, List, NoMemory, both};
 use golog_progress::{State, start};
 use golog_search::{Decision, decide_blocked, decide_step_of};
 use golog_semantics::{Entry, Mode};

@@ -2,11 +2,10 @@
 ghost use Rattle.std.specs.Prelude.{◌≡◌, ◌≤◌, [], ◌∷◌, ◌++◌, length, IfOk};
 ghost use Rattle.golog_semantics.specs.Journal.{longest};
 
-use crate::both::both;
 use crate::record::Record;
 use crate::runs::Runs;
 use crate::under_way::Core;
-use golog_base::{List, NoMemory};
+use golog_base::{List, NoMemory, both};
 use golog_journal::{LONGEST, Report};
 use golog_semantics::Entry;
 use golog_tree::Label;

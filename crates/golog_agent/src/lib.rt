@@ -1,7 +1,6 @@
 //! The online execution of an agent's program, over a board.
 #![tactic(auto)]
 
-mod both;
 mod decider;
 mod driver;
 mod kept;

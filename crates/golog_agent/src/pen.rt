@@ -2,9 +2,8 @@
 ghost use Rattle.std.specs.Prelude.{◌≡◌, [], IfOk};
 ghost use Rattle.golog_semantics.specs.WellFormed.{WellFormed};
 
-use crate::both::both;
 use crate::under_way::Core;
-use golog_base::NoMemory;
+use golog_base::{NoMemory, both};
 use golog_text::Line;
 use golog_tree::Agent;
 use std::alloc::Global;

@@ -11,11 +11,10 @@ ghost use Rattle.golog_agent.specs.Leading.{led_for};
 ghost use Rattle.golog_agent.specs.Turns.{TurnIs};
 
 use crate::OnlineLead;
-use crate::both::both;
 use crate::driver::{Driver, Stepped};
 use crate::kept::Kept;
 use crate::under_way::Core;
-use golog_base::NoMemory;
+use golog_base::{NoMemory, both};
 use golog_journal::{Board, Lead, Led, Report};
 use golog_tree::Agent;
 use std::alloc::Global;

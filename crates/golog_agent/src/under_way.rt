@@ -14,10 +14,9 @@ ghost use Rattle.golog_journal.specs.Boards.{IsBoardList};
 ghost use Rattle.golog_agent.specs.Keeping.{awaited_by, ended_by, EndsBy, IsUnderWay, KeepsRules};
 ghost use Rattle.golog_agent.specs.Planned.{PlanIs, IsNextStep};
 
-use crate::both::both;
 use crate::decider::Decider;
 use crate::plan::{Plan, planned};
-use golog_base::NoMemory;
+use golog_base::{NoMemory, both};
 use golog_journal::Counts;
 use golog_progress::State;
 use golog_search::Decision;

@@ -7,4 +7,5 @@ pub mod MemFiles
 pub mod MemSink
 pub mod Names
 pub mod Numbers
+pub mod Results
 pub mod formers

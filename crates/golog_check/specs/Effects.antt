@@ -67,17 +67,7 @@ module _ (names : Declared) where
   cause_in item =
       head_from names (head_within []) (action_sorts names item.action) item.action_args >>= λ (action : Head).
       head_from names (head_within action.scope) (fluent_sorts names item.fluent) item.fluent_args >>=
-      λ (fluent : Head).
-      term_in names fluent.scope (unwrap_or (fluent_sort names item.fluent) 0) item.term >>= λ term.
-      cond_in names item.cond fluent.scope >>= λ cond.
-      gives (record {
-        action = item.action;
-        action_args = action.args;
-        fluent = item.fluent;
-        fluent_args = fluent.args;
-        term = term;
-        cond = cond;
-      })
+      λ (fluent : Head). effect_in item action.args fluent.args fluent.scope
 
   -- What an action senses, where it has a device and is not exogenous, and no item before tells it.
   unfoldable pub sense_by : Bool → DraftSense → Reading SenseItem

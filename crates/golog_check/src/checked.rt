@@ -1,4 +1,4 @@
-ghost use Rattle.std.specs.Prelude.{◌≡◌, [], None, Ok, OnOk, IfOk};
+ghost use Rattle.std.specs.Prelude.{[], None, OnOk, IfOk};
 ghost use Rattle.golog_check.specs.Checked.{AddsTo, IsChecked, Lowers};
 
 use crate::fault::CheckFault;
@@ -20,18 +20,6 @@ fn with_fault(least: Option<Refusal>, fault: CheckFault) -> Result<Option<Refusa
         CheckFault::Refused { code, at } => Ok(lesser(least, Refusal { code, at })),
         CheckFault::Memory => Err(NoMemory),
     }
-}
-
-/// Both values, where neither call wanted memory.
-pub fn both<A: Drop, B: Drop>(
-    one: Result<A, NoMemory>,
-    other: Result<B, NoMemory>,
-) -> Result<(A, B), NoMemory>
-    ensures { IfOk result (λ pair. (one ≡ Ok pair.0) × (other ≡ Ok pair.1)) }
-{
-    let one = one?;
-    let other = other?;
-    Ok((one, other))
 }
 
 impl<T> Checked<T> {

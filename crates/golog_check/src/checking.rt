@@ -20,7 +20,7 @@ ghost use Rattle.golog_check.specs.Order.{IsLeastRow, all_rows};
 ghost use Rattle.golog_check.specs.Parts.{AreParts};
 
 use crate::blocks::blocks_refused;
-use crate::checked::{Checked, both};
+use crate::checked::Checked;
 use crate::copies::{copy_actions, copy_devices, copy_fluents, copy_sorts, sort_places};
 use crate::effects::{cause_items_in, poss_items_in};
 use crate::fault::{CheckFault, FRONT_DEEP, refuse_where};
@@ -34,7 +34,7 @@ use crate::sensing::sense_items_in;
 use crate::start_values::initial_values;
 use crate::starts::{Start, starts_in};
 use crate::sums::{GROUND_ACTIONS, GROUND_FLUENTS, sum_passes};
-use golog_base::{List, NoMemory};
+use golog_base::{List, NoMemory, both};
 use golog_rows::{Refusal, least_of};
 use golog_tree::{
     Agent, CauseItem, DraftMain, DraftProgram, DraftTheory, Firsts, PossItem, ProcItem, Prog,

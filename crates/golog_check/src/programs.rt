@@ -8,12 +8,11 @@ ghost use Rattle.golog_check.specs.Programs.{prog_step, prog_in, progs_after, pr
 ghost use Rattle.golog_check.specs.Programs.{nested, joined, with_no, with_body};
 
 use crate::args::args_in;
-use crate::checked::both;
 use crate::conditions::cond_in;
 use crate::fault::CheckFault;
 use crate::names::Names;
 use crate::scope::{Variable, variable_no, within};
-use golog_base::{Boxed, List, NoMemory, Word};
+use golog_base::{Boxed, List, NoMemory, Word, both};
 use golog_tree::{Cond, DraftArg, DraftCond, DraftProg, Prog};
 use std::alloc::Global;
 

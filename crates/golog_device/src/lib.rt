@@ -2,7 +2,6 @@
 #![tactic(auto)]
 
 mod begin;
-mod both;
 mod device;
 mod laws;
 mod served;

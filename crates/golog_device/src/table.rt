@@ -2,12 +2,11 @@
 ghost use Rattle.std.specs.Prelude.{◌≡◌, ◌<◌, ◌≤◌, ◌+◌, [], false, vec_len, IfOk};
 ghost use Rattle.golog_device.specs.Logs.{SERVED_ROOM, is_over, is_cut, kept_by, room_of, bytes_room, told_by, given_by};
 
-use crate::both::both;
 use crate::served::{SERVED_ROOM, ServedTexts};
 use crate::told::{Told, ToldItems};
 use crate::twin::{Twin, reversed_twins};
 use crate::{Begun, Device, Idle, Served};
-use golog_base::{List, NoMemory};
+use golog_base::{List, NoMemory, both};
 use std::alloc::Global;
 
 /// A device that answers by a table, whatever it is asked: it says that it has begun, or hasn't; its answers to

@@ -1,5 +1,5 @@
 // What the inputs of a command hold.
-ghost use Rattle.std.specs.Prelude.{◌≡◌, ◌≤◌, ◌++◌, All, IfOk, IfErr, IsTrue, IsSomeAnd, OnOk, length, option_map};
+ghost use Rattle.std.specs.Prelude.{◌≡◌, ◌≤◌, ◌++◌, All, IfOk, IfErr, IsTrue, IsSomeAnd, OnOk, OnErr, length, option_map};
 ghost use Rattle.golog_semantics.specs.Fits.{cond_fits, nothing_bound};
 ghost use Rattle.golog_semantics.specs.Reports.{IsReport};
 ghost use Rattle.golog_semantics.specs.WellFormed.{WellFormed};
@@ -54,7 +54,8 @@ pub enum Unready {
 
 /// What it comes to that an input holds nothing, unless memory ran out.
 pub fn ended(unready: Unready) -> Result<Outcome, NoMemory>
-    ensures { IfOk result (λ outcome. unready ≡ Unready.Ended outcome) }
+    ensures outcome { IfOk result (λ outcome. unready ≡ Unready.Ended outcome) }
+    ensures memory { OnErr result (unready ≡ Unready.Memory) }
 {
     match unready {
         Unready::Ended(outcome) => Ok(outcome),

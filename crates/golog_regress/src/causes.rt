@@ -2,11 +2,10 @@ ghost use Rattle.std.specs.Prelude.{◌≡◌, [], ◌++◌, IfOk, Some};
 ghost use Rattle.golog_regress.specs.Causes.{matching as spec_matching, guarded as spec_guarded, is_plainly_true as spec_is_plainly_true, choice as spec_choice, layer as spec_layer, layered as spec_layered, sorts_of as spec_sorts_of, chain as spec_chain};
 ghost use Rattle.golog_regress.specs.Images.{cond_image, term_image};
 
-use crate::both::both;
 use crate::happened::Happened;
 use crate::matching::{Matched, matching};
 use crate::substitute::{cond_with, term_with};
-use golog_base::{Boxed, List, NoMemory};
+use golog_base::{Boxed, List, NoMemory, both};
 use golog_tree::{Agent, Arg, CauseItem, Cond, Term};
 use std::alloc::Global;
 

@@ -1,7 +1,6 @@
 //! Conditions taken back over what happens: their truth before it is that of the conditions after it (Reiter 2001).
 #![tactic(auto)]
 
-mod both;
 mod causes;
 mod event;
 mod happened;

@@ -1,9 +1,8 @@
 ghost use Rattle.std.specs.Prelude.{◌≡◌, [], ◌∷◌, ◌++◌, map, IfOk};
 ghost use Rattle.golog_regress.specs.Images.{image as spec_image, fresh as spec_fresh, cond_image, term_image};
 
-use crate::both::both;
 use crate::numbers::{fresh, image};
-use golog_base::{Boxed, List, NoMemory};
+use golog_base::{Boxed, List, NoMemory, both};
 use golog_tree::{Arg, Cond, Term};
 use std::alloc::Global;
 

@@ -1,10 +1,9 @@
 ghost use Rattle.std.specs.Prelude.{◌≡◌, map, IfOk};
 ghost use Rattle.golog_regress.specs.Regressed.{is_true as spec_is_true, cond_back as spec_cond_back, term_back as spec_term_back};
 
-use crate::both::both;
 use crate::causes::chain;
 use crate::happened::Happened;
-use golog_base::{Boxed, List, NoMemory};
+use golog_base::{Boxed, List, NoMemory, both};
 use golog_tree::{Agent, Arg, CauseItem, Cond, Term};
 use std::alloc::Global;
 

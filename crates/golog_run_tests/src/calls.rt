@@ -1,7 +1,7 @@
 ghost use Rattle.std.specs.Prelude.{◌≤◌, length};
 ghost use Rattle.golog_device.specs.Slots.{standings, FreshBelow};
 
-use golog_base::{Bytes, HeldFile, List, MemFiles, MemSink, NoMemory, Text};
+use golog_base::{Bytes, HeldFile, List, MemFiles, MemSink, NoMemory, Text, both};
 use golog_device::Device;
 use golog_main::{NO_MEMORY, golog, is_threaded, script_devices, serve_inline};
 use golog_words::order_of;
@@ -56,16 +56,6 @@ fn words_of(alloc: Global, of: &[&str]) -> Result<Vec<String>, NoMemory> {
         words.push(String::from_str(alloc, word)?)?;
     }
     Ok(words)
-}
-
-/// Both, where there was memory for each.
-fn both<A: Drop, B: Drop>(
-    one: Result<A, NoMemory>,
-    other: Result<B, NoMemory>,
-) -> Result<(A, B), NoMemory> {
-    let one = one?;
-    let other = other?;
-    Ok((one, other))
 }
 
 /// Calls the program with these words, over these files, this sink and devices that follow scripts.

@@ -1,6 +1,6 @@
 -- What a reader of a part answers.
 pub use Rattle.golog_rows.specs.Reading.{Row, first, refusal_in, Reading, gives, refused, unless, row, rows_behind, outcome_behind, ◌>>=◌, found, each}
-use Rattle.std.specs.Prelude.{ℕ, List, Option, Some, None, Result, Ok, Err}
+use Rattle.std.specs.Prelude.{ℕ, List, Option, Some, None, Result}
 use Rattle.golog_rows.specs.Answers as rows
 use Rattle.golog_theory.specs.declared.fault.TheoryFault.{TheoryFault}
 use Rattle.golog_theory.specs.declared.fault.TheoryFault.TheVariants.{Refused, Memory}
@@ -21,9 +21,3 @@ Leaves result new reading = rows.Leaves code_at result new reading
 -- A refusal is that of the first row that fits, and where a value is given no row fits.
 abbrev pub IsFirstRow : {A : Type 0} → Result A TheoryFault → List Row → Type 0
 IsFirstRow result table = rows.IsFirstRow code_at result table
-
--- both values, or the first fault
-abbrev pub both : {A B E : Type 0} → Result A E → Result B E → Result (A × B) E
-both (Ok one) (Ok other) = Ok (one, other)
-both (Ok one) (Err fault) = Err fault
-both (Err fault) other = Err fault

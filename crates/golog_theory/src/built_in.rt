@@ -2,8 +2,7 @@ ghost use Rattle.std.specs.Prelude.{◌≡◌, [], ◌∷◌, IfOk, codes};
 ghost use Rattle.golog_base.specs.Names.{IsWord};
 ghost use Rattle.golog_theory.specs.Items.{bool_constants, built_in_action, built_in_cause, built_in};
 
-use crate::fault::both;
-use golog_base::{List, NoMemory, Word};
+use golog_base::{List, NoMemory, Word, both};
 use golog_tree::{
     DraftAction, DraftArg, DraftCause, DraftCond, DraftFluent, DraftSort, DraftStart, DraftTerm,
     DraftTheory,

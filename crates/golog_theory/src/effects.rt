@@ -6,13 +6,13 @@ ghost use Rattle.golog_theory.specs.Effects.{is_restricted, poss_item, is_new_va
 
 use crate::conditions::cond_of;
 use crate::draft::Draft;
-use crate::fault::{COUNT, DUPLICATE, TheoryFault, both, refuse_where, unknown_form};
+use crate::fault::{COUNT, DUPLICATE, TheoryFault, refuse_where, unknown_form};
 use crate::heads::{Called, Schema, action_called, fluent_called, head_word, schema_of};
 use crate::indexed::Indexed;
 use crate::limits::{BUILT_IN, CAUSES};
 use crate::names::{Actions, is_among};
 use crate::terms::term_of;
-use golog_base::{List, NoMemory, Word};
+use golog_base::{List, NoMemory, Word, both};
 use golog_form::Form;
 use golog_tree::{DraftArg, DraftCause, DraftCond, DraftPoss, DraftSense, DraftTerm, Place};
 use std::alloc::Global;

@@ -1,6 +1,5 @@
 ghost use Rattle.std.specs.Prelude.{◌≡◌, true, false, MatchResult};
 ghost use Rattle.golog_theory.specs.declared.fault.TheoryFault.TheVariants.{Refused, Memory};
-ghost use Rattle.golog_theory.specs.Reading.{both};
 
 use golog_base::NoMemory;
 use golog_tree::Place;
@@ -73,24 +72,5 @@ pub fn unknown_name(at: Place) -> TheoryFault
     TheoryFault::Refused {
         code: UNKNOWN_NAME,
         at,
-    }
-}
-
-/// Both values, or the first fault.
-pub fn both<A: Drop, B: Drop, E: Drop>(one: Result<A, E>, other: Result<B, E>) -> Result<(A, B), E>
-    ensures { result ≡ both one other }
-{
-    match one {
-        Ok(one) => match other {
-            Ok(other) => Ok((one, other)),
-            Err(fault) => {
-                drop(one);
-                Err(fault)
-            }
-        },
-        Err(fault) => {
-            drop(other);
-            Err(fault)
-        }
     }
 }

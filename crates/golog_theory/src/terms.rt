@@ -3,12 +3,12 @@ ghost use Rattle.golog_tree.specs.declared.draft_cond.DraftTerm.TheVariants.{Shi
 ghost use Rattle.golog_theory.specs.Reading.{Answers};
 ghost use Rattle.golog_theory.specs.Terms.{step_of, plus_of, minus_of, fluent_term, atom_term, term_list, term_of, term_parts};
 
-use crate::fault::{NUMBER_RANGE, TheoryFault, UNKNOWN_FORM, both, refuse_where, unknown_form};
+use crate::fault::{NUMBER_RANGE, TheoryFault, UNKNOWN_FORM, refuse_where, unknown_form};
 use crate::heads::{Called, fluent_called};
 use crate::indexed::Indexed;
 use crate::numbers::{has_sign, is_number, value};
 use crate::parts::{arg_of, split_list, word};
-use golog_base::{Boxed, NoMemory};
+use golog_base::{Boxed, NoMemory, both};
 use golog_form::Form;
 use golog_tree::{DraftTerm, Place};
 use std::alloc::Global;

@@ -37,16 +37,16 @@ returns c =
     let items = c.in_ok-items.items in
     let states = of-ok c.both-states.result items.0
     (λ pair. (c.starts_in-starts.result ≡ Ok pair.0) × (c.poss_items_in-poss.result ≡ Ok pair.1))
-    c.in_ok-items.ensures.0 c.both-states.ensures in
+    c.in_ok-items.ensures.parts.0 c.both-states.ensures.parts in
     let later = of-ok c.both-later.result items.1
     (λ pair. (c.both-effects.result ≡ Ok pair.0) × (c.both-programs.result ≡ Ok pair.1))
-    c.in_ok-items.ensures.1 c.both-later.ensures in
+    c.in_ok-items.ensures.parts.1 c.both-later.ensures.parts in
     let effects = of-ok c.both-effects.result items.1.0
     (λ pair. (c.cause_items_in-causes.result ≡ Ok pair.0) × (c.sense_items_in-senses.result ≡ Ok pair.1))
-    later.0 c.both-effects.ensures in
+    later.0 c.both-effects.ensures.parts in
     let programs = of-ok c.both-programs.result items.1.1
     (λ pair. (c.proc_items_in-procs.result ≡ Ok pair.0) × (c.main_checked-main.result ≡ Ok pair.1))
-    later.1 c.both-programs.ensures in
+    later.1 c.both-programs.ensures.parts in
     record {
       fluent_sum = subst (λ (sorts : List SortItem). IsLeastOf c.sum_passes-fluent_sum.result (refusals (sum_from sorts 4096 0 (map fluent_counted theory.fluents) ∷ [])))
           c.requires.sorts

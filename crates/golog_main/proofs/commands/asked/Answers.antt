@@ -21,5 +21,5 @@ returns-in-Err g c =
     let first = g.F.Files.faults c.args.files.now in
     let now = g.F.Files.faults c.understood_in.new.files in
     let next : Understood → Outcome → Type 0 = λ u. OfJournal held first now u.agent c.args.journal.now (λ told. OfCondition u.theory u.agent c.args.word.now (TruthOf u.agent told)) in
-    ends-so c.ended.result c.in-Err.unready (FileFails AgentFile IsFirstRefusal held c.args.name.now first now) (OfBoth held first now c.args.name.now next) c.ended.ensures
+    ends-so c.ended.result c.in-Err.unready (FileFails AgentFile IsFirstRefusal held c.args.name.now first now) (OfBoth held first now c.args.name.now next) c.ended.ensures.outcome
     (file-comes AgentFile held c.args.name.now first now IsFirstRefusal SpellsBoth next) c.in-Err.ensures.unready

@@ -11,5 +11,5 @@ pub returns-in-Err : goal.returns-in-Err
 returns-in-Err c =
     let u = c.args.understood.now in
     let next = TruthOf u.agent c.args.told.now in
-    ends-so c.ended.result c.in-Err.unready (CondFails u.theory u.agent c.args.word.now) (OfCondition u.theory u.agent c.args.word.now next) c.ended.ensures
+    ends-so c.ended.result c.in-Err.unready (CondFails u.theory u.agent c.args.word.now) (OfCondition u.theory u.agent c.args.word.now next) c.ended.ensures.outcome
     (cond-comes u.theory u.agent c.args.word.now next) c.in-Err.ensures.unready

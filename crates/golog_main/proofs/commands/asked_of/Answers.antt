@@ -20,5 +20,5 @@ returns-in-Err g c =
     let now = g.F.Files.faults c.told_in.new.files in
     let name = c.args.journal.now in
     let next : Told → Outcome → Type 0 = λ told. OfCondition u.theory u.agent c.args.word.now (TruthOf u.agent told) in
-    ends-so c.ended.result c.in-Err.unready (FileFails JournalFile (RefusesJournal u.agent) held name first now) (OfJournal held first now u.agent name next) c.ended.ensures
+    ends-so c.ended.result c.in-Err.unready (FileFails JournalFile (RefusesJournal u.agent) held name first now) (OfJournal held first now u.agent name next) c.ended.ensures.outcome
     (file-comes JournalFile held name first now (RefusesJournal u.agent) (SpellsJournal u.agent) next) c.in-Err.ensures.unready

@@ -20,5 +20,5 @@ returns-in-Err g c =
     let first = g.F.Files.faults c.args.files.now in
     let now = g.F.Files.faults c.agent_in.new.files in
     let next : Agent → Outcome → Type 0 = λ agent outcome. outcome ≡ Checked (check_text agent) in
-    ends-so c.ended.result c.in-Err.unready (FileFails AgentFile IsFirstRefusal held c.args.name.now first now) (OfAgent held first now c.args.name.now next) c.ended.ensures
+    ends-so c.ended.result c.in-Err.unready (FileFails AgentFile IsFirstRefusal held c.args.name.now first now) (OfAgent held first now c.args.name.now next) c.ended.ensures.outcome
     (file-comes AgentFile held c.args.name.now first now IsFirstRefusal SpellsAgent next) c.in-Err.ensures.unready

@@ -17,5 +17,5 @@ returns-in-Err g c =
     let first = g.F.Files.faults c.args.files.now in
     let now = g.F.Files.faults c.told_in.new.files in
     let name = c.args.journal.now in
-    ends-so c.ended.result c.in-Err.unready (FileFails JournalFile (RefusesJournal agent) held name first now) (OfJournal held first now agent name (Judges agent)) c.ended.ensures
+    ends-so c.ended.result c.in-Err.unready (FileFails JournalFile (RefusesJournal agent) held name first now) (OfJournal held first now agent name (Judges agent)) c.ended.ensures.outcome
     (file-comes JournalFile held name first now (RefusesJournal agent) (SpellsJournal agent) (Judges agent)) c.in-Err.ensures.unready

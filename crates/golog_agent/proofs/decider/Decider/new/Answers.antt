@@ -8,5 +8,5 @@ pub invariant_of-result : goal.invariant_of-result
 invariant_of-result c = (
   λ e. absurd (cc),
   tt,
-  subst (λ r. IfOk r (λ ws. (agent : Agent) → AreWatches agent ws)) c.in_ok-state.ensures.1 c.new.ensures c.args.agent.now,
+  subst (λ r. IfOk r (λ ws. (agent : Agent) → AreWatches agent ws)) c.in_ok-state.ensures.parts.1 c.new.ensures c.args.agent.now,
 )

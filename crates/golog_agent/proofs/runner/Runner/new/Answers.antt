@@ -8,7 +8,7 @@ use Rattle.golog_agent.proofs.runner.Runner.new.Goals as goal
 pub invariant_of-result : goal.invariant_of-result
 invariant_of-result c =
     let kept = c.in_ok-record.record in
-    let both = c.in_ok-record.ensures in
+    let both = c.in_ok-record.ensures.parts in
     let core = subst (λ r. IfOk r (λ (v : Course). v ≡ record { agent = c.args.agent.now; list = [] })) both.1 c.new-2.ensures in
     subst (λ (v : Course). IsKept v.agent v.list kept.entries kept.runs) (sym core)
     (record {
