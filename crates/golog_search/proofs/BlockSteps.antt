@@ -12,8 +12,8 @@ use Rattle.golog_semantics.specs.Values.{after}
 use Rattle.golog_semantics.specs.Ways.{is_empty}
 use Rattle.golog_semantics.specs.Search.{Run, best, best_from, first_of, is_followed, plain_ways, runs}
 use Rattle.golog_semantics.specs.Blocks.{begins_run, block_moves, has_path, is_cut, may_succeed, meets_cut}
-use Rattle.golog_search.proofs.Counting.{any-filter, swap-four}
-use Rattle.golog_search.proofs.LevelParts.{or-assoc}
+use Rattle.golog_find.proofs.Counting.{any-filter, swap-four}
+use Rattle.golog_find.proofs.LevelParts.{or-assoc}
 
 module _ {A : Type 0} where
   any-same : (f g : A → Bool) → ((x : A) → f x ≡ g x) → (xs : List A) → list_any f xs ≡ list_any g xs

@@ -11,14 +11,14 @@ use Rattle.golog_semantics.specs.Search.{Run, best}
 use Rattle.golog_semantics.specs.Blocks.{beginning, going_on, is_cut, is_kept}
 use Rattle.golog_semantics.specs.Heavy.{is_above}
 use Rattle.golog_ways.specs.First.{head_of}
-use Rattle.golog_search.specs.declared.found.Found.{Found}
-use Rattle.golog_search.specs.declared.found.Found.TheVariants as finds
+use Rattle.golog_find.specs.declared.found.Found.{Found}
+use Rattle.golog_find.specs.declared.found.Found.TheVariants as finds
 use Rattle.golog_search.specs.declared.reach.FirstStep.{FirstStep}
 use Rattle.golog_search.specs.declared.reach.FirstStep.TheVariants as first
 use Rattle.golog_search.specs.declared.reach.NearStep.{NearStep}
 use Rattle.golog_search.specs.declared.reach.NearStep.TheVariants as near
 use Rattle.golog_search.specs.BlockSteps.{first_of_block, has_step, near_of_block}
-use Rattle.golog_search.specs.Finding.{found_by, run_or}
+use Rattle.golog_find.specs.Finding.{found_by, run_or}
 use Rattle.golog_search.proofs.BlockSteps.{may-steps, near-steps}
 
 -- the steps, as a search in mode Near finds

@@ -12,8 +12,8 @@ use Rattle.golog_semantics.specs.Ways.{is_empty}
 use Rattle.golog_semantics.specs.Search.{Run, best, final}
 use Rattle.golog_semantics.specs.Blocks.{is_cut, moves, work}
 use Rattle.golog_semantics.specs.Heavy.{front_blocks, heavy, is_above, weighs}
-use Rattle.golog_search.specs.declared.found.Found.TheVariants.{Fuel}
-use Rattle.golog_search.specs.Finding.{found, found_by, run_or}
+use Rattle.golog_find.specs.declared.found.Found.TheVariants.{Fuel}
+use Rattle.golog_find.specs.Finding.{found, found_by, run_or}
 use Rattle.golog_search.specs.Weighing.{lacks_fuel, weighs_by}
 
 lacks-if : (b cut : Bool) (run : Option Run) → lacks_fuel (if b then Fuel else run_or cut run) ≡ b

@@ -22,11 +22,11 @@ use Rattle.golog_ways.specs.declared.answering.Stop.TheVariants.{Fuel, Memory}
 use Rattle.golog_ways.specs.declared.reaches.Reach.{Reach}
 use Rattle.golog_ways.specs.First.{head_of}
 use Rattle.golog_ways.specs.Reach.{reaches}
-use Rattle.golog_search.specs.declared.found.Found.TheVariants as finds
+use Rattle.golog_find.specs.declared.found.Found.TheVariants as finds
 use Rattle.golog_search.specs.declared.reach.FirstStep.TheVariants as first
 use Rattle.golog_search.specs.declared.reach.NearStep.TheVariants as near
 use Rattle.golog_search.specs.BlockSteps.{AreNear, first_of_block, has_step, near_of_block, wants_more}
-use Rattle.golog_search.specs.Finding.{found_by, run_or}
+use Rattle.golog_find.specs.Finding.{found_by, run_or}
 use Rattle.golog_search.proofs.BlockSteps.{may-steps, near-steps}
 use Rattle.golog_search.proofs.CertainNear.{best-near, kept-near}
 

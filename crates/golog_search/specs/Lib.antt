@@ -1,12 +1,7 @@
 pub mod Decided
 pub mod Laws
-pub mod Levels
-pub mod Numbers
-pub mod Finding
 pub mod BlockSteps
 pub mod Weighing
-pub mod InWorlds
 pub mod Kept
 pub mod Steady
 pub mod Told
-pub mod Visits

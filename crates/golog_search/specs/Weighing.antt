@@ -10,8 +10,8 @@ use Rattle.golog_semantics.specs.Truth.{Values}
 use Rattle.golog_semantics.specs.Guarded.{front}
 use Rattle.golog_semantics.specs.Blocks.{is_kept}
 use Rattle.golog_semantics.specs.Heavy.{Reached, blocks_to, is_above}
-use Rattle.golog_search.specs.declared.found.Found.{Found}
-use Rattle.golog_search.specs.declared.found.Found.TheVariants.{Absent, Fuel, Run as Runs}
+use Rattle.golog_find.specs.declared.found.Found.{Found}
+use Rattle.golog_find.specs.declared.found.Found.TheVariants.{Absent, Fuel, Run as Runs}
 
 -- the search wants more than the fuel
 abbrev pub lacks_fuel : Found → Bool

@@ -14,12 +14,10 @@ ghost use Rattle.golog_search.specs.BlockSteps.{AreNear, has_step, wants_more};
 ghost use Rattle.golog_ways.specs.Searched.{IsSearched};
 ghost use Rattle.golog_search.specs.Told.{AreTold};
 
-use crate::NEST_LIMIT;
-use crate::finding::search_block;
-use crate::found::Found;
 use crate::reach::{FirstStep, NearStep};
 use crate::told::Told;
 use golog_base::{Boxed, List, NoMemory};
+use golog_find::{Found, NEST_LIMIT, search_block};
 use golog_progress::State;
 use golog_semantics::{Block, Mode, Move};
 use golog_tree::{Agent, Label, Prog, Way, copy_prog, nest};

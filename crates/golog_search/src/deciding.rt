@@ -20,14 +20,12 @@ use crate::told::{Told, told_of};
 use crate::weighing::some_block_weighs;
 use crate::{Blocked, Decision};
 use golog_base::NoMemory;
+use golog_find::NEST_LIMIT;
 use golog_progress::State;
 use golog_semantics::{Mode, Move};
 use golog_tree::{Agent, Prog, nest};
 use golog_ways::{Keep, Reach, Stop, Walk, first_move, is_final, reach_of};
 use std::alloc::Global;
-
-/// The deepest nest of what a step leaves.
-pub const NEST_LIMIT: u32 = 2048;
 
 /// Whether what a step leaves nests too deep; that is known not to be so, or is measured.
 fn is_deep(left: &Prog, shallow: bool) -> bool

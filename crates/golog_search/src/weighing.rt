@@ -7,15 +7,14 @@ ghost use Rattle.golog_semantics.specs.ProgFits.{fits};
 ghost use Rattle.golog_semantics.specs.SortLaws.{AreInSorts};
 ghost use Rattle.golog_semantics.specs.WellFormed.{WellFormed};
 ghost use Rattle.golog_ways.specs.Closed.{IsClosed};
-ghost use Rattle.golog_search.specs.Finding.{mode_of};
+ghost use Rattle.golog_find.specs.Finding.{mode_of};
 ghost use Rattle.golog_ways.specs.Searched.{IsSearched};
 ghost use Rattle.golog_search.specs.Weighing.{lacks_fuel as lacks, some_weighs as weighs_some};
 ghost use Rattle.golog_search.specs.Weighing.{weighs_by, weighs_unless_kept};
 
 use crate::block_steps::{block_of, is_kept};
-use crate::finding::find;
-use crate::found::Found;
 use golog_base::NoMemory;
+use golog_find::{Found, find};
 use golog_progress::State;
 use golog_semantics::Block;
 use golog_tree::{Agent, Arg, Prog, Way, put_arg, sort_size};

@@ -1,5 +1,5 @@
 use Rattle.std.proofs.Common.{ap, ◌∙◌}
-use Rattle.golog_search.specs.Finding.{mode_of}
+use Rattle.golog_find.specs.Finding.{mode_of}
 use Rattle.golog_search.specs.Weighing.{lacks_fuel}
 use Rattle.golog_search.proofs.HeavyPrograms.{lacks-found}
 use Rattle.golog_search.proofs.weighing.wants_more.Goals as goal

@@ -1,0 +1,14 @@
+pub mod LevelsStay
+pub mod LevelParts
+pub mod Numbering
+pub mod RunsTo
+pub mod Seen
+pub mod FirstRuns
+pub mod Ending
+pub mod Counting
+pub mod Storing
+pub mod Searching
+pub mod StoredSearch
+pub mod FoundInWorlds
+pub mod Visiting
+pub mod VisitPlaces

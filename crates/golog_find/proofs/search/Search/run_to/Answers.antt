@@ -1,0 +1,22 @@
+use Rattle.std.proofs.Common.{◌≡◌, map, sym, ◌∙◌, subst}
+use Rattle.std.specs.Prelude.{All, reverse}
+use Rattle.std.proofs.lemmas.Result.{IfOk-weaker}
+use Rattle.golog_semantics.specs.Search.{Run}
+use Rattle.golog_find.specs.Levels.{run_to}
+use Rattle.golog_find.specs.Numbers.{HaveNumbers, all_meant}
+use Rattle.golog_find.proofs.search.Search.run_to.Goals as goal
+
+pub steps_to-requires-clause-states : goal.steps_to-requires-clause-states
+steps_to-requires-clause-states c = subst (HaveNumbers c.args.self.now.nodes) (sym c.as_slice-last.ensures) c.requires.last
+
+pub steps_to-requires-clause-before : goal.steps_to-requires-clause-before
+steps_to-requires-clause-before c = subst (All (HaveNumbers c.args.self.now.nodes)) (sym c.as_slice-before.ensures) c.requires.before
+
+pub returns : goal.returns
+returns c =
+    let nodes = c.args.self.now.nodes in
+    let place = c.args.place in
+    let told = run_to (reverse (map (all_meant nodes) c.as_slice-before.result.now)) (all_meant nodes c.as_slice-last.result.now) place in
+    let wanted = run_to (reverse (map (all_meant nodes) c.args.self.now.before)) (all_meant nodes c.args.self.now.last) place in
+    let same : told ≡ wanted = (λ i. run_to (reverse (map (all_meant nodes) (c.as_slice-before.ensures i))) (all_meant nodes (c.as_slice-last.ensures i)) place) in
+    IfOk-weaker c.steps_to.result (λ (run : Run). run ≡ told) (λ (run : Run). run ≡ wanted) (λ run e. e ∙ same) c.steps_to.ensures

@@ -1,0 +1,15 @@
+use Rattle.std.proofs.Common.{ℕ, List, ap, ◌∙◌}
+use Rattle.golog_semantics.specs.Modes.{holds}
+use Rattle.golog_semantics.specs.Truth.{truth_of}
+use Rattle.golog_ways.proofs.Acting.{closed_cond}
+use Rattle.golog_find.proofs.visits.holds_in.Goals as goal
+
+pub value-requires-clause-fits : goal.value-requires-clause-fits
+value-requires-clause-fits c = closed_cond c.args.agent.now c.args.cond.now c.new.result c.requires.closed
+
+pub returns : goal.returns
+returns c =
+    c.holds.ensures
+    ∙ ap (holds c.args.mode)
+    (c.value.ensures.truth ∙ ap (λ (v : List ℕ). truth_of c.args.agent.now v c.args.cond.now c.new.result) c.values.ensures
+    ∙ ap (truth_of c.args.agent.now c.args.state.now c.args.cond.now) c.new.ensures)
