@@ -1,51 +1,81 @@
-ghost use Rattle.std.specs.Prelude.{◌≡◌, ◌<◌, true, IsTrue, length};
-ghost use Rattle.golog_tree.specs.Ground.{ground_actions};
+ghost use Rattle.std.specs.Prelude.{IsTrue};
 ghost use Rattle.golog_semantics.specs.Fits.{cond_fits, nothing_bound};
+ghost use Rattle.golog_semantics.specs.Reports.{IsReport};
 ghost use Rattle.golog_semantics.specs.WellFormed.{WellFormed};
 ghost use Rattle.golog_file.specs.Conditions.{CondsStayKept};
 
+use crate::asserting::same;
 use golog_ask::ask;
+use golog_base::{Bytes, NoMemory};
 use golog_file::{CondFault, Understood, read_condition, read_theory_and_agent};
-use golog_progress::Entry;
-use golog_tree::{Agent, Cond, Truth, action_count};
+use golog_semantics::Report;
+use golog_text::read_journal;
+use golog_tree::{Agent, Cond, Truth};
+use itoa::Buffer;
 use std::alloc::Global;
 
-/// Lamps on three levels, and a sign of an unknown colour. The second lamp is lit by action 3.
-const LAMPS: &[u8] = b"(agent
+/// Lamps on three levels, and a sign of an unknown colour.
+const SIGN: &[u8] = b"(agent
     (sort level 1 3) (sort colour red blue)
     (fluent lit (level) bool false) (fluent sign () colour)
     (action light (level))
     (causes (light x) (lit x) true)
     (main nil))";
 
-/// Whether the agent has a ground action of this number.
-fn has_action(agent: &Agent, action: u32) -> bool
-    requires { WellFormed agent.now }
-    ensures { IsTrue result → action < length (ground_actions agent.now) }
+/// Lamps on 40 levels, which light only where there is power; an eye tells whether there is.
+const LAMPS: &[u8] = b"(agent
+    (sort level 1 40) (device eye) (device wind)
+    (fluent lit (level) bool false) (fluent power () bool)
+    (action light (level)) (action douse (level)) (action look () eye)
+    (exo fail () wind)
+    (senses (look) (power))
+    (causes (light x) (lit x) true (power))
+    (causes (douse x) (lit x) false)
+    (causes (fail) (power) false)
+    (main nil))";
+
+/// A coin that each toss turns over. Taken back over a toss, its side stands twice in a condition.
+const COIN: &[u8] = b"(agent
+    (fluent heads () bool false) (fluent turns () bool true) (fluent gold () bool)
+    (action toss ())
+    (causes (toss) (heads) true (or (and (heads) (not (turns))) (and (turns) (not (heads)))))
+    (causes (toss) (heads) false)
+    (main nil))";
+
+/// The truth of a condition after the entries of a report.
+fn truth_behind(alloc: Global, agent: &Agent, report: &Report, cond: &Cond) -> Option<Truth>
+    requires formed { WellFormed agent.now }
+    requires report { IsReport agent.now report.now }
+    requires fits { IsTrue (cond_fits agent.now cond.now nothing_bound) }
 {
-    action < action_count(agent)
+    ask(alloc, agent, report.entries.as_slice(), cond).ok()
 }
 
-/// The truth of a condition once the second lamp was lit.
-fn truth_of(alloc: Global, agent: &Agent, cond: &Cond) -> Option<Truth>
+/// The truth of a condition after a journal; `None` where the journal isn't read.
+fn truth_after(alloc: Global, agent: &Agent, journal: &[u8], cond: &Cond) -> Option<Truth>
     requires formed { WellFormed agent.now }
     requires fits { IsTrue (cond_fits agent.now cond.now nothing_bound) }
 {
-    if has_action(agent, 3) {
-        ask(alloc, agent, &[Entry::Test, Entry::Do { action: 3 }], cond).ok()
-    } else {
-        None
-    }
+    let read = read_journal(alloc, agent, journal);
+    let answer = match &read {
+        Ok(report) => truth_behind(alloc, agent, report, cond),
+        Err(_fault) => None,
+    };
+    drop(read);
+    answer
 }
 
-/// The truth of the condition that a text spells, or the code and the place of its refusal.
-fn asked(alloc: Global, understood: &Understood, text: &[u8]) -> Result<Option<Truth>, (u8, u32)>
+/// The truth of a condition, if it was asked for, or the code and the place of the condition's refusal.
+type Told = Result<Option<Truth>, (u8, u32)>;
+
+/// What comes of the condition that a text spells.
+fn asked_over(alloc: Global, understood: &Understood, journal: &[u8], text: &[u8]) -> Told
     requires formed { WellFormed understood.now.agent }
     requires kept { CondsStayKept understood.now.theory understood.now.agent }
 {
     let read = read_condition(alloc, &understood.theory, &understood.agent, text);
     let answer = match &read {
-        Ok(cond) => Ok(truth_of(alloc, &understood.agent, cond)),
+        Ok(cond) => Ok(truth_after(alloc, &understood.agent, journal, cond)),
         Err(CondFault::Refused { code, at }) => Err((*code, *at)),
         Err(CondFault::Memory) => Ok(None),
     };
@@ -53,14 +83,54 @@ fn asked(alloc: Global, understood: &Understood, text: &[u8]) -> Result<Option<T
     answer
 }
 
-/// The same over the agent of `LAMPS`.
-fn asked_of_lamps(alloc: Global, text: &[u8]) -> Result<Option<Truth>, (u8, u32)> {
-    let read = read_theory_and_agent(alloc, LAMPS);
+/// The same over the agent that a file spells; no truth where that isn't read.
+fn asked(alloc: Global, file: &[u8], journal: &[u8], text: &[u8]) -> Told {
+    let read = read_theory_and_agent(alloc, file);
     let answer = match &read {
-        Ok(understood) => asked(alloc, understood, text),
+        Ok(understood) => asked_over(alloc, understood, journal, text),
         Err(_fault) => Ok(None),
     };
     drop(read);
+    answer
+}
+
+/// A journal of so many entries, which begins with these lines, so many, and goes on with one entry.
+fn long(
+    alloc: Global,
+    begin: &[u8],
+    lines: usize,
+    entry: &[u8],
+    entries: usize,
+) -> Result<Bytes, NoMemory> {
+    let mut text = Bytes::copy_of(alloc, begin)?;
+    for place in lines..entries {
+        push_entry(&mut text, place, entry)?;
+    }
+    Ok(text)
+}
+
+fn push_entry(text: &mut Bytes, place: usize, entry: &[u8]) -> Result<(), NoMemory> {
+    let mut buffer = Buffer::new();
+    text.extend(buffer.format(place).as_bytes())?;
+    text.extend(entry)
+}
+
+/// What comes of a condition after such a journal.
+fn asked_after_long(
+    alloc: Global,
+    file: &[u8],
+    begin: &[u8],
+    lines: usize,
+    entry: &[u8],
+    entries: usize,
+    text: &[u8],
+) -> Told {
+    let journal = long(alloc, begin, lines, entry, entries);
+    let answer = match &journal {
+        Ok(journal) => asked(alloc, file, journal.as_slice(), text),
+        Err(_wanted) => Ok(None),
+    };
+    drop(journal);
     answer
 }
 
@@ -75,7 +145,8 @@ fn conditions_have_their_truths(rt: HostRuntime) {
         (b"(or (= (sign) red) true)", Truth::Yes),
     ];
     for (text, truth) in asks {
-        assert_eq!(rt; asked_of_lamps(rt.alloc(), text), Ok(Some(truth)));
+        let asked = asked(rt.alloc(), SIGN, b"0 test\n1 do light(2)\n", text);
+        same(&rt, text, asked, Ok(Some(truth)));
     }
 }
 
@@ -98,6 +169,94 @@ fn conditions_are_refused_at_their_places(rt: HostRuntime) {
         (b"(and (lit x) (dark))", (23, 14)),
     ];
     for (text, refusal) in refusals {
-        assert_eq!(rt; asked_of_lamps(rt.alloc(), text), Err(refusal));
+        same(&rt, text, asked(rt.alloc(), SIGN, b"", text), Err(refusal));
+    }
+}
+
+#[test]
+fn what_is_sensed_counts_from_its_place(rt: HostRuntime) {
+    let asks: [(&[u8], &[u8], Truth); 12] = [
+        (b"", b"(lit 1)", Truth::No),
+        (b"", b"(power)", Truth::Unknown),
+        (b"0 do light(1)\n", b"(lit 1)", Truth::Unknown),
+        (b"0 do light(1)\n", b"(lit 2)", Truth::No),
+        (
+            b"0 do look @eye\n1 sense eye 0 true\n2 do light(1)\n",
+            b"(lit 1)",
+            Truth::Yes,
+        ),
+        (
+            b"0 do look @eye\n1 do light(1)\n2 sense eye 0 true\n",
+            b"(lit 1)",
+            Truth::Unknown,
+        ),
+        (
+            b"0 do look @eye\n1 do light(1)\n2 sense eye 0 true\n",
+            b"(power)",
+            Truth::Yes,
+        ),
+        (
+            b"0 do look @eye\n1 sense eye 0 false\n2 do light(1)\n",
+            b"(not (lit 1))",
+            Truth::Yes,
+        ),
+        (
+            b"0 do look @eye\n1 do look @eye\n2 sense eye 0 true\n3 do light(1)\n4 sense eye 1 false\n",
+            b"(and (lit 1) (not (power)))",
+            Truth::Yes,
+        ),
+        (
+            b"0 do look @eye\n1 sense eye 0 true\n2 exo wind fail\n3 do light(1)\n",
+            b"(lit 1)",
+            Truth::No,
+        ),
+        (
+            b"0 do look @eye\n1 sense eye 0 true\n2 do light(1)\n3 rest wind 0\n4 exo wind fail\n",
+            b"(and (lit 1) (not (power)))",
+            Truth::Yes,
+        ),
+        (
+            b"0 do look @eye\n1 sense eye 0 true\n2 do light(1)\n3 test\n4 do douse(1)\n5 do light(2)\n",
+            b"(and (lit 2) (not (lit 1)) (some (x level) (lit x)))",
+            Truth::Yes,
+        ),
+    ];
+    for (journal, text, truth) in asks {
+        let asked = asked(rt.alloc(), LAMPS, journal, text);
+        same(&rt, text, asked, Ok(Some(truth)));
+    }
+}
+
+#[test]
+fn long_journals_are_asked(rt: HostRuntime) {
+    let asks: [(&[u8], Truth); 7] = [
+        (b"(power)", Truth::Yes),
+        (b"(lit 40)", Truth::Yes),
+        (b"(lit 39)", Truth::No),
+        (b"(lit 7)", Truth::Yes),
+        (b"(some (x level) (and (lit x) (< x 8)))", Truth::Yes),
+        (b"(some (x level) (and (lit x) (< x 7)))", Truth::No),
+        (b"(all (x level) (or (lit x) (< x 40)))", Truth::Yes),
+    ];
+    let begin = b"0 do look @eye\n1 sense eye 0 true\n2 do light(40)\n";
+    for (text, truth) in asks {
+        let asked = asked_after_long(rt.alloc(), LAMPS, begin, 3, b" do light(7)\n", 4_000, text);
+        same(&rt, text, asked, Ok(Some(truth)));
+    }
+}
+
+#[test]
+fn conditions_that_grow_are_asked(rt: HostRuntime) {
+    let asks: [(usize, &[u8], Truth); 6] = [
+        (1, b"(heads)", Truth::Yes),
+        (12, b"(heads)", Truth::No),
+        (13, b"(heads)", Truth::Yes),
+        (3_000, b"(heads)", Truth::No),
+        (3_001, b"(heads)", Truth::Yes),
+        (3_001, b"(or (gold) (not (heads)))", Truth::Unknown),
+    ];
+    for (tosses, text, truth) in asks {
+        let asked = asked_after_long(rt.alloc(), COIN, b"", 0, b" do toss\n", tosses, text);
+        same(&rt, text, asked, Ok(Some(truth)));
     }
 }

@@ -1,6 +1,7 @@
 ghost use Rattle.std.specs.Prelude.{◌≤◌};
 ghost use Rattle.golog_semantics.specs.WellFormed.{WellFormed};
 
+use crate::asserting::same;
 use golog_base::NoMemory;
 use golog_check_text::check_text;
 use golog_demo::{DemoFiles, demo_files};
@@ -56,7 +57,7 @@ fn demos_of_all_sizes_are_read(rt: HostRuntime) -> Result<(), NoMemory> {
     for size in 1..201u32 {
         let floors = size as usize;
         let wanted = [floors + 3, 2 * floors + 5, floors, 1];
-        assert_eq!(rt; demo_counts(rt.alloc(), size)?, wanted);
+        same(&rt, size, demo_counts(rt.alloc(), size)?, wanted);
     }
     Ok(())
 }
@@ -77,8 +78,8 @@ fn each_button_is_pushed(rt: HostRuntime) -> Result<(), NoMemory> {
     let three =
         b"[{\"name\":\"panel\",\"answers\":[],\"idle\":[\"push(3)\",\"push(2)\",\"push(1)\"]},\
         {\"name\":\"lift\",\"answers\":[],\"idle\":[\"rest\"]}]";
-    assert!(rt; has_devices(rt.alloc(), 1, one)?);
-    assert!(rt; has_devices(rt.alloc(), 3, three)?);
+    same(&rt, "one", has_devices(rt.alloc(), 1, one)?, true);
+    same(&rt, "three", has_devices(rt.alloc(), 3, three)?, true);
     Ok(())
 }
 
@@ -111,5 +112,5 @@ fn ground_things_are_counted(rt: HostRuntime) {
         (action up ()) (action off (level) panel) (exo quit () panel)
         (proc wait () nil) (main nil))";
     let line = b"ok fluents 5 actions 7 procedures 1 devices 1\n";
-    assert!(rt; file_has_line(rt.alloc(), file, line));
+    same(&rt, "counts", file_has_line(rt.alloc(), file, line), true);
 }

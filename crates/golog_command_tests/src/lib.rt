@@ -4,7 +4,7 @@
 #[cfg(test)]
 mod asks;
 #[cfg(test)]
-mod asks_after;
+mod asserting;
 #[cfg(test)]
 mod demos;
 #[cfg(test)]

@@ -1,5 +1,6 @@
 ghost use Rattle.golog_semantics.specs.WellFormed.{WellFormed};
 
+use crate::asserting::same;
 use golog_file::read_agent;
 use golog_replay::{Answer, Verdict, Why, replay};
 use golog_text::read_journal;
@@ -70,7 +71,7 @@ fn whole_runs_are_online(rt: HostRuntime) {
     ];
     for (journal, answer) in online {
         let found = found_of(rt.alloc(), DOOR, journal);
-        assert_eq!(rt; found, Some(Verdict::Online(answer)));
+        same(&rt, journal, found, Some(Verdict::Online(answer)));
     }
 }
 
@@ -129,6 +130,6 @@ fn each_rule_is_told(rt: HostRuntime) {
     ];
     for (journal, place, why) in broken {
         let found = found_of(rt.alloc(), DOOR, journal);
-        assert_eq!(rt; found, Some(Verdict::Not { place, why }));
+        same(&rt, journal, found, Some(Verdict::Not { place, why }));
     }
 }

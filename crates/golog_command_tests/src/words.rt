@@ -1,22 +1,36 @@
-use anyhow::{Result, bail};
+use crate::asserting::same;
+use golog_base::NoMemory;
 use golog_words::{WordsFault, order_of};
 use std::alloc::Global;
 
-// What the words of a line, with a space between each two, are answered.
-fn answer(alloc: Global, line: &str) -> Result<String> {
+/// The words of a line, with a space between each two.
+fn words_of(alloc: Global, line: &str) -> Result<Vec<String>, NoMemory> {
     let mut words = Vec::new(alloc);
     for word in line.split(' ') {
         words.push(String::from_str(alloc, word)?)?;
     }
-    match order_of(alloc, words.as_slice()) {
+    Ok(words)
+}
+
+/// What words are answered.
+fn answer_to(alloc: Global, words: &[String]) -> Result<String, NoMemory> {
+    match order_of(alloc, words) {
         Ok(order) => Ok(format!(in alloc; "{order:?}")?),
         Err(WordsFault::Refused) => Ok(String::from_str(alloc, "refused")?),
-        Err(WordsFault::Memory) => bail!("memory ran out"),
+        Err(WordsFault::Memory) => Err(NoMemory),
     }
 }
 
+/// Whether the words of a line are answered so.
+fn is_answered(alloc: Global, line: &str, wanted: &str) -> Result<bool, NoMemory> {
+    let words = words_of(alloc, line)?;
+    let answer = answer_to(alloc, words.as_slice());
+    drop(words);
+    Ok(answer?.as_str() == wanted)
+}
+
 #[test]
-fn commands_are_read(rt: HostRuntime) -> Result<()> {
+fn commands_are_read(rt: HostRuntime) -> Result<(), NoMemory> {
     let table = [
         (
             "run a",
@@ -48,14 +62,13 @@ fn commands_are_read(rt: HostRuntime) -> Result<()> {
         ("demo 200", "Demo { size: 200 }"),
     ];
     for (line, expected) in table {
-        let given = answer(rt.alloc(), line)?;
-        assert!(rt; given.as_str() == expected, "at {line}");
+        same(&rt, line, is_answered(rt.alloc(), line, expected)?, true);
     }
     Ok(())
 }
 
 #[test]
-fn other_words_are_refused(rt: HostRuntime) -> Result<()> {
+fn other_words_are_refused(rt: HostRuntime) -> Result<(), NoMemory> {
     let table = [
         "",
         "run",
@@ -91,11 +104,9 @@ fn other_words_are_refused(rt: HostRuntime) -> Result<()> {
         "-h",
     ];
     for line in table {
-        let given = answer(rt.alloc(), line)?;
-        assert!(rt; given.as_str() == "refused", "at {line}");
+        same(&rt, line, is_answered(rt.alloc(), line, "refused")?, true);
     }
-    match order_of(rt.alloc(), &[]) {
-        Err(WordsFault::Refused) => Ok(()),
-        _ => bail!("no word is no command"),
-    }
+    let none = matches!(order_of(rt.alloc(), &[]), Err(WordsFault::Refused));
+    same(&rt, "no word", none, true);
+    Ok(())
 }

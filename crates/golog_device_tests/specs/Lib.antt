@@ -1,2 +1,1 @@
-pub mod SmallAgent
 pub mod Counter

@@ -1,9 +1,9 @@
-//! Tests of a journal, of devices and of turns at a lock, over small agents and devices of the tests' own.
+//! Tests of devices and of turns at a lock.
 #![tactic(auto)]
 
 #[cfg(test)]
-mod devices;
+mod asserting;
 #[cfg(test)]
-mod journals;
+mod devices;
 #[cfg(test)]
 mod turns;

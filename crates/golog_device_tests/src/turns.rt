@@ -6,13 +6,13 @@ ghost use Rattle.golog_turn.specs.Seats.{IsSeatOf, HoldsParty, seen, parties_of}
 mod counter;
 mod number_log;
 
+use crate::asserting::same;
 use counter::{Add, Counter};
 use golog_base::NoMemory;
 use golog_turn::{Object, Rest, Seat, TurnLock};
 use number_log::{Item, LogOp, LogReply, NumberLog};
 use std::alloc::Global;
 use std::sync::Wait;
-use std::test::Fail;
 use std::thread;
 use std::thread::Threads;
 
@@ -58,18 +58,32 @@ fn crosses_threads<O: Object + Send>(lock: &TurnLock<O>, seat: &Seat<O>, rest: &
     may_be_shared(rest);
 }
 
-#[test]
-fn counts_on_one_thread(rt: HostRuntime) -> Result<(), Fail> {
-    let (lock, mut first) = TurnLock::new(rt.alloc(), Counter::new(rt.alloc())?, 2)?;
-    assert_eq!(rt; add(&rt, &lock, &mut first, 0), 1);
-    assert_eq!(rt; add(&rt, &lock, &mut first, 0), 2);
-    assert_eq!(rt; add(&rt, &lock, &mut first, 0), 3);
-    has_seen(&first, 3);
+// What is counted by two seats of one thread, one after the other.
+fn count_by_seats<R: Wait>(rt: &R, alloc: Global) -> Result<[u64; 4], NoMemory> {
+    let (lock, mut first) = TurnLock::new(alloc, Counter::new(alloc)?, 2)?;
+    let one = add(rt, &lock, &mut first, 0);
+    let two = add(rt, &lock, &mut first, 0);
+    let three = add(rt, &lock, &mut first, 0);
+    has_seen(&first, three);
     let mut second = lock.split(&mut first, 1);
-    assert_eq!(rt; add(&rt, &lock, &mut second, 1), 4);
-    has_seen(&second, 4);
+    let four = add(rt, &lock, &mut second, 1);
+    has_seen(&second, four);
+    if four <= three {
+        return Ok([0; 4]);
+    }
     lock.join(&mut first, second);
-    has_seen(&first, 4);
+    has_seen(&first, four);
+    Ok([one, two, three, four])
+}
+
+#[test]
+fn counts_on_one_thread(rt: HostRuntime) -> Result<(), NoMemory> {
+    same(
+        &rt,
+        "counts",
+        count_by_seats(&rt, rt.alloc())?,
+        [1, 2, 3, 4],
+    );
     Ok(())
 }
 
@@ -179,33 +193,41 @@ fn count_together<R: Threads + Wait + Sync>(
     Ok((seen, lock.act(rt, &mut all.seat, Add(party))))
 }
 
+// So many threads add so many entries each. Where the room is full no more are counted.
 #[test]
-fn two_threads_count_on(rt: HostRuntime) -> Result<(), Fail> {
-    assert_eq!(rt; count_together(&rt, rt.alloc(), 2, 1000)?, (2000, 2001));
+fn threads_count_on(rt: HostRuntime) -> Result<(), NoMemory> {
+    let two = count_together(&rt, rt.alloc(), 2, 1000)?;
+    same(&rt, "two threads", two, (2000, 2001));
+    let eight = count_together(&rt, rt.alloc(), 8, 250)?;
+    same(&rt, "eight threads", eight, (2000, 2001));
+    let full = count_together(&rt, rt.alloc(), 8, 1000)?;
+    same(&rt, "the room is full", full, (4096, 0));
     Ok(())
 }
 
-#[test]
-fn eight_threads_count_on(rt: HostRuntime) -> Result<(), Fail> {
-    assert_eq!(rt; count_together(&rt, rt.alloc(), 8, 250)?, (2000, 2001));
-    assert_eq!(rt;
-        count_together(&rt, rt.alloc(), 8, 1000)?,
-        (4096, 0),
-        "the room is full"
-    );
-    Ok(())
-}
-
-#[test]
-fn logs_what_each_party_puts(rt: HostRuntime) -> Result<(), Fail> {
-    let (lock, mut first) = TurnLock::new(rt.alloc(), NumberLog::new(rt.alloc())?, 2)?;
+// What a log replies to what two parties put, and to reading it.
+fn log_by_seats<R: Wait>(rt: &R, alloc: Global) -> Result<[LogReply; 5], NoMemory> {
+    let (lock, mut first) = TurnLock::new(alloc, NumberLog::new(alloc)?, 2)?;
     let rest = Rest::of(lock.split(&mut first, 1));
-    assert_eq!(rt; put(&rt, &lock, &mut first, 0, 7), LogReply::Added);
-    let mut second = rest.take(&rt);
-    assert_eq!(rt; put(&rt, &lock, &mut second, 1, 9), LogReply::Added);
-    assert_eq!(rt; read(&rt, &lock, &mut first, 0), LogReply::Number(7));
-    assert_eq!(rt; read(&rt, &lock, &mut first, 1), LogReply::Number(9));
-    assert_eq!(rt; read(&rt, &lock, &mut second, 2), LogReply::Nothing);
+    let seven = put(rt, &lock, &mut first, 0, 7);
+    let mut second = rest.take(rt);
+    let nine = put(rt, &lock, &mut second, 1, 9);
+    let one = read(rt, &lock, &mut first, 0);
+    let two = read(rt, &lock, &mut first, 1);
+    let none = read(rt, &lock, &mut second, 2);
+    Ok([seven, nine, one, two, none])
+}
+
+#[test]
+fn logs_what_each_party_puts(rt: HostRuntime) -> Result<(), NoMemory> {
+    let wanted = [
+        LogReply::Added,
+        LogReply::Added,
+        LogReply::Number(7),
+        LogReply::Number(9),
+        LogReply::Nothing,
+    ];
+    same(&rt, "log", log_by_seats(&rt, rt.alloc())?, wanted);
     Ok(())
 }
 

@@ -51,7 +51,7 @@ fn place_of_name(names: &[Word], bytes: &[u8]) -> Option<usize>
 }
 
 // The position of the number that the bytes write, in the sort of those from `low` to `high`.
-pub(crate) fn read_in_range(low: i32, high: i32, bytes: &[u8]) -> Option<u8>
+fn read_in_range(low: i32, high: i32, bytes: &[u8]) -> Option<u8>
     requires few { size_of_range low high ≤ 255 }
     ensures the_one { IsTheOne result (WritesInRange low high bytes.now) }
     ensures unmarked { (v : ℕ) → v < size_of_range low high → IsUnmarked (signed_decimal (low +ℤ pos v)) }

@@ -10,6 +10,3 @@ mod text;
 pub use action::{action_text, read_action};
 pub use constant::{constant_text, read_constant};
 pub use text::ActionText;
-
-#[cfg(test)]
-mod tests;

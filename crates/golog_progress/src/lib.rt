@@ -9,6 +9,3 @@ mod state;
 pub use golog_semantics::{Answer, Entry, Reason};
 pub use laws::{happening_is_doing, values_go_on};
 pub use state::{State, start};
-
-#[cfg(test)]
-mod tests;

@@ -1,34 +1,40 @@
-use anyhow::{Result, bail};
+ghost use Rattle.std.specs.Prelude.{IsTrue};
+ghost use Rattle.golog_form.specs.Printing.{atoms_fit};
+
+use crate::asserting::same;
+use crate::limits::text_of;
+use golog_base::NoMemory;
 use golog_form::{Form, FormFault, print_form, read_form};
 use std::alloc::Global;
 
 /// The most bytes of a text.
-const LIMIT: usize = 1_048_576;
+const LIMIT: u32 = 1_048_576;
 
 const ONE: &[u8] = b"(agent (fluent p () bool false) (action a ()) (causes (a) (p) true) \
 (main (seq (act a) (test (p)))))";
 
 /// A refusal's code and place, and zeros for a form.
-fn refusal(alloc: Global, bytes: &[u8]) -> Result<(u8, u32)> {
-    match read_form(alloc, bytes) {
-        Err(FormFault::Refused { why, at }) => Ok((why, at)),
-        Err(FormFault::Memory) => bail!("memory ran out"),
-        Ok(_form) => Ok((0, 0)),
-    }
+fn refusal(alloc: Global, bytes: &[u8]) -> (u8, u32) {
+    let read = read_form(alloc, bytes);
+    let answer = match &read {
+        Ok(_form) => (0, 0),
+        Err(FormFault::Refused { why, at }) => (*why, *at),
+        Err(FormFault::Memory) => (255, 0),
+    };
+    drop(read);
+    answer
 }
 
-/// So many copies of a piece.
-fn repeated(alloc: Global, piece: &[u8], count: usize) -> Result<Vec<u8>> {
-    let mut bytes = Vec::new(alloc);
-    for _ in 0..count {
-        bytes.extend_from_slice(piece)?;
+/// The refusal of these parts one after another, each so many times.
+fn refusal_of(alloc: Global, parts: &[(&str, u32)]) -> (u8, u32) {
+    match text_of(alloc, parts) {
+        Ok(text) => refusal(alloc, text.as_slice()),
+        Err(NoMemory) => (255, 0),
     }
-    Ok(bytes)
 }
 
 #[test]
-fn codes_and_places(rt: HostRuntime) -> Result<()> {
-    let alloc = rt.alloc();
+fn codes_and_places(rt: HostRuntime) {
     let table: [(&[u8], (u8, u32)); 22] = [
         // The smallest text of each code.
         (b"(", (1, 1)),
@@ -60,84 +66,103 @@ fn codes_and_places(rt: HostRuntime) -> Result<()> {
         (b"() . )", (3, 3)),
     ];
     for (bytes, expected) in table {
-        assert!(rt; refusal(alloc, bytes)? == expected, "at {bytes:?}");
+        same(&rt, bytes, refusal(rt.alloc(), bytes), expected);
     }
-    Ok(())
 }
 
+// The most levels and bytes, and above. Levels that are closed again count no more.
 #[test]
-fn nests_up_to_the_limit(rt: HostRuntime) -> Result<()> {
-    let alloc = rt.alloc();
-    let mut deepest = repeated(alloc, b"(", 128)?;
-    deepest.extend_from_slice(&repeated(alloc, b")", 128)?)?;
-    assert!(rt; refusal(alloc, &deepest)? == (0, 0));
-    let too_deep = repeated(alloc, b"(", 129)?;
-    assert!(rt; refusal(alloc, &too_deep)? == (4, 128));
-    // Levels that are closed again count no more.
-    let mut level_again = repeated(alloc, b"(", 127)?;
-    level_again.extend_from_slice(b"()((")?;
-    assert!(rt; refusal(alloc, &level_again)? == (4, 130));
-    Ok(())
+fn what_is_above_its_limit_is_refused(rt: HostRuntime) {
+    let texts: [(&[(&str, u32)], (u8, u32)); 7] = [
+        (&[("(", 128), (")", 128)], (0, 0)),
+        (&[("(", 129)], (4, 128)),
+        (&[("(", 127), ("()((", 1)], (4, 130)),
+        (&[(" ", LIMIT + 1)], (5, LIMIT)),
+        (&[(" ", LIMIT)], (6, LIMIT)),
+        // Texts of as many bytes as may be.
+        (&[("(  ", 1), ("a ()", (LIMIT - 4) / 4), (")", 1)], (0, 0)),
+        (&[("(", 1), ("ab (", LIMIT / 4 - 1), ("ab ", 1)], (4, 512)),
+    ];
+    for (parts, expected) in texts {
+        same(&rt, parts, refusal_of(rt.alloc(), parts), expected);
+    }
 }
 
-#[test]
-fn is_refused_above_the_limit(rt: HostRuntime) -> Result<()> {
-    let alloc = rt.alloc();
-    let mut spaces = repeated(alloc, b" ", LIMIT + 1)?;
-    assert!(rt; refusal(alloc, &spaces)? == (5, 1_048_576));
-    let _last = spaces.pop();
-    assert!(rt; refusal(alloc, &spaces)? == (6, 1_048_576));
-    Ok(())
-}
-
-#[test]
-fn tells_parts_and_places(rt: HostRuntime) -> Result<()> {
-    let form = read_form(rt.alloc(), b" (ab ()) ")?;
+/// Whether a form is the list of an atom `ab` and an empty list, at their places.
+fn has_parts(form: &Form) -> bool {
     let Some([name, empty]) = form.items() else {
-        bail!("no two items");
+        return false;
     };
-    assert!(rt; form.at() == 1 && form.atom().is_none());
-    assert!(rt; matches!(&form, Form::Group { end: 8, .. }));
-    assert!(rt; name.at() == 2 && name.items().is_none());
-    assert!(rt; matches!(name, Form::Atom { end: 4, .. }));
-    let Some(text) = name.atom() else {
-        bail!("no atom");
+    form.at() == 1
+        && form.atom().is_none()
+        && matches!(form, Form::Group { end: 8, .. })
+        && is_name(name)
+        && empty.at() == 5
+        && matches!(empty, Form::Group { end: 7, .. })
+}
+
+/// Whether a form is the atom `ab`, at its place.
+fn is_name(form: &Form) -> bool {
+    let Some(text) = form.atom() else {
+        return false;
     };
-    assert!(rt; text == b"ab".as_slice());
-    assert!(rt; empty.at() == 5 && matches!(empty, Form::Group { end: 7, .. }));
-    Ok(())
+    form.at() == 2
+        && form.items().is_none()
+        && matches!(form, Form::Atom { end: 4, .. })
+        && text == b"ab".as_slice()
+}
+
+/// Whether a text spells such a list.
+fn spells_parts(alloc: Global, text: &[u8]) -> bool {
+    let read = read_form(alloc, text);
+    let answer = match &read {
+        Ok(form) => has_parts(form),
+        Err(_fault) => false,
+    };
+    drop(read);
+    answer
 }
 
 #[test]
-fn prints_what_reads_back(rt: HostRuntime) -> Result<()> {
-    let alloc = rt.alloc();
+fn tells_parts_and_places(rt: HostRuntime) {
+    same(&rt, "parts", spells_parts(rt.alloc(), b" (ab ()) "), true);
+}
+
+/// Whether the form that a text spells is printed so.
+fn is_printed(alloc: Global, text: &[u8], expected: &[u8]) -> bool {
+    let read = read_form(alloc, text);
+    let answer = match &read {
+        Ok(form) => has_text(alloc, form, expected),
+        Err(_fault) => false,
+    };
+    drop(read);
+    answer
+}
+
+fn has_text(alloc: Global, form: &Form, expected: &[u8]) -> bool
+    requires { IsTrue (atoms_fit form.now) }
+{
+    match print_form(alloc, form) {
+        Ok(printed) => printed.as_slice() == expected,
+        Err(_fault) => false,
+    }
+}
+
+#[test]
+fn prints_what_reads_back(rt: HostRuntime) {
     let table: [(&[u8], &[u8]); 4] = [
         (ONE, ONE),
         (b" ; c\n a-1 ", b"a-1"),
         (b"( )", b"()"),
         (b"(a(b\t())\n(c)d )", b"(a (b ()) (c) d)"),
     ];
-    for (bytes, expected) in table {
-        let form = read_form(alloc, bytes)?;
-        let printed = print_form(alloc, &form)?;
-        assert!(rt; printed.as_slice() == expected, "at {bytes:?}");
-        let again = print_form(alloc, &read_form(alloc, printed.as_slice())?)?;
-        assert!(rt; again.as_slice() == expected, "again at {bytes:?}");
+    for (text, expected) in table {
+        same(&rt, text, is_printed(rt.alloc(), text, expected), true);
+        same(
+            &rt,
+            expected,
+            is_printed(rt.alloc(), expected, expected),
+            true,
+        );
     }
-    Ok(())
-}
-
-#[test]
-fn reads_the_largest_text(rt: HostRuntime) -> Result<()> {
-    let alloc = rt.alloc();
-    let mut items = repeated(alloc, b"(  ", 1)?;
-    items.extend_from_slice(&repeated(alloc, b"a ()", (LIMIT - 4) / 4)?)?;
-    items.push(b')')?;
-    assert!(rt; items.len() == LIMIT);
-    assert!(rt; refusal(alloc, &items)? == (0, 0));
-    let mut deep = repeated(alloc, b"ab (", LIMIT / 4)?;
-    deep.insert(0, b'(')?;
-    deep.pop();
-    assert!(rt; refusal(alloc, &deep)? == (4, 512));
-    Ok(())
 }

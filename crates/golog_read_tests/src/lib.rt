@@ -1,6 +1,11 @@
-//! Tests of the readers: theories, conditions and programs, and what they refuse.
+//! Tests of the readers: theories, conditions and programs, and what they refuse; and of the files, the sinks and the
+//! names below them.
 #![tactic(auto)]
 
+#[cfg(test)]
+mod asserting;
+#[cfg(test)]
+mod files;
 #[cfg(test)]
 mod forms;
 #[cfg(test)]
@@ -12,4 +17,10 @@ mod programs;
 #[cfg(test)]
 mod reading;
 #[cfg(test)]
+mod refusals;
+#[cfg(test)]
+mod sinks;
+#[cfg(test)]
 mod theories;
+#[cfg(test)]
+mod words;

@@ -1,3 +1,4 @@
+use crate::asserting::same;
 use crate::reading::theory_refusal;
 use golog_base::{Bytes, NoMemory};
 use std::alloc::Global;
@@ -87,6 +88,6 @@ fn what_is_too_much_is_refused(rt: HostRuntime) {
         ),
     ];
     for (parts, code, at) in files {
-        assert_eq!(rt; refusal(rt.alloc(), parts), (code, at), "{parts:?}");
+        same(&rt, parts, refusal(rt.alloc(), parts), (code, at));
     }
 }

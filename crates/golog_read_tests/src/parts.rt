@@ -1,3 +1,4 @@
+use crate::asserting::same;
 use crate::limits::text_of;
 use crate::reading::{code_and_place, condition_in, theory_in};
 use golog_base::Word;
@@ -134,8 +135,8 @@ fn world(alloc: Global, file: &[u8]) -> ([usize; 8], [bool; 5]) {
 #[test]
 fn a_theory_is_read_whole(rt: HostRuntime) {
     let (sizes, parts) = world(rt.alloc(), WORLD);
-    assert_eq!(rt; sizes, [3, 1, 3, 4, 1, 4, 1, 4]);
-    assert_eq!(rt; parts, [true; 5]);
+    same(&rt, "sizes", sizes, [3, 1, 3, 4, 1, 4, 1, 4]);
+    same(&rt, "parts", parts, [true; 5]);
 }
 
 /// The code and the place of the refusal of a condition over a theory, zeros where it is read.
@@ -170,7 +171,7 @@ fn what_is_no_condition_is_refused(rt: HostRuntime) {
         (&[(BOUND, 33), ("true", 1), (")", 33)], 25, 32 * 14),
     ];
     for (parts, code, at) in texts {
-        assert_eq!(rt; refusal(rt.alloc(), parts), (code, at), "{parts:?}");
+        same(&rt, parts, refusal(rt.alloc(), parts), (code, at));
     }
 }
 
@@ -196,5 +197,5 @@ fn spells_some(alloc: Global, file: &[u8]) -> bool {
 
 #[test]
 fn a_condition_has_its_sort_and_place(rt: HostRuntime) {
-    assert!(rt; spells_some(rt.alloc(), WORLD));
+    same(&rt, "some", spells_some(rt.alloc(), WORLD), true);
 }

@@ -1,3 +1,4 @@
+use crate::asserting::same;
 use crate::reading::{program_in, program_refusal};
 use golog_tree::{DraftCond, DraftProg};
 use std::alloc::Global;
@@ -100,10 +101,11 @@ fn what_is_no_program_is_refused(rt: HostRuntime) {
         ("(agent (main (pick (1 t) (x))))", 20, 20),
     ];
     for (file, code, at) in files {
-        assert_eq!(rt;
+        same(
+            &rt,
+            file,
             program_refusal(rt.alloc(), file.as_bytes()),
             (code, at),
-            "{file}"
         );
     }
 }
@@ -143,5 +145,11 @@ fn spells_interrupt(alloc: Global, file: &[u8], place: u32) -> bool {
 
 #[test]
 fn interrupts_are_written_out(rt: HostRuntime) {
-    assert!(rt; spells_interrupt(rt.alloc(), b"(agent (main (interrupt true nil)))", 13));
+    let file = b"(agent (main (interrupt true nil)))";
+    same(
+        &rt,
+        "interrupt",
+        spells_interrupt(rt.alloc(), file, 13),
+        true,
+    );
 }

@@ -1,3 +1,4 @@
+use crate::asserting::same;
 use crate::reading::theory_refusal;
 
 // Each file with the code and the place of its first refusal, zeros where it has none.
@@ -188,10 +189,11 @@ fn what_is_no_theory_is_refused(rt: HostRuntime) {
         ),
     ];
     for (file, code, at) in files {
-        assert_eq!(rt;
+        same(
+            &rt,
+            file,
             theory_refusal(rt.alloc(), file.as_bytes()),
             (code, at),
-            "{file}"
         );
     }
 }

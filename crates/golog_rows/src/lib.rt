@@ -4,6 +4,3 @@
 mod least;
 
 pub use least::{Refusal, least_of, lesser};
-
-#[cfg(test)]
-mod tests;

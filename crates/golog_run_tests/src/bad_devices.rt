@@ -1,203 +1,14 @@
-ghost use Rattle.std.specs.Prelude.{◌≡◌, ◌≤◌, true, IfOk, length};
-ghost use Rattle.golog_device.specs.Slots.{standings, FreshBelow};
-
-use crate::calls::{Call, file_of};
-use crate::replays::{posts_in, ran_on_threads, replayed, said_behind};
-use golog_base::{Bytes, NoMemory};
-use golog_device::{Begun, Device, Idle, Served};
+use crate::actors::{Actors, Part};
+use crate::asserting::same;
+use crate::calls::{Call, RUN_ON_THREADS, Setting, file_of};
+use crate::replays::{found_of, posts_in, said_behind, ticks_of};
+use crate::slots::threaded_with;
+use golog_base::{NoMemory, both};
 use std::alloc::Global;
-use std::sync::atomic::{AtomicU64, Ordering};
-use std::sync::{Arc, Wait};
-use std::test::Fail;
-use std::thread;
+use std::process::Abort;
+use std::sync::Wait;
+use std::sync::atomic::AtomicU64;
 use std::thread::Threads;
-use std::time::{Clock, Duration};
-
-/// How many milliseconds a device waits for the other one at most.
-const LONGEST: u32 = 20_000;
-
-/// What a device does.
-#[derive(Clone, Copy)]
-struct Part<'a> {
-    /// What it answers its commands, one a line, whether it is asked or not; nothing where the line is `silent`. It
-    /// rests until it has given them all.
-    answers: &'a str,
-    /// What it does then without a command, one a line: `rest`, `close`, or the text that it posts. With none left it
-    /// closes.
-    words: &'a str,
-    /// How many of its words the other device must have come to before this one goes on to its next.
-    awaited: u64,
-    /// How many milliseconds it sleeps in each call.
-    pause: u64,
-}
-
-impl<'a> Part<'a> {
-    /// The part of a device that awaits nothing and doesn't sleep.
-    fn of(answers: &'a str, words: &'a str) -> Part<'a> {
-        Part {
-            answers,
-            words,
-            awaited: 0,
-            pause: 0,
-        }
-    }
-}
-
-/// A device that has such a part.
-#[derive(Drop)]
-struct Actor<C: Clock + Drop> {
-    fresh: bool,
-    // The next ones are last.
-    answers: Vec<Served>,
-    words: Vec<Idle>,
-    come: Arc<AtomicU64, Global>,
-    other: Arc<AtomicU64, Global>,
-    awaited: u64,
-    pause: u64,
-    clock: C,
-}
-
-impl<C: Clock + Drop> Actor<C> {
-    fn sleep(&self) {
-        if self.pause > 0 {
-            thread::sleep(&self.clock, Duration::from_millis(self.pause));
-        }
-    }
-
-    // Waits for some time until the other device has come as far as this one awaits.
-    fn await_other(&self) {
-        for _ in 0..LONGEST {
-            if self.other.load(Ordering::SeqCst) >= self.awaited {
-                return;
-            }
-            thread::sleep(&self.clock, Duration::from_millis(1));
-        }
-    }
-
-    // What it does next, once the other device has come as far as this one awaits.
-    fn next_word(&mut self) -> Idle
-        ensures { self.new.fresh ≡ self.old.fresh }
-    {
-        self.come.fetch_add(1, Ordering::SeqCst);
-        self.await_other();
-        self.words.pop().unwrap_or(Idle::Close)
-    }
-}
-
-impl<C: Clock + Drop> Device for Actor<C> {
-    ghost use Rattle.std.specs.Prelude.{false, None};
-
-    ghost fresh = { λ actor. actor.fresh };
-
-    ghost meaning = { λ actor. record { cut = false; given = None; told = None; left = None } };
-
-    fn begin(&mut self, _alloc: Global, _name: &[u8], _script: &[u8]) -> Begun {
-        self.fresh = false;
-        Begun::Ready
-    }
-
-    fn serve(&mut self, _action: &[u8], _asked: bool) -> Served {
-        self.sleep();
-        self.answers.pop().unwrap_or(Served::Nothing)
-    }
-
-    fn idle(&mut self) -> Idle {
-        let word = if self.answers.is_empty() {
-            self.next_word()
-        } else {
-            Idle::Rest
-        };
-        self.sleep();
-        word
-    }
-}
-
-fn answer_of(alloc: Global, line: &str) -> Result<Served, NoMemory> {
-    Ok(match line {
-        "silent" => Served::Nothing,
-        _ => Served::Value(Bytes::copy_of(alloc, line.as_bytes())?),
-    })
-}
-
-fn word_of(alloc: Global, line: &str) -> Result<Idle, NoMemory> {
-    Ok(match line {
-        "rest" => Idle::Rest,
-        "close" => Idle::Close,
-        _ => Idle::Post(Bytes::copy_of(alloc, line.as_bytes())?),
-    })
-}
-
-/// What the lines say, the last one first.
-fn answers_of(alloc: Global, lines: &str) -> Result<Vec<Served>, NoMemory> {
-    let mut answers = Vec::new(alloc);
-    for line in lines.lines() {
-        let answer = answer_of(alloc, line)?;
-        answers.push(answer)?;
-    }
-    answers.reverse();
-    Ok(answers)
-}
-
-/// What the lines say, the last one first.
-fn idles_of(alloc: Global, lines: &str) -> Result<Vec<Idle>, NoMemory> {
-    let mut words = Vec::new(alloc);
-    for line in lines.lines() {
-        let word = word_of(alloc, line)?;
-        words.push(word)?;
-    }
-    words.reverse();
-    Ok(words)
-}
-
-/// A device with this part, which tells by the one count how far it has come, and by the other hears of the other one.
-fn actor_of(
-    rt: &HostRuntime,
-    part: &Part<'_>,
-    come: &Arc<AtomicU64, Global>,
-    other: &Arc<AtomicU64, Global>,
-) -> Result<Actor<HostRuntime>, NoMemory>
-    ensures { IfOk result (λ actor. actor.fresh ≡ true) }
-{
-    let come = Arc::try_clone(come)?;
-    let other = Arc::try_clone(other)?;
-    let answers = answers_of(rt.alloc(), part.answers)?;
-    let words = idles_of(rt.alloc(), part.words)?;
-    let clock = rt.clone()?;
-    Ok(Actor {
-        fresh: true,
-        answers,
-        words,
-        come,
-        other,
-        awaited: part.awaited,
-        pause: part.pause,
-        clock,
-    })
-}
-
-/// Sixteen devices, of which the first has the one part and the second the other.
-fn actors(
-    rt: &HostRuntime,
-    bad: &Part<'_>,
-    good: &Part<'_>,
-) -> Result<Vec<Actor<HostRuntime>>, NoMemory>
-    ensures as_many { IfOk result (λ devices. length devices.items ≡ 16) }
-    ensures fresh { IfOk result (λ devices. FreshBelow 16
-        (standings ⟦<Actor<HostRuntime> as Device>⟧.fresh ⟦<Actor<HostRuntime> as Device>⟧.meaning devices.items)) }
-{
-    let one = Arc::new(rt.alloc(), AtomicU64::new(0))?;
-    let two = Arc::new(rt.alloc(), AtomicU64::new(0))?;
-    let mut devices = Vec::new(rt.alloc());
-    for slot in 0..16usize {
-        let device = if slot == 0 {
-            actor_of(rt, bad, &one, &two)?
-        } else {
-            actor_of(rt, good, &two, &one)?
-        };
-        devices.push(device)?;
-    }
-    Ok(devices)
-}
 
 /// A bad device and a good one. Each can post, and is asked for what a command senses; the bad one has a command that
 /// senses nothing too.
@@ -227,42 +38,55 @@ const PEEK: &str =
     "(seq (act look) (test (lit)) (test (over)) (act peek) (test (seen)) (test (not (over))))";
 
 /// Runs this program over these devices.
-fn played_over<R: Threads + Wait + Sync>(
+fn played_by<R: Threads + Wait + Sync>(
     threads: &R,
     alloc: Global,
     program: &str,
-    devices: &mut [Actor<HostRuntime>],
-) -> Result<Call, NoMemory>
-    requires boxes { 16 ≤ length devices.old }
-    requires fresh { FreshBelow 16
-        (standings ⟦<Actor<HostRuntime> as Device>⟧.fresh ⟦<Actor<HostRuntime> as Device>⟧.meaning devices.old) }
-{
+    actors: &Actors<'_, '_, HostRuntime>,
+) -> Result<Call, NoMemory> {
     let agent = file_of(alloc, ITEMS, program)?;
-    let ran = ran_on_threads(threads, alloc, agent.as_slice(), b"[]", devices);
+    let file = ("x.agent", agent.as_slice());
+    let setting = Setting::roomy(RUN_ON_THREADS, file, ("x.devices", b"[]"));
+    let ran = threaded_with(threads, alloc, &setting, actors);
     drop(agent);
     ran
 }
 
-/// Runs this program over a device with this part, beside a good one that awaits so many of its words.
-fn played<R: Threads + Wait + Sync>(
+/// Runs this program over a device with this part, beside a good one that awaits so many of its words. They tell by
+/// these counts how far they have come.
+fn played_beside<'a, R: Threads + Wait + Sync>(
     threads: &R,
     rt: &HostRuntime,
     program: &str,
-    bad: &Part<'_>,
+    bad: Part<'a>,
     awaited: u64,
+    counts: (&'a AtomicU64, &'a AtomicU64),
 ) -> Result<Call, NoMemory> {
     let good = Part {
         awaited,
         ..Part::of("true", GREETINGS)
     };
-    match actors(rt, bad, &good) {
-        Ok(mut devices) => {
-            let ran = played_over(threads, rt.alloc(), program, devices.as_mut_slice());
-            drop(devices);
-            ran
-        }
-        Err(NoMemory) => Err(NoMemory),
-    }
+    let (one, two) = counts;
+    let actors = Actors {
+        clock: rt,
+        first: bad,
+        others: good,
+        one,
+        two,
+    };
+    played_by(threads, rt.alloc(), program, &actors)
+}
+
+/// The same from the first words on.
+fn played<R: Threads + Wait + Sync>(
+    threads: &R,
+    rt: &HostRuntime,
+    program: &str,
+    bad: Part<'_>,
+    awaited: u64,
+) -> Result<Call, NoMemory> {
+    let (one, two) = (AtomicU64::new(0), AtomicU64::new(0));
+    played_beside(threads, rt, program, bad, awaited, (&one, &two))
 }
 
 /// Whether nothing of the good device is lost.
@@ -272,15 +96,9 @@ fn has_all_of_good(alloc: Global, journal: &str) -> Result<bool, NoMemory> {
     Ok(posts.as_str() == GREETINGS && matches!(closing, "ended 1" | "stopped 1"))
 }
 
-/// What a replay of a journal of this program says.
-fn found_of(alloc: Global, program: &str, journal: &str) -> Result<Call, NoMemory> {
-    let agent = file_of(alloc, ITEMS, program)?;
-    replayed(alloc, agent.as_slice(), journal.as_bytes())
-}
-
 /// Whether a replay of a journal of this program says this.
 fn is_found(alloc: Global, program: &str, journal: &str, text: &str) -> Result<bool, NoMemory> {
-    let found = found_of(alloc, program, journal)?;
+    let found = found_of(alloc, ITEMS, program, journal)?;
     Ok(found.said() == (0, text))
 }
 
@@ -293,21 +111,52 @@ fn has_first_posts(alloc: Global, journal: &str, wanted: &str) -> Result<bool, N
 /// The posts of the bad device that stand, how it was closed, whether something of the good one is lost, and what a
 /// replay says, a line for each.
 fn account_of(alloc: Global, program: &str, journal: &str) -> Result<String, NoMemory> {
-    let mut account = posts_in(alloc, journal, "exo bad ")?;
-    account.push_str(said_behind(journal, "close bad "))?;
-    if !has_all_of_good(alloc, journal)? {
-        account.push_str("\nlost")?;
-    }
-    let found = found_of(alloc, program, journal)?;
+    let lost = if has_all_of_good(alloc, journal)? {
+        ""
+    } else {
+        "lost\n"
+    };
+    let posts = posts_in(alloc, journal, "exo bad ");
+    let (posts, found) = both(posts, found_of(alloc, ITEMS, program, journal))?;
     let (_status, text) = found.said();
-    account.push_str("\n")?;
-    account.push_str(text)?;
-    Ok(account)
+    let closing = said_behind(journal, "close bad ");
+    let account = format!(in alloc; "{}{closing}\n{lost}{text}", posts.as_str());
+    drop(posts);
+    drop(found);
+    Ok(account?)
+}
+
+/// The status of such a run, and the account of its journal.
+fn told_of<R: Threads + Wait + Sync>(
+    threads: &R,
+    rt: &HostRuntime,
+    program: &str,
+    bad: Part<'_>,
+) -> Result<(u8, String), NoMemory> {
+    let call = played(threads, rt, program, bad, 0)?;
+    let (status, journal) = call.said();
+    let account = account_of(rt.alloc(), program, journal);
+    drop(call);
+    Ok((status, account?))
+}
+
+/// Asserts of such a run its status and the account.
+fn tells<R: Threads + Wait + Sync + Abort>(
+    threads: &R,
+    rt: &HostRuntime,
+    program: &str,
+    bad: Part<'_>,
+    told: (u8, &str),
+) -> Result<(), NoMemory> {
+    let (status, account) = told_of(threads, rt, program, bad)?;
+    same(threads, bad.words, (status, account.as_str()), told);
+    drop(account);
+    Ok(())
 }
 
 // It posts what is no action, none of its own, or one of a constant that there isn't; it is silent; it closes.
 #[test]
-fn a_device_posts_nonsense_or_closes(rt: HostRuntime) -> Result<(), Fail> {
+fn a_device_posts_nonsense_or_closes(rt: HostRuntime) -> Result<(), NoMemory> {
     let runs = [
         (
             "tick(1)\ntick(2)\ntock(\ntick(3)",
@@ -323,38 +172,34 @@ fn a_device_posts_nonsense_or_closes(rt: HostRuntime) -> Result<(), Fail> {
         ),
     ];
     for (words, wanted) in runs {
-        let call = played(&rt, &rt, STAY, &Part::of("", words), 0)?;
-        let (status, journal) = call.said();
-        let account = account_of(rt.alloc(), STAY, journal)?;
-        assert_eq!(rt; (status, account.as_str()), (10, wanted), "{words}");
+        tells(&rt, &rt, STAY, Part::of("", words), (10, wanted))?;
     }
     Ok(())
 }
 
 // It answers what it wasn't asked; no truth where it was asked for one; or nothing.
 #[test]
-fn a_device_answers_nonsense(rt: HostRuntime) -> Result<(), Fail> {
+fn a_device_answers_nonsense(rt: HostRuntime) -> Result<(), NoMemory> {
     let runs = [
         (POKE, "true", 10, "bad 1\nonline stuck\n"),
         (PEEK, "maybe", 14, "bad 1\nonline unanswered\n"),
         (PEEK, "7", 14, "bad 1\nonline unanswered\n"),
         (PEEK, "silent", 14, "bad 1\nonline unanswered\n"),
     ];
-    for (program, answers, wanted_status, wanted) in runs {
-        let call = played(&rt, &rt, program, &Part::of(answers, "tick(1)"), 0)?;
-        let (status, journal) = call.said();
-        let account = account_of(rt.alloc(), program, journal)?;
-        assert_eq!(rt;
-            (status, account.as_str()),
-            (wanted_status, wanted),
-            "{answers}"
-        );
+    for (program, answers, status, wanted) in runs {
+        tells(
+            &rt,
+            &rt,
+            program,
+            Part::of(answers, "tick(1)"),
+            (status, wanted),
+        )?;
     }
     Ok(())
 }
 
 #[test]
-fn a_device_sleeps_in_each_call(rt: HostRuntime) -> Result<(), Fail> {
+fn a_device_sleeps_in_each_call(rt: HostRuntime) -> Result<(), NoMemory> {
     let runs = [
         (STAY, "", "tick(1)\ntick(2)\nended 0\nonline stuck\n"),
         (PEEK, "true", "tick(1)\ntick(2)\nended 1\nonline stuck\n"),
@@ -364,62 +209,72 @@ fn a_device_sleeps_in_each_call(rt: HostRuntime) -> Result<(), Fail> {
             pause: 100,
             ..Part::of(answers, "tick(1)\ntick(2)")
         };
-        let call = played(&rt, &rt, program, &bad, 0)?;
-        let (status, journal) = call.said();
-        let account = account_of(rt.alloc(), program, journal)?;
-        assert_eq!(rt; (status, account.as_str()), (10, wanted));
+        tells(&rt, &rt, program, bad, (10, wanted))?;
     }
     Ok(())
 }
 
-/// So many ticks, one a line.
-fn ticks_of(alloc: Global, count: u32) -> Result<String, NoMemory> {
-    let mut ticks = String::new(alloc);
-    for tick in 0..count {
-        ticks.push_str(format!(in alloc; "tick({})\n", tick % 100)?.as_str())?;
-    }
-    Ok(ticks)
+/// Whether these words of the bad device stand from the first on, nothing of the good one is lost, and a replay says
+/// this.
+fn is_whole(
+    alloc: Global,
+    program: &str,
+    journal: &str,
+    words: &str,
+    said: &str,
+) -> Result<[bool; 3], NoMemory> {
+    Ok([
+        has_first_posts(alloc, journal, words)?,
+        has_all_of_good(alloc, journal)?,
+        is_found(alloc, program, journal, said)?,
+    ])
+}
+
+/// The status of a run in which the good device awaits so many words of the bad one, and whether that is closed in
+/// one of these ways and its journal is whole, where a replay says this.
+fn ended_of<R: Threads + Wait + Sync>(
+    threads: &R,
+    rt: &HostRuntime,
+    program: &str,
+    bad: Part<'_>,
+    awaited: u64,
+    closings: &[&str],
+    said: &str,
+) -> Result<(u8, bool, [bool; 3]), NoMemory> {
+    let call = played(threads, rt, program, bad, awaited)?;
+    let (status, journal) = call.said();
+    let closing = said_behind(journal, "close bad ");
+    let is_closed = closings.iter().any(|one| *one == closing);
+    let whole = is_whole(rt.alloc(), program, journal, bad.words, said);
+    drop(call);
+    Ok((status, is_closed, whole?))
 }
 
 // A device posts more than a journal takes, once the good one has posted all that it has. Its posts stand until the
 // journal is full. It is closed in place of the next one, unless the program has ended before that.
 #[test]
-fn a_device_posts_without_end(rt: HostRuntime) -> Result<(), Fail> {
-    let alloc = rt.alloc();
-    let ticks = ticks_of(alloc, 65_540)?;
+fn a_device_posts_without_end(rt: HostRuntime) -> Result<(), NoMemory> {
+    let ticks = ticks_of(rt.alloc(), 65_540)?;
     let bad = Part {
         awaited: 5,
         ..Part::of("", ticks.as_str())
     };
-    let call = played(&rt, &rt, STAY, &bad, 0)?;
-    let (status, journal) = call.said();
-    assert_eq!(rt; status, 15);
-    let closing = said_behind(journal, "close bad ");
-    assert!(rt;
-        matches!(closing, "full 0" | "late 0" | "stopped 0"),
-        "{closing}"
-    );
-    assert!(rt; has_first_posts(alloc, journal, ticks.as_str())?);
-    assert!(rt; has_all_of_good(alloc, journal)?);
-    assert!(rt; is_found(alloc, STAY, journal, "online full\n")?);
+    let closings = ["full 0", "late 0", "stopped 0"];
+    let ended = ended_of(&rt, &rt, STAY, bad, 0, &closings, "online full\n")?;
+    same(&rt, "endless", ended, (15, true, [true; 3]));
     Ok(())
 }
 
 // A device posts whenever it is called, each time after a sleep. The good one goes on only once it is in such a call,
 // and the program ends before the call returns.
 #[test]
-fn a_device_posts_after_the_end(rt: HostRuntime) -> Result<(), Fail> {
-    let alloc = rt.alloc();
-    let ticks = ticks_of(alloc, 50)?;
+fn a_device_posts_after_the_end(rt: HostRuntime) -> Result<(), NoMemory> {
+    let ticks = ticks_of(rt.alloc(), 50)?;
     let bad = Part {
         pause: 500,
         ..Part::of("", ticks.as_str())
     };
-    let call = played(&rt, &rt, FINISH, &bad, 1)?;
-    let (status, journal) = call.said();
-    assert_eq!(rt; (status, said_behind(journal, "close bad ")), (0, "late 0"));
-    assert!(rt; has_first_posts(alloc, journal, ticks.as_str())?);
-    assert!(rt; has_all_of_good(alloc, journal)?);
-    assert!(rt; is_found(alloc, FINISH, journal, "online done\n")?);
+    let ended = ended_of(&rt, &rt, FINISH, bad, 1, &["late 0"], "online done\n")?;
+    same(&rt, "late", ended, (0, true, [true; 3]));
     Ok(())
 }

@@ -1,11 +1,13 @@
 ghost use Rattle.std.specs.Prelude.{◌≤◌, length};
 ghost use Rattle.golog_device.specs.Slots.{standings, FreshBelow};
 
+use crate::asserting::same;
 use golog_base::{Bytes, HeldFile, List, MemFiles, MemSink, NoMemory, Text, both};
 use golog_device::Device;
 use golog_main::{NO_MEMORY, golog, is_threaded, script_devices, serve_inline};
 use golog_words::order_of;
 use std::alloc::Global;
+use std::process::Abort;
 use std::sync::Wait;
 use std::thread::Threads;
 
@@ -13,10 +15,77 @@ use std::thread::Threads;
 const ROOM: u32 = 4_000_000;
 
 /// The words of a run of `x.agent`.
-pub const RUN: [&str; 3] = ["run", "x.agent", "--inline"];
+const RUN: &[&str] = &["run", "x.agent", "--inline"];
 
 /// The words of a run of `x.agent` with the scripts of `x.devices`.
-pub const RUN_BOTH: [&str; 4] = ["run", "x.agent", "x.devices", "--inline"];
+const RUN_BOTH: &[&str] = &["run", "x.agent", "x.devices", "--inline"];
+
+/// The words of the same over threads.
+pub const RUN_ON_THREADS: &[&str] = &["run", "x.agent", "x.devices"];
+
+/// The words of a replay of `x.journal`.
+pub const REPLAY: &[&str] = &["replay", "x.agent", "x.journal"];
+
+/// No file.
+pub const NO_FILE: (&str, &[u8]) = ("", b"");
+
+/// No call.
+const NONE: &[u32] = &[];
+
+/// A call of the program: its words, two files in memory, of which one without a name isn't there, and the room of
+/// its sink. The calls of the files and of the sink with these numbers fail.
+#[derive(Clone, Copy)]
+pub struct Setting<'a> {
+    pub words: &'a [&'a str],
+    pub files: [(&'a str, &'a [u8]); 2],
+    pub reads: &'a [u32],
+    pub room: u32,
+    pub writes: &'a [u32],
+}
+
+impl<'a> Setting<'a> {
+    /// A call with ample room in which nothing fails.
+    pub fn of(
+        words: &'a [&'a str],
+        one: (&'a str, &'a [u8]),
+        other: (&'a str, &'a [u8]),
+    ) -> Setting<'a> {
+        Setting {
+            words,
+            files: [one, other],
+            reads: NONE,
+            room: 1000,
+            writes: NONE,
+        }
+    }
+
+    /// The same with room for the journal of a run over threads.
+    pub fn roomy(
+        words: &'a [&'a str],
+        one: (&'a str, &'a [u8]),
+        other: (&'a str, &'a [u8]),
+    ) -> Setting<'a> {
+        Setting {
+            room: ROOM,
+            ..Setting::of(words, one, other)
+        }
+    }
+
+    /// A run of an agent file of these bytes.
+    pub fn run(agent: &'a [u8]) -> Setting<'a> {
+        Setting::of(RUN, ("x.agent", agent), NO_FILE)
+    }
+
+    /// The same with a devices file of these bytes.
+    pub fn run_with(agent: &'a [u8], scripts: &'a [u8]) -> Setting<'a> {
+        Setting::of(RUN_BOTH, ("x.agent", agent), ("x.devices", scripts))
+    }
+
+    /// A replay of a journal of an agent file.
+    pub fn replay(agent: &'a [u8], journal: &'a [u8]) -> Setting<'a> {
+        Setting::of(REPLAY, ("x.agent", agent), ("x.journal", journal))
+    }
+}
 
 /// What a call answered and wrote.
 #[derive(Drop)]
@@ -33,20 +102,62 @@ impl Call {
     }
 }
 
-/// Files in memory, of these names and bytes. The calls of these numbers fail.
-pub fn files_of(
-    alloc: Global,
-    files: &[(&str, &[u8])],
-    fails: &[u32],
-) -> Result<MemFiles, NoMemory> {
-    let mut held = List::new(alloc);
-    for (name, bytes) in files {
-        held.push(HeldFile {
-            name: Text::of(alloc, name)?,
-            bytes: Bytes::copy_of(alloc, bytes)?,
-        })?;
+/// Asserts that a call, which is that of a row, ended with this status and wrote this.
+pub fn has_said<A: Abort>(
+    rt: &A,
+    row: &str,
+    call: Result<Call, NoMemory>,
+    said: (u8, &str),
+) -> Result<(), NoMemory> {
+    let call = call?;
+    same(rt, row, call.said(), said);
+    drop(call);
+    Ok(())
+}
+
+/// Asserts it of a call over devices that follow scripts.
+pub fn says<A: Abort + AllocGlobal>(
+    rt: &A,
+    row: &str,
+    setting: &Setting<'_>,
+    said: (u8, &str),
+) -> Result<(), NoMemory> {
+    has_said(rt, row, called(rt.alloc(), setting), said)
+}
+
+/// Asserts it of a run of the agent of these items and this program.
+pub fn agent_says<A: Abort + AllocGlobal>(
+    rt: &A,
+    items: &str,
+    program: &str,
+    said: (u8, &str),
+) -> Result<(), NoMemory> {
+    let file = file_of(rt.alloc(), items, program)?;
+    let told = says(rt, program, &Setting::run(file.as_slice()), said);
+    drop(file);
+    told
+}
+
+/// A file in memory of this name and these bytes.
+fn held(alloc: Global, name: &str, bytes: &[u8]) -> Result<HeldFile, NoMemory> {
+    let (name, bytes) = both(Text::of(alloc, name), Bytes::copy_of(alloc, bytes))?;
+    Ok(HeldFile { name, bytes })
+}
+
+fn files_of(alloc: Global, setting: &Setting<'_>) -> Result<MemFiles, NoMemory> {
+    let mut files = List::new(alloc);
+    for (name, bytes) in &setting.files {
+        if !name.is_empty() {
+            files.push(held(alloc, name, bytes)?)?;
+        }
     }
-    Ok(MemFiles::new(held, List::copy_of(alloc, fails)?))
+    let fails = List::copy_of(alloc, setting.reads)?;
+    Ok(MemFiles::new(files, fails))
+}
+
+fn sink_of(alloc: Global, setting: &Setting<'_>) -> Result<MemSink, NoMemory> {
+    let fails = List::copy_of(alloc, setting.writes)?;
+    MemSink::new(alloc, setting.room, fails)
 }
 
 /// The words of a command, as a program is given them. `NoMemory` where none is left for them.
@@ -58,54 +169,57 @@ fn words_of(alloc: Global, of: &[&str]) -> Result<Vec<String>, NoMemory> {
     Ok(words)
 }
 
-/// Calls the program with these words, over these files, this sink and devices that follow scripts.
-pub fn called_over(
-    alloc: Global,
-    words: &[&str],
-    files: Result<MemFiles, NoMemory>,
-    out: Result<MemSink, NoMemory>,
-) -> Result<Call, NoMemory> {
+/// What a call is handed.
+#[derive(Drop)]
+struct Handed {
+    words: Vec<String>,
+    files: MemFiles,
+    out: MemSink,
+}
+
+fn hand_over(alloc: Global, setting: &Setting<'_>) -> Result<Handed, NoMemory> {
+    let words = words_of(alloc, setting.words);
+    let outside = both(files_of(alloc, setting), sink_of(alloc, setting));
+    let (words, (files, out)) = both(words, outside)?;
+    Ok(Handed { words, files, out })
+}
+
+/// Calls the program over devices that follow scripts.
+pub fn called(alloc: Global, setting: &Setting<'_>) -> Result<Call, NoMemory> {
     match script_devices(alloc) {
         Ok(mut devices) => {
-            let call = called_by(alloc, words, files, out, devices.as_mut_slice());
+            let call = called_by(alloc, setting, devices.as_mut_slice());
             drop(devices);
             call
         }
-        Err(NoMemory) => {
-            drop(files);
-            drop(out);
-            Err(NoMemory)
-        }
+        Err(NoMemory) => Err(NoMemory),
     }
 }
 
 /// The same over these devices.
 pub fn called_by<D: Device>(
     alloc: Global,
-    words: &[&str],
-    files: Result<MemFiles, NoMemory>,
-    out: Result<MemSink, NoMemory>,
+    setting: &Setting<'_>,
     devices: &mut [D],
 ) -> Result<Call, NoMemory>
     requires boxes { 16 ≤ length devices.old }
     requires fresh { FreshBelow 16 (standings D.fresh D.meaning devices.old) }
 {
-    match both(words_of(alloc, words), both(files, out)) {
-        Ok((words, (files, out))) => Ok(call_of(alloc, words, files, out, devices)),
+    match hand_over(alloc, setting) {
+        Ok(handed) => Ok(call_of(alloc, handed, devices)),
         Err(NoMemory) => Err(NoMemory),
     }
 }
 
-fn call_of<D: Device>(
-    alloc: Global,
-    words: Vec<String>,
-    mut files: MemFiles,
-    mut out: MemSink,
-    devices: &mut [D],
-) -> Call
+fn call_of<D: Device>(alloc: Global, handed: Handed, devices: &mut [D]) -> Call
     requires boxes { 16 ≤ length devices.old }
     requires fresh { FreshBelow 16 (standings D.fresh D.meaning devices.old) }
 {
+    let Handed {
+        words,
+        mut files,
+        mut out,
+    } = handed;
     let status = served(alloc, words.as_slice(), &mut files, &mut out, devices);
     drop(words);
     drop(files);
@@ -129,30 +243,34 @@ fn served<D: Device>(
     }
 }
 
-/// Calls the program with these words over these files, devices that follow scripts and a sink with ample room.
-pub fn called(
-    alloc: Global,
-    words: &[&str],
-    files: Result<MemFiles, NoMemory>,
-) -> Result<Call, NoMemory> {
-    let out = MemSink::new(alloc, 1000, List::new(alloc));
-    called_over(alloc, words, files, out)
-}
-
-/// Calls the program with these words over these files and these devices, each on a thread of its own.
-pub fn called_on_threads<R: Threads + Wait + Sync, D: Device + Send>(
+/// Calls the program over devices that follow scripts, each on a thread of its own.
+pub fn called_on_threads<R: Threads + Wait + Sync>(
     rt: &R,
     alloc: Global,
-    words: &[&str],
-    files: Result<MemFiles, NoMemory>,
+    setting: &Setting<'_>,
+) -> Result<Call, NoMemory> {
+    match script_devices(alloc) {
+        Ok(mut devices) => {
+            let call = threaded_by(rt, alloc, setting, devices.as_mut_slice());
+            drop(devices);
+            call
+        }
+        Err(NoMemory) => Err(NoMemory),
+    }
+}
+
+/// The same over these devices.
+pub fn threaded_by<R: Threads + Wait + Sync, D: Device + Send>(
+    rt: &R,
+    alloc: Global,
+    setting: &Setting<'_>,
     devices: &mut [D],
 ) -> Result<Call, NoMemory>
     requires boxes { 16 ≤ length devices.old }
     requires fresh { FreshBelow 16 (standings D.fresh D.meaning devices.old) }
 {
-    let out = MemSink::new(alloc, ROOM, List::new(alloc));
-    match both(words_of(alloc, words), both(files, out)) {
-        Ok((words, (files, out))) => Ok(threaded(rt, alloc, words, files, out, devices)),
+    match hand_over(alloc, setting) {
+        Ok(handed) => Ok(threaded(rt, alloc, handed, devices)),
         Err(NoMemory) => Err(NoMemory),
     }
 }
@@ -160,14 +278,17 @@ pub fn called_on_threads<R: Threads + Wait + Sync, D: Device + Send>(
 fn threaded<R: Threads + Wait + Sync, D: Device + Send>(
     rt: &R,
     alloc: Global,
-    words: Vec<String>,
-    mut files: MemFiles,
-    mut out: MemSink,
+    handed: Handed,
     devices: &mut [D],
 ) -> Call
     requires boxes { 16 ≤ length devices.old }
     requires fresh { FreshBelow 16 (standings D.fresh D.meaning devices.old) }
 {
+    let Handed {
+        words,
+        mut files,
+        mut out,
+    } = handed;
     let status = status_of(rt, alloc, words.as_slice(), &mut files, &mut out, devices);
     drop(words);
     drop(files);
@@ -188,24 +309,16 @@ fn status_of<R: Threads + Wait + Sync, D: Device + Send>(
     golog(rt, alloc, words, files, out, devices)
 }
 
-/// Runs an agent file of these bytes.
-pub fn ran(alloc: Global, agent: &[u8]) -> Result<Call, NoMemory> {
-    let files = files_of(alloc, &[("x.agent", agent)], &[]);
-    called(alloc, &RUN, files)
-}
-
-/// Runs it with a devices file of these bytes.
-pub fn ran_with(alloc: Global, agent: &[u8], devices: &[u8]) -> Result<Call, NoMemory> {
-    let files = files_of(alloc, &[("x.agent", agent), ("x.devices", devices)], &[]);
-    called(alloc, &RUN_BOTH, files)
-}
-
 /// An agent file of these items and this program.
 pub fn file_of(alloc: Global, items: &str, program: &str) -> Result<Bytes, NoMemory> {
-    let mut file = Bytes::copy_of(alloc, b"(agent ")?;
-    file.extend(items.as_bytes())?;
-    file.extend(b"(main ")?;
-    file.extend(program.as_bytes())?;
-    file.extend(b"))")?;
-    Ok(file)
+    joined(alloc, &["(agent ", items, "(main ", program, "))"])
+}
+
+/// The bytes of these parts, one after another.
+pub fn joined(alloc: Global, parts: &[&str]) -> Result<Bytes, NoMemory> {
+    let mut bytes = Bytes::new(alloc);
+    for part in parts {
+        bytes.extend(part.as_bytes())?;
+    }
+    Ok(bytes)
 }

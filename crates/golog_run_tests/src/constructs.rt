@@ -1,7 +1,5 @@
-use crate::calls::{Call, file_of, ran};
+use crate::calls::agent_says;
 use golog_base::NoMemory;
-use std::alloc::Global;
-use std::test::Fail;
 
 /// A height from 1 to 3, and two switches of which one is not known.
 const ITEMS: &str = "(sort level 1 3)
@@ -12,15 +10,9 @@ const ITEMS: &str = "(sort level 1 3)
     (proc rise ((to level)) (while (< (height) to) (act up)))
     (proc climb () (if (< (height) 3) (seq (act up) (call climb)) nil))";
 
-/// Runs this program over `ITEMS`.
-fn goes(alloc: Global, program: &str) -> Result<Call, NoMemory> {
-    let file = file_of(alloc, ITEMS, program)?;
-    ran(alloc, file.as_slice())
-}
-
 // Each program with the status and the journal of its run.
 #[test]
-fn each_construct_runs(rt: HostRuntime) -> Result<(), Fail> {
+fn each_construct_runs(rt: HostRuntime) -> Result<(), NoMemory> {
     let programs = [
         // Parts of a `seq` follow one another.
         (
@@ -128,8 +120,7 @@ fn each_construct_runs(rt: HostRuntime) -> Result<(), Fail> {
         ),
     ];
     for (program, status, journal) in programs {
-        let call = goes(rt.alloc(), program)?;
-        assert_eq!(rt; call.said(), (status, journal), "{program}");
+        agent_says(&rt, ITEMS, program, (status, journal))?;
     }
     Ok(())
 }

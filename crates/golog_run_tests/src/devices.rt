@@ -1,7 +1,6 @@
-use crate::calls::{Call, file_of, ran, ran_with};
+use crate::calls::{Setting, agent_says, file_of, says};
 use golog_base::NoMemory;
-use std::alloc::Global;
-use std::test::Fail;
+use std::process::Abort;
 
 /// A lift of four floors, and the panel with its buttons.
 pub const LIFT: &str = "
@@ -41,15 +40,24 @@ const SERVE: &str = "(seq (act start_interrupts) (prio (prio
   (interrupt (some (f level) (and (on f) (< f (floor)))) (act down)))
   (seq (test (quitting)) (act stop_interrupts))))";
 
-/// Runs the agent of these items and this program with these scripts.
-fn plays(alloc: Global, items: &str, program: &str, scripts: &str) -> Result<Call, NoMemory> {
-    let file = file_of(alloc, items, program)?;
-    ran_with(alloc, file.as_slice(), scripts.as_bytes())
+/// Asserts what a run says of the agent of these items and this program, whose devices follow these scripts.
+fn follow<A: Abort + AllocGlobal>(
+    rt: &A,
+    agent: (&str, &str),
+    scripts: &str,
+    said: (u8, &str),
+) -> Result<(), NoMemory> {
+    let (items, program) = agent;
+    let file = file_of(rt.alloc(), items, program)?;
+    let setting = Setting::run_with(file.as_slice(), scripts.as_bytes());
+    let told = says(rt, scripts, &setting, said);
+    drop(file);
+    told
 }
 
 // Items, a program and scripts, with the status and the journal of the run.
 #[test]
-fn devices_take_part(rt: HostRuntime) -> Result<(), Fail> {
+fn devices_take_part(rt: HostRuntime) -> Result<(), NoMemory> {
     let runs = [
         // A button that is pushed is served.
         (
@@ -114,25 +122,21 @@ fn devices_take_part(rt: HostRuntime) -> Result<(), Fail> {
         ),
     ];
     for (items, program, scripts, status, journal) in runs {
-        let call = plays(rt.alloc(), items, program, scripts)?;
-        assert_eq!(rt; call.said(), (status, journal), "{program} with {scripts}");
+        follow(&rt, (items, program), scripts, (status, journal))?;
     }
     Ok(())
 }
 
 #[test]
-fn devices_without_a_file_have_the_empty_script(rt: HostRuntime) -> Result<(), Fail> {
-    let file = file_of(rt.alloc(), LIFT, "nil")?;
-    let call = ran(rt.alloc(), file.as_slice())?;
+fn devices_without_a_file_have_the_empty_script(rt: HostRuntime) -> Result<(), NoMemory> {
     let journal = "0 close panel ended 0\n1 close lift ended 0\n2 end done\n";
-    assert_eq!(rt; call.said(), (0, journal));
-    Ok(())
+    agent_says(&rt, LIFT, "nil", (0, journal))
 }
 
 // Agent and devices files with what is said of them: each code of a devices file, and the agent file is
 // refused first.
 #[test]
-fn files_that_spell_no_scripts_are_refused(rt: HostRuntime) -> Result<(), Fail> {
+fn files_that_spell_no_scripts_are_refused(rt: HostRuntime) -> Result<(), NoMemory> {
     let lift = "(agent (device panel) (device lift) (main nil))";
     let files = [
         (lift, "[", "refused devices 40 at 0\n"),
@@ -156,8 +160,8 @@ fn files_that_spell_no_scripts_are_refused(rt: HostRuntime) -> Result<(), Fail> 
         ("(agent", "[", "refused agent 1 at 6\n"),
     ];
     for (agent, devices, said) in files {
-        let call = ran_with(rt.alloc(), agent.as_bytes(), devices.as_bytes())?;
-        assert_eq!(rt; call.said(), (3, said), "{agent} with {devices}");
+        let setting = Setting::run_with(agent.as_bytes(), devices.as_bytes());
+        says(&rt, devices, &setting, (3, said))?;
     }
     Ok(())
 }

@@ -1,7 +1,8 @@
-use crate::calls::{Call, RUN, RUN_BOTH, called, called_over, files_of, ran, ran_with};
-use golog_base::{List, MemSink, NoMemory};
+use crate::asserting::same;
+use crate::calls::{Call, NO_FILE, Setting, called, says};
+use golog_base::NoMemory;
 use std::alloc::Global;
-use std::test::Fail;
+use std::process::Abort;
 
 const ONE: &[u8] = b"(agent (fluent p () bool false) (action a ()) (causes (a) (p) true)
     (main (seq (act a) (test (p)))))";
@@ -10,19 +11,13 @@ const LIFT: &[u8] = b"(agent (sort level 1 4) (device panel) (device lift)
     (exo push (level) panel) (main nil))";
 
 /// A button that is pushed is served.
-const BUTTON_FILES: [(&str, &[u8]); 2] = [
-    (
-        "x.agent",
-        b"(agent (sort level 1 4) (device panel) (device lift)
-            (fluent on (level) bool false) (action off (level) lift) (exo push (level) panel)
-            (causes (off f) (on f) false) (causes (push f) (on f) true)
-            (main (interrupts (interrupt (on 1) (act off 1)))))",
-    ),
-    (
-        "x.devices",
-        br#"[{"name":"panel","idle":["push(1)"]},{"name":"lift","idle":["rest"]}]"#,
-    ),
-];
+const BUTTON: (&[u8], &[u8]) = (
+    b"(agent (sort level 1 4) (device panel) (device lift)
+        (fluent on (level) bool false) (action off (level) lift) (exo push (level) panel)
+        (causes (off f) (on f) false) (causes (push f) (on f) true)
+        (main (interrupts (interrupt (on 1) (act off 1)))))",
+    br#"[{"name":"panel","idle":["push(1)"]},{"name":"lift","idle":["rest"]}]"#,
+);
 
 /// The journal of its run.
 const BUTTON_JOURNAL: &str =
@@ -30,56 +25,55 @@ const BUTTON_JOURNAL: &str =
     4 do off(1) @lift\n5 do stop_interrupts\n6 close lift ended 1\n7 end done\n";
 
 /// A search for a way up.
-const FLOORS_FILES: [(&str, &[u8]); 2] = [
-    (
-        "x.agent",
-        b"(agent (sort level 1 4) (fluent floor () level 1) (action up ())
-            (poss (up) (< (floor) 4)) (causes (up) (floor) (+ (floor) 1))
-            (main (search 8 1000 (seq (star (act up)) (test (= (floor) 2))))))",
-    ),
-    ("x.devices", b"[]"),
-];
+const FLOORS: (&[u8], &[u8]) = (
+    b"(agent (sort level 1 4) (fluent floor () level 1) (action up ())
+        (poss (up) (< (floor) 4)) (causes (up) (floor) (+ (floor) 1))
+        (main (search 8 1000 (seq (star (act up)) (test (= (floor) 2))))))",
+    b"[]",
+);
 
 /// The journal of its run.
 const FLOORS_JOURNAL: &str = "0 do up run up; -\n1 test\n2 end done\n";
 
 #[test]
-fn a_file_that_is_not_there_is_a_read_fault(rt: HostRuntime) -> Result<(), Fail> {
-    let files = files_of(rt.alloc(), &[("x.agent", ONE)], &[]);
-    let call = called(rt.alloc(), &["run", "y.agent", "--inline"], files)?;
-    assert_eq!(rt; call.said(), (4, "read fault agent\n"));
-    Ok(())
+fn a_file_that_is_not_there_is_a_read_fault(rt: HostRuntime) -> Result<(), NoMemory> {
+    let words = ["run", "y.agent", "--inline"];
+    let setting = Setting::of(&words, ("x.agent", ONE), NO_FILE);
+    says(&rt, "", &setting, (4, "read fault agent\n"))
 }
 
 #[test]
-fn a_read_that_fails_in_mid_stream_is_a_read_fault(rt: HostRuntime) -> Result<(), Fail> {
-    let files = files_of(rt.alloc(), &[("x.agent", &[b' '; 3000])], &[2]);
-    let call = called(rt.alloc(), &RUN, files)?;
-    assert_eq!(rt; call.said(), (4, "read fault agent\n"));
-    Ok(())
+fn a_read_that_fails_in_mid_stream_is_a_read_fault(rt: HostRuntime) -> Result<(), NoMemory> {
+    let file = [b' '; 3000];
+    let setting = Setting {
+        reads: &[2],
+        ..Setting::run(&file)
+    };
+    says(&rt, "", &setting, (4, "read fault agent\n"))
 }
 
 // Each file is selected, read to its end and found to end; the agent file is the first. Behind the last of these
 // calls none is made.
 #[test]
-fn each_read_may_fail(rt: HostRuntime) -> Result<(), Fail> {
-    let (agent, devices) = ("read fault agent\n", "read fault devices\n");
+fn each_read_may_fail(rt: HostRuntime) -> Result<(), NoMemory> {
+    let (agent, scripts) = BUTTON;
     let reads = [
-        (0, agent),
-        (1, agent),
-        (2, agent),
-        (3, devices),
-        (4, devices),
-        (5, devices),
+        (0, 4, "read fault agent\n"),
+        (1, 4, "read fault agent\n"),
+        (2, 4, "read fault agent\n"),
+        (3, 4, "read fault devices\n"),
+        (4, 4, "read fault devices\n"),
+        (5, 4, "read fault devices\n"),
+        (6, 0, BUTTON_JOURNAL),
     ];
-    for (number, said) in reads {
-        let files = files_of(rt.alloc(), &BUTTON_FILES, &[number]);
-        let call = called(rt.alloc(), &RUN_BOTH, files)?;
-        assert_eq!(rt; call.said(), (4, said));
+    for (number, status, said) in reads {
+        let reads = [number];
+        let setting = Setting {
+            reads: &reads,
+            ..Setting::run_with(agent, scripts)
+        };
+        says(&rt, said, &setting, (status, said))?;
     }
-    let files = files_of(rt.alloc(), &BUTTON_FILES, &[6]);
-    let call = called(rt.alloc(), &RUN_BOTH, files)?;
-    assert_eq!(rt; call.said(), (0, BUTTON_JOURNAL));
     Ok(())
 }
 
@@ -90,66 +84,58 @@ fn padded(alloc: Global, bytes: &[u8], length: usize) -> Result<Vec<u8>, NoMemor
     Ok(file)
 }
 
+/// Asserts what a run says of an agent file of this length.
+fn padded_says<A: Abort + AllocGlobal>(
+    rt: &A,
+    length: usize,
+    said: (u8, &str),
+) -> Result<(), NoMemory> {
+    let file = padded(rt.alloc(), b"(agent (main nil))", length)?;
+    let told = says(rt, "", &Setting::run(file.as_slice()), said);
+    drop(file);
+    told
+}
+
+/// The same of a devices file.
+fn padded_scripts_say<A: Abort + AllocGlobal>(
+    rt: &A,
+    length: usize,
+    said: (u8, &str),
+) -> Result<(), NoMemory> {
+    let scripts = padded(rt.alloc(), b"[]", length)?;
+    let told = says(rt, "", &Setting::run_with(LIFT, scripts.as_slice()), said);
+    drop(scripts);
+    told
+}
+
 #[test]
-fn a_file_above_its_limit_is_refused(rt: HostRuntime) -> Result<(), Fail> {
-    let alloc = rt.alloc();
-    let files = [
-        (1_048_576, 0, "0 end done\n"),
-        (1_048_577, 3, "refused agent 5 at 1048576\n"),
+fn a_file_above_its_limit_is_refused(rt: HostRuntime) -> Result<(), NoMemory> {
+    padded_says(&rt, 1_048_576, (0, "0 end done\n"))?;
+    padded_says(&rt, 1_048_577, (3, "refused agent 5 at 1048576\n"))?;
+    padded_scripts_say(&rt, 1_048_577, (3, "refused devices 5 at 1048576\n"))
+}
+
+// Each agent with the room of the sink, the calls that fail, and what is written: nothing after a write that fails,
+// and a part of a line or the first lines where the room ends.
+#[test]
+fn a_write_that_fails_leaves_a_prefix(rt: HostRuntime) -> Result<(), NoMemory> {
+    let writes: [(&[u8], u32, &[u32], &str); 3] = [
+        (ONE, 1000, &[0], ""),
+        (ONE, 10, &[], "0 do a\n1 t"),
+        (LIFT, 26, &[], "0 close panel ended 0\n1 cl"),
     ];
-    for (length, status, said) in files {
-        let file = padded(alloc, b"(agent (main nil))", length)?;
-        let call = ran(alloc, file.as_slice())?;
-        assert_eq!(rt; call.said(), (status, said));
+    for (agent, room, fails, said) in writes {
+        let setting = Setting {
+            room,
+            writes: fails,
+            ..Setting::run(agent)
+        };
+        says(&rt, said, &setting, (5, said))?;
     }
-    let scripts = padded(alloc, b"[]", 1_048_577)?;
-    let call = ran_with(alloc, LIFT, scripts.as_slice())?;
-    assert_eq!(rt; call.said(), (3, "refused devices 5 at 1048576\n"));
     Ok(())
 }
 
-/// Runs an agent over a sink with room for so many bytes. The calls of these numbers fail.
-fn ran_into(alloc: Global, agent: &[u8], room: u32, fails: &[u32]) -> Result<Call, NoMemory> {
-    let fails = List::copy_of(alloc, fails)?;
-    let files = files_of(alloc, &[("x.agent", agent)], &[]);
-    let out = MemSink::new(alloc, room, fails);
-    called_over(alloc, &RUN, files, out)
-}
-
-#[test]
-fn after_a_write_that_fails_nothing_is_written(rt: HostRuntime) -> Result<(), Fail> {
-    let call = ran_into(rt.alloc(), ONE, 1000, &[0])?;
-    assert_eq!(rt; call.said(), (5, ""));
-    Ok(())
-}
-
-#[test]
-fn a_write_that_fails_in_mid_stream_leaves_a_prefix(rt: HostRuntime) -> Result<(), Fail> {
-    let call = ran_into(rt.alloc(), ONE, 10, &[])?;
-    assert_eq!(rt; call.said(), (5, "0 do a\n1 t"));
-    Ok(())
-}
-
-#[test]
-fn a_write_that_fails_leaves_the_first_lines(rt: HostRuntime) -> Result<(), Fail> {
-    let call = ran_into(rt.alloc(), LIFT, 26, &[])?;
-    assert_eq!(rt; call.said(), (5, "0 close panel ended 0\n1 cl"));
-    Ok(())
-}
-
-/// Runs these files over a sink with room for so many bytes. The calls of these numbers fail.
-fn written_into(
-    alloc: Global,
-    both: &[(&str, &[u8])],
-    room: u32,
-    fails: &[u32],
-) -> Result<Call, NoMemory> {
-    let fails = List::copy_of(alloc, fails)?;
-    let out = MemSink::new(alloc, room, fails);
-    called_over(alloc, &RUN_BOTH, files_of(alloc, both, &[]), out)
-}
-
-/// Whether the call wrote the journal, or tells of a write that failed and wrote some of its first bytes.
+/// Whether a call wrote the journal, or tells of a write that failed and wrote some of its first bytes.
 fn is_so_or_told(call: &Call, journal: &str) -> bool {
     let (status, text) = call.said();
     if status == 0 {
@@ -159,25 +145,57 @@ fn is_so_or_told(call: &Call, journal: &str) -> bool {
     }
 }
 
+/// The run of an agent and scripts with this journal.
+type Run<'a> = (&'a [u8], &'a [u8], &'a str);
+
+/// The status of such a run over a sink with room for so many bytes, whose calls of these numbers fail, and how many
+/// bytes were written, if they are the journal, or its first and a write failed.
+fn written_into<'a>(
+    alloc: Global,
+    run: Run<'a>,
+    room: u32,
+    writes: &'a [u32],
+) -> Result<(u8, Option<usize>), NoMemory> {
+    let (agent, scripts, journal) = run;
+    let setting = Setting {
+        room,
+        writes,
+        ..Setting::run_with(agent, scripts)
+    };
+    let call = called(alloc, &setting)?;
+    let is_so = is_so_or_told(&call, journal);
+    let written = call.out.bytes().len();
+    let status = call.status;
+    drop(call);
+    Ok((status, if is_so { Some(written) } else { None }))
+}
+
+/// Whether the call of the sink of this number may fail; the first does.
+fn may_fail(alloc: Global, run: Run<'_>, number: u32) -> Result<bool, NoMemory> {
+    let (status, written) = written_into(alloc, run, 1000, &[number])?;
+    Ok(written.is_some() && (number > 0 || status == 5))
+}
+
+/// Whether the sink may have room for so many bytes: as many of the journal are written, and the status tells whether
+/// that is all.
+fn may_end(alloc: Global, run: Run<'_>, room: u32) -> Result<bool, NoMemory> {
+    let (status, written) = written_into(alloc, run, room, &[])?;
+    let (_agent, _scripts, journal) = run;
+    let length = journal.len().min(room as usize);
+    Ok(written == Some(length) && (status == 0) == (length == journal.len()))
+}
+
 // Each call of the sink fails in turn, and it has room for each number of bytes.
 #[test]
-fn each_write_may_fail(rt: HostRuntime) -> Result<(), Fail> {
-    let runs = [
-        (FLOORS_FILES, FLOORS_JOURNAL),
-        (BUTTON_FILES, BUTTON_JOURNAL),
-    ];
-    for (both, journal) in runs {
+fn each_write_may_fail(rt: HostRuntime) -> Result<(), NoMemory> {
+    for (files, journal) in [(FLOORS, FLOORS_JOURNAL), (BUTTON, BUTTON_JOURNAL)] {
+        let (agent, scripts) = files;
+        let run = (agent, scripts, journal);
         for number in 0..10u32 {
-            let call = written_into(rt.alloc(), &both, 1000, &[number])?;
-            assert!(rt; is_so_or_told(&call, journal), "{number}");
-            assert!(rt; number > 0 || call.status == 5);
+            same(&rt, number, may_fail(rt.alloc(), run, number)?, true);
         }
         for room in 0..200u32 {
-            let call = written_into(rt.alloc(), &both, room, &[])?;
-            assert!(rt; is_so_or_told(&call, journal), "{room}");
-            let written = journal.len().min(room as usize);
-            assert_eq!(rt; call.out.bytes().len(), written);
-            assert_eq!(rt; call.status == 0, written == journal.len(), "{room}");
+            same(&rt, room, may_end(rt.alloc(), run, room)?, true);
         }
     }
     Ok(())

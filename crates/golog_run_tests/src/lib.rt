@@ -2,6 +2,10 @@
 #![tactic(auto)]
 
 #[cfg(test)]
+mod actors;
+#[cfg(test)]
+mod asserting;
+#[cfg(test)]
 mod bad_devices;
 #[cfg(test)]
 mod calls;
@@ -27,6 +31,8 @@ mod runs;
 mod searches;
 #[cfg(test)]
 mod sleepers;
+#[cfg(test)]
+mod slots;
 #[cfg(test)]
 mod tables;
 #[cfg(test)]

@@ -1,9 +1,9 @@
-use crate::calls::ran;
-use std::test::Fail;
+use crate::calls::{Setting, says};
+use golog_base::NoMemory;
 
 // Each file with what is said of it.
 #[test]
-fn files_that_spell_no_agent_are_refused(rt: HostRuntime) -> Result<(), Fail> {
+fn files_that_spell_no_agent_are_refused(rt: HostRuntime) -> Result<(), NoMemory> {
     let files = [
         // Bytes that spell no form.
         ("(agent (main nil)", "refused agent 1 at 17\n"),
@@ -144,16 +144,19 @@ fn files_that_spell_no_agent_are_refused(rt: HostRuntime) -> Result<(), Fail> {
         ),
     ];
     for (file, said) in files {
-        let call = ran(rt.alloc(), file.as_bytes())?;
-        assert_eq!(rt; call.said(), (3, said), "{file}");
+        says(&rt, file, &Setting::run(file.as_bytes()), (3, said))?;
     }
     Ok(())
 }
 
 // A file that opens 129 lists.
 #[test]
-fn a_form_that_is_too_deep_is_refused(rt: HostRuntime) -> Result<(), Fail> {
-    let call = ran(rt.alloc(), &[b'('; 129])?;
-    assert_eq!(rt; call.said(), (3, "refused agent 4 at 128\n"));
-    Ok(())
+fn a_form_that_is_too_deep_is_refused(rt: HostRuntime) -> Result<(), NoMemory> {
+    let file = [b'('; 129];
+    says(
+        &rt,
+        "",
+        &Setting::run(&file),
+        (3, "refused agent 4 at 128\n"),
+    )
 }

@@ -1,34 +1,24 @@
-ghost use Rattle.std.specs.Prelude.{◌≤◌, length};
-ghost use Rattle.golog_device.specs.Slots.{standings, FreshBelow};
-
-use crate::calls::{Call, called, called_on_threads, files_of};
-use golog_base::{Bytes, NoMemory};
-use golog_device::Device;
-use golog_main::script_devices;
+use crate::asserting::same;
+use crate::calls::{Call, RUN_ON_THREADS, Setting, called, called_on_threads, file_of, joined};
+use golog_base::{Bytes, NoMemory, both};
 use std::alloc::Global;
 use std::sync::Wait;
-use std::test::Fail;
 use std::thread::Threads;
 
-/// Runs an agent file over these devices, which may follow these scripts, each on a thread of its own.
-pub fn ran_on_threads<R: Threads + Wait + Sync, D: Device + Send>(
-    rt: &R,
+/// What a replay says of a journal of the agent of these items and this program.
+pub fn found_of(
     alloc: Global,
-    agent: &[u8],
-    scripts: &[u8],
-    devices: &mut [D],
-) -> Result<Call, NoMemory>
-    requires boxes { 16 ≤ length devices.old }
-    requires fresh { FreshBelow 16 (standings D.fresh D.meaning devices.old) }
-{
-    let files = files_of(alloc, &[("x.agent", agent), ("x.devices", scripts)], &[]);
-    called_on_threads(rt, alloc, &["run", "x.agent", "x.devices"], files, devices)
-}
-
-/// Replays a journal of an agent file.
-pub fn replayed(alloc: Global, agent: &[u8], journal: &[u8]) -> Result<Call, NoMemory> {
-    let files = files_of(alloc, &[("x.agent", agent), ("x.journal", journal)], &[]);
-    called(alloc, &["replay", "x.agent", "x.journal"], files)
+    items: &str,
+    program: &str,
+    journal: &str,
+) -> Result<Call, NoMemory> {
+    let agent = file_of(alloc, items, program)?;
+    let found = called(
+        alloc,
+        &Setting::replay(agent.as_slice(), journal.as_bytes()),
+    );
+    drop(agent);
+    found
 }
 
 /// Twelve switches that a search sets, and a clock. The search goes through 4,096 states.
@@ -48,29 +38,57 @@ const SWITCHES: &[u8] = b"(agent
 /// How many ticks the clock posts.
 const TICKS: u32 = 10_000;
 
-/// The scripts in which the clock posts its ticks, then that it has finished.
-fn scripts_of(alloc: Global) -> Result<Bytes, NoMemory> {
-    let mut file = Bytes::copy_of(alloc, br#"[{"name":"clock","idle":["#)?;
-    for tick in 0..TICKS {
-        file.extend(format!(in alloc; "\"tick({})\",", tick % 100)?.as_bytes())?;
+/// So many ticks, one a line.
+pub fn ticks_of(alloc: Global, count: u32) -> Result<String, NoMemory> {
+    let mut ticks = String::new(alloc);
+    for tick in 0..count {
+        push_tick(alloc, &mut ticks, tick % 100)?;
     }
-    file.extend(br#""finish"]}]"#)?;
+    Ok(ticks)
+}
+
+fn push_tick(alloc: Global, ticks: &mut String, step: u32) -> Result<(), NoMemory> {
+    let tick = format!(in alloc; "tick({step})\n")?;
+    ticks.push_str(tick.as_str())?;
+    Ok(())
+}
+
+/// What the clock is to post, a line for each: its ticks, then that it has finished.
+fn posts_wanted(alloc: Global) -> Result<String, NoMemory> {
+    let mut posts = ticks_of(alloc, TICKS)?;
+    posts.push_str("finish\n")?;
+    Ok(posts)
+}
+
+/// The scripts in which the clock posts these lines.
+fn scripts_of(alloc: Global, posts: &str) -> Result<Bytes, NoMemory> {
+    let mut file = Bytes::copy_of(alloc, br#"[{"name":"clock","idle":["#)?;
+    let mut mark: &[u8] = b"";
+    for post in posts.lines() {
+        push_quoted(&mut file, mark, post)?;
+        mark = b",";
+    }
+    file.extend(b"]}]")?;
     Ok(file)
 }
 
-/// What the clock is to post, a line for each.
-fn posts_wanted(alloc: Global) -> Result<String, NoMemory> {
-    let mut posts = String::new(alloc);
-    for tick in 0..TICKS {
-        posts.push_str(format!(in alloc; "tick({})\n", tick % 100)?.as_str())?;
-    }
-    posts.push_str("finish\n")?;
-    Ok(posts)
+fn push_quoted(file: &mut Bytes, mark: &[u8], text: &str) -> Result<(), NoMemory> {
+    file.extend(mark)?;
+    file.push(b'"')?;
+    file.extend(text.as_bytes())?;
+    file.push(b'"')
 }
 
 /// A line's number, and what it says.
 fn parts_of(line: &str) -> (&str, &str) {
     line.split_once(' ').unwrap_or((line, ""))
+}
+
+fn push_parts(text: &mut String, parts: &[&str]) -> Result<(), NoMemory> {
+    for part in parts {
+        text.push_str(part)?;
+    }
+    Ok(())
 }
 
 /// What a device has posted, a line for each, where the lines that tell it begin so.
@@ -79,8 +97,7 @@ pub fn posts_in(alloc: Global, journal: &str, start: &str) -> Result<String, NoM
     for line in journal.lines() {
         let (_number, said) = parts_of(line);
         if let Some(post) = said.strip_prefix(start) {
-            posts.push_str(post)?;
-            posts.push_str("\n")?;
+            push_parts(&mut posts, &[post, "\n"])?;
         }
     }
     Ok(posts)
@@ -120,69 +137,82 @@ fn exchanged(alloc: Global, journal: &str, one: &str, other: &str) -> Result<Str
         } else {
             said
         };
-        text.push_str(format!(in alloc; "{number} {said}\n")?.as_str())?;
+        push_parts(&mut text, &[number, " ", said, "\n"])?;
     }
     Ok(text)
 }
 
-/// Runs the agent with the switches over these devices, which follow its scripts.
-fn ran_over<R: Threads + Wait + Sync, D: Device + Send>(
+/// Runs the agent with the switches over a clock that posts these lines.
+fn ran_with_posts<R: Threads + Wait + Sync>(
     rt: &R,
     alloc: Global,
-    devices: &mut [D],
-) -> Result<Call, NoMemory>
-    requires boxes { 16 ≤ length devices.old }
-    requires fresh { FreshBelow 16 (standings D.fresh D.meaning devices.old) }
-{
-    let scripts = scripts_of(alloc)?;
-    let ran = ran_on_threads(rt, alloc, SWITCHES, scripts.as_slice(), devices);
+    posts: &str,
+) -> Result<Call, NoMemory> {
+    let scripts = scripts_of(alloc, posts)?;
+    let file = ("x.devices", scripts.as_slice());
+    let setting = Setting::roomy(RUN_ON_THREADS, ("x.agent", SWITCHES), file);
+    let ran = called_on_threads(rt, alloc, &setting);
     drop(scripts);
     ran
 }
 
-/// The same over new ones.
+/// The same over one that posts its ticks, and then that it has finished.
 fn ran_with_ticks<R: Threads + Wait + Sync>(rt: &R, alloc: Global) -> Result<Call, NoMemory> {
-    match script_devices(alloc) {
-        Ok(mut devices) => {
-            let ran = ran_over(rt, alloc, devices.as_mut_slice());
-            drop(devices);
-            ran
-        }
-        Err(NoMemory) => Err(NoMemory),
-    }
+    let posts = posts_wanted(alloc)?;
+    let ran = ran_with_posts(rt, alloc, posts.as_str());
+    drop(posts);
+    ran
 }
 
 /// Whether what the clock has posted is all that it is to post, in order.
 fn has_all_posts(alloc: Global, journal: &str) -> Result<bool, NoMemory> {
-    let posts = posts_in(alloc, journal, "exo clock ")?;
-    let wanted = posts_wanted(alloc)?;
+    let (posts, wanted) = both(posts_in(alloc, journal, "exo clock "), posts_wanted(alloc))?;
     Ok(posts.as_str() == wanted.as_str())
 }
 
-/// Whether a replay of the journal says this.
-fn is_found(alloc: Global, journal: &str, status: u8, text: &str) -> Result<bool, NoMemory> {
-    let found = replayed(alloc, SWITCHES, journal.as_bytes())?;
-    Ok(found.said() == (status, text))
+/// Whether a replay of the journal says these parts.
+fn is_found(alloc: Global, journal: &str, status: u8, parts: &[&str]) -> Result<bool, NoMemory> {
+    let found = called(alloc, &Setting::replay(SWITCHES, journal.as_bytes()));
+    let (found, wanted) = both(found, joined(alloc, parts))?;
+    Ok(found.status == status && found.out.bytes() == wanted.as_slice())
 }
 
 /// Whether a replay finds the first of two steps that are exchanged to be none that the program may take.
 fn is_found_out(alloc: Global, journal: &str) -> Result<bool, NoMemory> {
     let place = number_of(journal, "do set(2)").unwrap_or("nowhere");
-    let wanted = format!(in alloc; "not online {place} step\n")?;
     let forged = exchanged(alloc, journal, "do set(2)", "do set(3)")?;
-    is_found(alloc, forged.as_str(), 17, wanted.as_str())
+    let is_so = is_found(
+        alloc,
+        forged.as_str(),
+        17,
+        &["not online ", place, " step\n"],
+    );
+    drop(forged);
+    is_so
 }
 
-// What a clock posts during a search stands in order and whole, and the journal is online, but no more where two steps
-// of the search are exchanged.
-#[test]
-fn a_clock_ticks_during_a_search(rt: HostRuntime) -> Result<(), Fail> {
-    let alloc = rt.alloc();
-    let call = ran_with_ticks(&rt, alloc)?;
+/// Whether all posts stand in a journal, whether it is online, and whether one with two steps exchanged is found out.
+fn found_in(alloc: Global, journal: &str) -> Result<[bool; 3], NoMemory> {
+    Ok([
+        has_all_posts(alloc, journal)?,
+        is_found(alloc, journal, 0, &["online done\n"])?,
+        is_found_out(alloc, journal)?,
+    ])
+}
+
+/// The status of the run, and what is found in its journal.
+fn ticked<R: Threads + Wait + Sync>(rt: &R, alloc: Global) -> Result<(u8, [bool; 3]), NoMemory> {
+    let call = ran_with_ticks(rt, alloc)?;
     let (status, journal) = call.said();
-    assert_eq!(rt; status, 0);
-    assert!(rt; has_all_posts(alloc, journal)?);
-    assert!(rt; is_found(alloc, journal, 0, "online done\n")?);
-    assert!(rt; is_found_out(alloc, journal)?);
+    let found = found_in(alloc, journal);
+    drop(call);
+    Ok((status, found?))
+}
+
+// What a clock posts during a search stands in order and whole, and the journal is online, but no more where two
+// steps of the search are exchanged.
+#[test]
+fn a_clock_ticks_during_a_search(rt: HostRuntime) -> Result<(), NoMemory> {
+    same(&rt, "clock", ticked(&rt, rt.alloc())?, (0, [true; 3]));
     Ok(())
 }

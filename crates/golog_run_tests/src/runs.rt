@@ -1,9 +1,9 @@
-use crate::calls::ran;
-use std::test::Fail;
+use crate::calls::{Setting, says};
+use golog_base::NoMemory;
 
 // Each agent file with the status and the journal of its run.
 #[test]
-fn agents_run(rt: HostRuntime) -> Result<(), Fail> {
+fn agents_run(rt: HostRuntime) -> Result<(), NoMemory> {
     let files = [
         // An action makes a test true.
         (
@@ -73,8 +73,7 @@ fn agents_run(rt: HostRuntime) -> Result<(), Fail> {
         ),
     ];
     for (file, status, journal) in files {
-        let call = ran(rt.alloc(), file.as_bytes())?;
-        assert_eq!(rt; call.said(), (status, journal), "{file}");
+        says(&rt, file, &Setting::run(file.as_bytes()), (status, journal))?;
     }
     Ok(())
 }

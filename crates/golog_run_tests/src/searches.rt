@@ -1,7 +1,7 @@
-use crate::calls::{Call, file_of, ran, ran_with};
+use crate::calls::{Setting, agent_says, joined, says};
 use golog_base::{Bytes, NoMemory};
 use std::alloc::Global;
-use std::test::Fail;
+use std::process::Abort;
 
 /// Two switches, and an action without an effect.
 const ITEMS: &str = "(fluent p () bool false) (fluent q () bool false)
@@ -11,15 +11,9 @@ const ITEMS: &str = "(fluent p () bool false) (fluent q () bool false)
 /// A switch of which nothing is known, and actions without effects.
 const UNKNOWN: &str = "(fluent u () bool) (action a ()) (action b ()) (action c ())";
 
-/// Runs this program over these items.
-fn goes(alloc: Global, items: &str, program: &str) -> Result<Call, NoMemory> {
-    let file = file_of(alloc, items, program)?;
-    ran(alloc, file.as_slice())
-}
-
 // Each program with the status and the journal of its run.
 #[test]
-fn blocks_are_searched(rt: HostRuntime) -> Result<(), Fail> {
+fn blocks_are_searched(rt: HostRuntime) -> Result<(), NoMemory> {
     let programs = [
         // A block that does not come first is not searched.
         (
@@ -95,8 +89,7 @@ fn blocks_are_searched(rt: HostRuntime) -> Result<(), Fail> {
         ),
     ];
     for (program, status, journal) in programs {
-        let call = goes(rt.alloc(), ITEMS, program)?;
-        assert_eq!(rt; call.said(), (status, journal));
+        agent_says(&rt, ITEMS, program, (status, journal))?;
     }
     Ok(())
 }
@@ -112,25 +105,31 @@ fn leaves(alloc: Global, count: u32) -> Result<Bytes, NoMemory> {
     Ok(program)
 }
 
+/// Asserts what a run of that block says.
+fn left_says<A: Abort + AllocGlobal>(rt: &A, count: u32, said: (u8, &str)) -> Result<(), NoMemory> {
+    let file = leaves(rt.alloc(), count)?;
+    let told = says(rt, "", &Setting::run(file.as_slice()), said);
+    drop(file);
+    told
+}
+
 // A step is not followed where the body's left nests above 2,048, and not taken where the block's does.
 #[test]
-fn what_a_step_leaves_may_nest_too_deep(rt: HostRuntime) -> Result<(), Fail> {
+fn what_a_step_leaves_may_nest_too_deep(rt: HostRuntime) -> Result<(), NoMemory> {
     let counts = [
         (2046, 0, "0 do a run a\n1 end done\n"),
         (2047, 16, "0 end deep\n"),
         (2048, 12, "0 end depth\n"),
     ];
     for (count, status, journal) in counts {
-        let file = leaves(rt.alloc(), count)?;
-        let call = ran(rt.alloc(), file.as_slice())?;
-        assert_eq!(rt; call.said(), (status, journal));
+        left_says(&rt, count, (status, journal))?;
     }
     Ok(())
 }
 
 // The same where what a block asks is not known.
 #[test]
-fn what_is_not_known_may_want_fuel(rt: HostRuntime) -> Result<(), Fail> {
+fn what_is_not_known_may_want_fuel(rt: HostRuntime) -> Result<(), NoMemory> {
     let programs = [
         (
             "(prio (search 2 1 (seq (test (u)) (act a))) (act c))",
@@ -144,71 +143,73 @@ fn what_is_not_known_may_want_fuel(rt: HostRuntime) -> Result<(), Fail> {
         ),
     ];
     for (program, status, journal) in programs {
-        let call = goes(rt.alloc(), UNKNOWN, program)?;
-        assert_eq!(rt; call.said(), (status, journal));
+        agent_says(&rt, UNKNOWN, program, (status, journal))?;
     }
     Ok(())
 }
 
-// While a device may still post, a program whose block would want fuel waits.
+/// A block whose parts ask for what nobody knows.
+const POSTED: &[u8] = b"(agent (device d) (fluent u () bool) (fluent v () bool) (fluent w () bool)
+    (action a ()) (action b ()) (action c ()) (exo n () d) (exo e () d)
+    (causes (e) (u) true) (causes (e) (v) false) (causes (e) (w) false)
+    (main (search 2 3 (choice (seq (test (u)) (act a)) (seq (test (v)) (act b))
+        (seq (test (w)) (act c))))))";
+
+/// A way from `a` on, which the world may block.
+const WAYS: &[u8] = b"(agent (device world) (sort place a b c) (fluent blocked (place) bool false)
+    (action go (place)) (exo calm () world) (exo block (place) world)
+    (poss (go x) (not (blocked x))) (causes (block x) (blocked x) true)
+    (main (search 4 1000 (seq (act go a) (choice (act go b) (act go c))))))";
+
+// While a device may still post, a program whose block would want fuel waits. A run that goes through is kept,
+// whatever came between; else the block is searched again.
 #[test]
-fn a_post_comes_before_the_fuel_is_wanted(rt: HostRuntime) -> Result<(), Fail> {
-    let call = ran_with(
-        rt.alloc(),
-        b"(agent (device d) (fluent u () bool) (fluent v () bool) (fluent w () bool)
-            (action a ()) (action b ()) (action c ()) (exo n () d) (exo e () d)
-            (causes (e) (u) true) (causes (e) (v) false) (causes (e) (w) false)
-            (main (search 2 3 (choice (seq (test (u)) (act a)) (seq (test (v)) (act b))
-                (seq (test (w)) (act c))))))",
-        b"[{\"name\":\"d\",\"idle\":[\"n\",\"e\",\"rest\"]}]",
-    )?;
-    let journal = "0 exo d n\n1 exo d e\n2 test run -; a\n3 rest d 0\n4 do a\n5 end done\n\
-        6 close d stopped 0\n";
-    assert_eq!(rt; call.said(), (0, journal));
+fn runs_are_kept_where_they_go_through(rt: HostRuntime) -> Result<(), NoMemory> {
+    let runs: [(&[u8], &str, &str); 3] = [
+        (
+            POSTED,
+            r#"[{"name":"d","idle":["n","e","rest"]}]"#,
+            "0 exo d n\n1 exo d e\n2 test run -; a\n3 rest d 0\n4 do a\n5 end done\n\
+            6 close d stopped 0\n",
+        ),
+        (
+            WAYS,
+            r#"[{"name":"world","idle":["calm","calm","rest"]}]"#,
+            "0 exo world calm\n1 do go(a) run go(a); go(b)\n2 exo world calm\n3 do go(b)\n\
+            4 rest world 0\n5 end done\n6 close world stopped 0\n",
+        ),
+        (
+            WAYS,
+            r#"[{"name":"world","idle":["calm","block(b)","rest"]}]"#,
+            "0 exo world calm\n1 do go(a) run go(a); go(b)\n2 exo world block(b)\n\
+            3 do go(c) run go(c)\n4 rest world 0\n5 end done\n6 close world stopped 0\n",
+        ),
+    ];
+    for (agent, scripts, journal) in runs {
+        let setting = Setting::run_with(agent, scripts.as_bytes());
+        says(&rt, scripts, &setting, (0, journal))?;
+    }
     Ok(())
 }
 
-// A run that goes through is kept, whatever came between; else the block is searched again.
-#[test]
-fn runs_are_kept_where_they_go_through(rt: HostRuntime) -> Result<(), Fail> {
-    let agent = b"(agent (device world) (sort place a b c) (fluent blocked (place) bool false)
-        (action go (place)) (exo calm () world) (exo block (place) world)
-        (poss (go x) (not (blocked x))) (causes (block x) (blocked x) true)
-        (main (search 4 1000 (seq (act go a) (choice (act go b) (act go c))))))";
-    let kept = ran_with(
-        rt.alloc(),
-        agent,
-        b"[{\"name\":\"world\",\"idle\":[\"calm\",\"calm\",\"rest\"]}]",
-    )?;
-    let journal = "0 exo world calm\n1 do go(a) run go(a); go(b)\n2 exo world calm\n3 do go(b)\n\
-        4 rest world 0\n5 end done\n6 close world stopped 0\n";
-    assert_eq!(rt; kept.said(), (0, journal));
-    let broken = ran_with(
-        rt.alloc(),
-        agent,
-        b"[{\"name\":\"world\",\"idle\":[\"calm\",\"block(b)\",\"rest\"]}]",
-    )?;
-    let anew = "0 exo world calm\n1 do go(a) run go(a); go(b)\n2 exo world block(b)\n\
-        3 do go(c) run go(c)\n4 rest world 0\n5 end done\n6 close world stopped 0\n";
-    assert_eq!(rt; broken.said(), (0, anew));
-    Ok(())
-}
-
-/// Sixteen switches that a search is to set, with so much fuel, and a clock that posts nothing. The search goes
-/// through 65,536 states.
-fn switches(alloc: Global, fuel: &str) -> Result<Bytes, NoMemory> {
-    let mut agent = Bytes::copy_of(
-        alloc,
-        b"(agent (device clock) (sort idx 1 16)
-            (fluent set_on (idx) bool false) (fluent beat () bool false)
-            (action set (idx)) (exo tick () clock)
-            (poss (set i) (not (set_on i))) (causes (set i) (set_on i) true)
-            (causes (tick) (beat) true (not (beat))) (causes (tick) (beat) false (beat))
-            (main (search 17 ",
-    )?;
-    agent.extend(fuel.as_bytes())?;
-    agent.extend(b" (seq (star (pick (i idx) (act set i))) (test (all (i idx) (set_on i)))))))")?;
-    Ok(agent)
+/// Asserts what a run of a search says that is to set sixteen switches, with so much fuel, beside a clock that posts
+/// nothing. It goes through 65,536 states.
+fn switches_say<A: Abort + AllocGlobal>(
+    rt: &A,
+    fuel: &str,
+    said: (u8, &str),
+) -> Result<(), NoMemory> {
+    let front = "(agent (device clock) (sort idx 1 16)
+        (fluent set_on (idx) bool false) (fluent beat () bool false)
+        (action set (idx)) (exo tick () clock)
+        (poss (set i) (not (set_on i))) (causes (set i) (set_on i) true)
+        (causes (tick) (beat) true (not (beat))) (causes (tick) (beat) false (beat))
+        (main (search 17 ";
+    let end = " (seq (star (pick (i idx) (act set i))) (test (all (i idx) (set_on i)))))))";
+    let agent = joined(rt.alloc(), &[front, fuel, end])?;
+    let told = says(rt, fuel, &Setting::run(agent.as_slice()), said);
+    drop(agent);
+    told
 }
 
 /// The journal of that run.
@@ -221,17 +222,11 @@ const ALL_SET: &str =
 
 // Many states are gone through, and counted to the last.
 #[test]
-fn sixteen_switches_are_set(rt: HostRuntime) -> Result<(), Fail> {
-    let agent = switches(rt.alloc(), "70000")?;
-    let call = ran(rt.alloc(), agent.as_slice())?;
-    assert_eq!(rt; call.said(), (0, ALL_SET));
-    Ok(())
+fn sixteen_switches_are_set(rt: HostRuntime) -> Result<(), NoMemory> {
+    switches_say(&rt, "70000", (0, ALL_SET))
 }
 
 #[test]
-fn sixteen_switches_want_their_fuel(rt: HostRuntime) -> Result<(), Fail> {
-    let agent = switches(rt.alloc(), "65535")?;
-    let call = ran(rt.alloc(), agent.as_slice())?;
-    assert_eq!(rt; call.said(), (13, "0 close clock ended 0\n1 end fuel\n"));
-    Ok(())
+fn sixteen_switches_want_their_fuel(rt: HostRuntime) -> Result<(), NoMemory> {
+    switches_say(&rt, "65535", (13, "0 close clock ended 0\n1 end fuel\n"))
 }

@@ -1,14 +1,11 @@
-ghost use Rattle.std.specs.Prelude.{◌≡◌, IfOk, length};
-ghost use Rattle.golog_device.specs.Slots.{standings, FreshBelow};
-
-use crate::calls::Call;
-use crate::replays::{ran_on_threads, replayed};
+use crate::asserting::same;
+use crate::calls::{Call, RUN_ON_THREADS, Setting, called};
+use crate::slots::{Maker, threaded_with};
 use golog_base::NoMemory;
 use golog_device::{Begun, Device, Idle, Served};
 use golog_script::ScriptDevice;
 use std::alloc::Global;
 use std::sync::Wait;
-use std::test::Fail;
 use std::thread;
 use std::thread::Threads;
 use std::time::{Clock, Duration};
@@ -21,13 +18,15 @@ const LONGEST: u64 = 300;
 
 /// A device that follows its script, and sleeps first in each call.
 #[derive(Drop)]
-struct Sleeper<C: Clock + Drop> {
+struct Sleeper<'a, C: Clock + Drop> {
     device: ScriptDevice,
-    clock: C,
+    clock: &'a C,
     chance: u64,
 }
 
-impl<C: Clock + Drop> Sleeper<C> {
+impl<C: Clock + Drop> Sleeper<'_, C> {
+    ghost use Rattle.std.specs.Prelude.{◌≡◌};
+
     // Sleeps for some time, by the chance.
     fn sleep(&mut self)
         ensures { self.new.device ≡ self.old.device }
@@ -37,11 +36,11 @@ impl<C: Clock + Drop> Sleeper<C> {
             .wrapping_mul(6_364_136_223_846_793_005)
             .wrapping_add(1_442_695_040_888_963_407);
         let micros = (self.chance >> 33) % LONGEST;
-        thread::sleep(&self.clock, Duration::from_micros(micros));
+        thread::sleep(self.clock, Duration::from_micros(micros));
     }
 }
 
-impl<C: Clock + Drop> Device for Sleeper<C> {
+impl<C: Clock + Drop> Device for Sleeper<'_, C> {
     ghost use Rattle.golog_script.specs.Meanings.{is_fresh, meaning_of};
 
     ghost fresh = { λ sleeper. is_fresh sleeper.device };
@@ -63,21 +62,22 @@ impl<C: Clock + Drop> Device for Sleeper<C> {
     }
 }
 
-/// Sixteen of them, fresh, that begin with different chances.
-fn sleeping_devices(rt: &HostRuntime, chance: u64) -> Result<Vec<Sleeper<HostRuntime>>, NoMemory>
-    ensures as_many { IfOk result (λ devices. length devices.items ≡ 16) }
-    ensures fresh { IfOk result (λ devices. FreshBelow 16
-        (standings ⟦<Sleeper<HostRuntime> as Device>⟧.fresh ⟦<Sleeper<HostRuntime> as Device>⟧.meaning devices.items)) }
-{
-    let mut devices = Vec::new(rt.alloc());
-    for slot in 0..16u64 {
-        devices.push(Sleeper {
-            device: ScriptDevice::new(rt.alloc())?,
-            clock: rt.clone()?,
-            chance: chance.wrapping_mul(16).wrapping_add(slot),
-        })?;
+/// Sleepers that begin with different chances.
+#[derive(Drop)]
+struct Sleepers<'a, C: Clock + Drop> {
+    clock: &'a C,
+    chance: u64,
+}
+
+impl<'a, C: Clock + Drop> Maker<Sleeper<'a, C>> for Sleepers<'a, C> {
+    fn device_at(&self, alloc: Global, slot: usize) -> Result<Sleeper<'a, C>, NoMemory> {
+        let device = ScriptDevice::new(alloc)?;
+        Ok(Sleeper {
+            device,
+            clock: self.clock,
+            chance: self.chance.wrapping_mul(16).wrapping_add(slot as u64),
+        })
     }
-    Ok(devices)
 }
 
 /// Agents whose runs depend on the times of their devices, each with the devices' scripts.
@@ -140,9 +140,9 @@ const PLAYS: [(&[u8], &[u8]); 6] = [
 ];
 
 /// The exit status of a replay of what was written.
-fn replay_status(alloc: Global, agent: &[u8], call: &Call) -> Result<u8, NoMemory> {
+fn replay_status<'a>(alloc: Global, agent: &'a [u8], call: &'a Call) -> Result<u8, NoMemory> {
     let (_status, journal) = call.said();
-    let found = replayed(alloc, agent, journal.as_bytes())?;
+    let found = called(alloc, &Setting::replay(agent, journal.as_bytes()))?;
     Ok(found.status)
 }
 
@@ -153,24 +153,19 @@ fn status_at<R: Threads + Wait + Sync>(
     chance: u64,
 ) -> Result<u8, NoMemory> {
     let (agent, scripts) = PLAYS[chance as usize % PLAYS.len()];
-    let mut devices = sleeping_devices(rt, chance)?;
-    let ran = ran_on_threads(threads, rt.alloc(), agent, scripts, devices.as_mut_slice());
-    drop(devices);
-    match ran {
-        Ok(call) => {
-            let status = replay_status(rt.alloc(), agent, &call);
-            drop(call);
-            status
-        }
-        Err(error) => Err(error),
-    }
+    let sleepers = Sleepers { clock: rt, chance };
+    let setting = Setting::roomy(RUN_ON_THREADS, ("x.agent", agent), ("x.devices", scripts));
+    let call = threaded_with(threads, rt.alloc(), &setting, &sleepers)?;
+    let status = replay_status(rt.alloc(), agent, &call);
+    drop(call);
+    status
 }
 
 #[test]
-fn runs_are_online_whatever_the_times(rt: HostRuntime) -> Result<(), Fail> {
+fn runs_are_online_whatever_the_times(rt: HostRuntime) -> Result<(), NoMemory> {
     for chance in 0..RUNS {
         let status = status_at(&rt, &rt, chance)?;
-        assert_eq!(rt; status, 0, "at {chance}");
+        same(&rt, chance, status, 0);
     }
     Ok(())
 }

@@ -1,13 +1,13 @@
-ghost use Rattle.std.specs.Prelude.{◌≡◌, ◌≤◌, true, IfOk, length};
-ghost use Rattle.golog_device.specs.Slots.{standings, FreshBelow};
+ghost use Rattle.std.specs.Prelude.{◌≡◌, true, IfOk};
 ghost use Rattle.golog_device.specs.Tables.{is_fresh};
 
-use crate::calls::{Call, RUN, called_by, file_of, files_of};
+use crate::asserting::same;
+use crate::calls::{Call, Setting, file_of, has_said};
 use crate::devices::LIFT;
-use golog_base::{Bytes, List, MemSink, NoMemory};
-use golog_device::{Begun, Device, Idle, Served, TableDevice};
+use crate::slots::{Maker, called_with};
+use golog_base::{Bytes, List, NoMemory, both};
+use golog_device::{Begun, Idle, Served, TableDevice};
 use std::alloc::Global;
-use std::test::Fail;
 
 /// How many bytes a journal may have.
 const ROOM: u32 = 2_000_000;
@@ -21,98 +21,109 @@ fn idle_of(alloc: Global, word: &str) -> Result<Idle, NoMemory> {
     })
 }
 
-/// The values of these texts, one a line.
-fn values_of(alloc: Global, texts: &str) -> Result<List<Served>, NoMemory> {
-    let mut values = List::new(alloc);
-    for text in texts.lines() {
-        values.push(Served::Value(Bytes::copy_of(alloc, text.as_bytes())?))?;
+fn push_idles(alloc: Global, idles: &mut List<Idle>, words: &str) -> Result<(), NoMemory> {
+    for word in words.lines() {
+        idles.push(idle_of(alloc, word)?)?;
     }
-    Ok(values)
+    Ok(())
 }
 
-/// What the panel and the lift answer: how the panel begins, and what it does by these words, one a line, so many
-/// times; and the values that the lift answers, one a line, whatever it is asked.
-#[derive(Drop)]
-struct Wild<'a> {
-    begun: Begun,
-    words: &'a str,
-    times: u32,
-    values: &'a str,
-}
-
-/// A device that begins so, answers these values, and does what these words say, so many times.
-fn table_of(
-    alloc: Global,
-    begun: Begun,
-    values: &str,
-    words: &str,
-    times: u32,
-) -> Result<TableDevice, NoMemory>
-    ensures { IfOk result (λ device. is_fresh device ≡ true) }
-{
+/// What these words say, one a line, so many times.
+fn idles_of(alloc: Global, words: &str, times: u32) -> Result<List<Idle>, NoMemory> {
     let mut idles = List::new(alloc);
     for _ in 0..times {
-        for word in words.lines() {
-            idles.push(idle_of(alloc, word)?)?;
+        push_idles(alloc, &mut idles, words)?;
+    }
+    Ok(idles)
+}
+
+/// What is answered by this line: it, or nothing where it is `silent`.
+fn answer_of(alloc: Global, line: &str) -> Result<Served, NoMemory> {
+    Ok(match line {
+        "silent" => Served::Nothing,
+        _ => Served::Value(Bytes::copy_of(alloc, line.as_bytes())?),
+    })
+}
+
+fn answers_of(alloc: Global, lines: &str) -> Result<List<Served>, NoMemory> {
+    let mut answers = List::new(alloc);
+    for line in lines.lines() {
+        answers.push(answer_of(alloc, line)?)?;
+    }
+    Ok(answers)
+}
+
+/// A table in words: how a device begins, what it answers whatever it is asked, one a line, nothing where the line is
+/// `silent`, and what it does without a command, one a line, so many times.
+#[derive(Clone, Copy)]
+pub struct Table<'a> {
+    pub begun: Begun,
+    pub answers: &'a str,
+    pub words: &'a str,
+    pub times: u32,
+}
+
+impl<'a> Table<'a> {
+    /// The table of a device that begins, and does each of these words once.
+    pub fn of(answers: &'a str, words: &'a str) -> Table<'a> {
+        Table {
+            begun: Begun::Ready,
+            answers,
+            words,
+            times: 1,
         }
     }
-    TableDevice::new(alloc, begun, values_of(alloc, values)?, idles)
-}
 
-/// The device of a slot: the panel, the lift, or another, which closes.
-fn device_at(alloc: Global, wild: &Wild<'_>, slot: usize) -> Result<TableDevice, NoMemory>
-    ensures { IfOk result (λ device. is_fresh device ≡ true) }
-{
-    match slot {
-        0 => table_of(alloc, wild.begun, "", wild.words, wild.times),
-        1 => table_of(alloc, Begun::Ready, wild.values, "rest", 1),
-        _ => table_of(alloc, Begun::Ready, "", "", 0),
+    /// A device with this table.
+    pub fn device(&self, alloc: Global) -> Result<TableDevice, NoMemory>
+        ensures { IfOk result (λ device. is_fresh device ≡ true) }
+    {
+        let answers = answers_of(alloc, self.answers);
+        let (answers, idles) = both(answers, idles_of(alloc, self.words, self.times))?;
+        TableDevice::new(alloc, self.begun, answers, idles)
     }
 }
 
-/// Sixteen of them.
-fn wild_devices(alloc: Global, wild: &Wild<'_>) -> Result<Vec<TableDevice>, NoMemory>
-    ensures as_many { IfOk result (λ devices. length devices.items ≡ 16) }
-    ensures fresh { IfOk result (λ devices. FreshBelow 16
-        (standings ⟦<TableDevice as Device>⟧.fresh ⟦<TableDevice as Device>⟧.meaning devices.items)) }
-{
-    let mut devices = Vec::new(alloc);
-    for slot in 0..16usize {
-        let device = device_at(alloc, wild, slot)?;
-        devices.push(device)?;
+// Each slot has the same table.
+impl Maker<TableDevice> for Table<'_> {
+    fn device_at(&self, alloc: Global, _slot: usize) -> Result<TableDevice, NoMemory> {
+        self.device(alloc)
     }
-    Ok(devices)
 }
 
-/// Runs the lift's agent with this program over these devices.
-fn played_over(alloc: Global, program: &str, devices: &mut [TableDevice]) -> Result<Call, NoMemory>
-    requires boxes { 16 ≤ length devices.old }
-    requires fresh { FreshBelow 16
-        (standings ⟦<TableDevice as Device>⟧.fresh ⟦<TableDevice as Device>⟧.meaning devices.old) }
-{
-    let file = file_of(alloc, LIFT, program)?;
-    let files = files_of(alloc, &[("x.agent", file.as_slice())], &[]);
-    drop(file);
-    let out = MemSink::new(alloc, ROOM, List::new(alloc));
-    called_by(alloc, &RUN, files, out, devices)
+/// A panel and a lift with these tables, and others, which close.
+#[derive(Clone, Copy)]
+struct Wild<'a> {
+    panel: Table<'a>,
+    lift: Table<'a>,
 }
 
-/// The same over such wild devices.
+impl Maker<TableDevice> for Wild<'_> {
+    fn device_at(&self, alloc: Global, slot: usize) -> Result<TableDevice, NoMemory> {
+        let table = match slot {
+            0 => self.panel,
+            1 => self.lift,
+            _ => Table::of("", ""),
+        };
+        table.device(alloc)
+    }
+}
+
+/// Runs the lift's agent with this program over such devices.
 fn played(alloc: Global, program: &str, wild: &Wild<'_>) -> Result<Call, NoMemory> {
-    match wild_devices(alloc, wild) {
-        Ok(mut devices) => {
-            let call = played_over(alloc, program, devices.as_mut_slice());
-            drop(devices);
-            call
-        }
-        Err(NoMemory) => Err(NoMemory),
-    }
+    let file = file_of(alloc, LIFT, program)?;
+    let setting = Setting {
+        room: ROOM,
+        ..Setting::run(file.as_slice())
+    };
+    let call = called_with(alloc, &setting, wild);
+    drop(file);
+    call
 }
 
 // A program, how the panel begins and what it does, what the lift answers, with the status and the journal.
 #[test]
-fn wild_devices_are_closed(rt: HostRuntime) -> Result<(), Fail> {
-    let alloc = rt.alloc();
+fn wild_devices_are_closed(rt: HostRuntime) -> Result<(), NoMemory> {
     let rows = [
         // A panel that refuses its script, or wants memory.
         (
@@ -171,13 +182,14 @@ fn wild_devices_are_closed(rt: HostRuntime) -> Result<(), Fail> {
     ];
     for (program, begun, words, values, status, journal) in rows {
         let wild = Wild {
-            begun,
-            words,
-            times: 1,
-            values,
+            panel: Table {
+                begun,
+                ..Table::of("", words)
+            },
+            lift: Table::of(values, "rest"),
         };
-        let call = played(alloc, program, &wild)?;
-        assert_eq!(rt; call.said(), (status, journal), "{program} {words}");
+        let call = played(rt.alloc(), program, &wild);
+        has_said(&rt, words, call, (status, journal))?;
     }
     Ok(())
 }
@@ -186,25 +198,35 @@ fn wild_devices_are_closed(rt: HostRuntime) -> Result<(), Fail> {
 fn full_journal(alloc: Global) -> Result<String, NoMemory> {
     let mut journal = String::from_str(alloc, "0 exo panel push(1)\n1 rest lift 0\n")?;
     for place in 2..65_536u32 {
-        journal.push_str(format!(in alloc; "{place} exo panel push(1)\n")?.as_str())?;
+        push_post(alloc, &mut journal, place)?;
     }
     journal.push_str("65536 end full\n65537 close panel stopped 0\n65538 close lift stopped 0\n")?;
     Ok(journal)
 }
 
-#[test]
-fn a_panel_posts_until_the_journal_is_full(rt: HostRuntime) -> Result<(), Fail> {
-    let alloc = rt.alloc();
+fn push_post(alloc: Global, journal: &mut String, place: u32) -> Result<(), NoMemory> {
+    let line = format!(in alloc; "{place} exo panel push(1)\n")?;
+    journal.push_str(line.as_str())?;
+    Ok(())
+}
+
+/// The status of a run in which the panel posts until the journal is full, and whether that is its journal.
+fn played_full(alloc: Global) -> Result<(u8, bool), NoMemory> {
     let wild = Wild {
-        begun: Begun::Ready,
-        words: "push(1)",
-        times: 65_540,
-        values: "",
+        panel: Table {
+            times: 65_540,
+            ..Table::of("", "push(1)")
+        },
+        lift: Table::of("", "rest"),
     };
-    let call = played(alloc, "(test (quitting))", &wild)?;
-    let wanted = full_journal(alloc)?;
+    let call = played(alloc, "(test (quitting))", &wild);
+    let (call, wanted) = both(call, full_journal(alloc))?;
     let (status, journal) = call.said();
-    assert_eq!(rt; status, 15);
-    assert!(rt; journal == wanted.as_str());
+    Ok((status, journal == wanted.as_str()))
+}
+
+#[test]
+fn a_panel_posts_until_the_journal_is_full(rt: HostRuntime) -> Result<(), NoMemory> {
+    same(&rt, "full", played_full(rt.alloc())?, (15, true));
     Ok(())
 }

@@ -1,10 +1,19 @@
-use crate::threads::called_with_scripts;
-use std::test::Fail;
+use crate::calls::{Call, NO_FILE, Setting, called_on_threads, has_said};
+use golog_base::NoMemory;
+use std::sync::Wait;
+use std::thread::Threads;
 
-const AGENT: &[u8] = b"(agent (main nil))";
+/// What comes of a call with these words over an agent whose program is empty.
+fn called_by_words<'a, R: Threads + Wait + Sync + AllocGlobal>(
+    rt: &R,
+    words: &'a [&'a str],
+) -> Result<Call, NoMemory> {
+    let agent: (&str, &[u8]) = ("x.agent", b"(agent (main nil))");
+    called_on_threads(rt, rt.alloc(), &Setting::of(words, agent, NO_FILE))
+}
 
 #[test]
-fn other_words_are_no_command(rt: HostRuntime) -> Result<(), Fail> {
+fn other_words_are_no_command(rt: HostRuntime) -> Result<(), NoMemory> {
     let lines: [&[&str]; 16] = [
         &[],
         &["walk"],
@@ -25,15 +34,20 @@ fn other_words_are_no_command(rt: HostRuntime) -> Result<(), Fail> {
         &["--version"],
     ];
     for words in lines {
-        let call = called_with_scripts(&rt, rt.alloc(), words, AGENT)?;
-        assert_eq!(rt; call.said(), (2, "words refused\n"), "{words:?}");
+        let last = words.last().copied().unwrap_or("");
+        has_said(
+            &rt,
+            last,
+            called_by_words(&rt, words),
+            (2, "words refused\n"),
+        )?;
     }
     Ok(())
 }
 
 // Each command is served by the call that is handed a runtime.
 #[test]
-fn commands_are_served(rt: HostRuntime) -> Result<(), Fail> {
+fn commands_are_served(rt: HostRuntime) -> Result<(), NoMemory> {
     let lines: [(&[&str], u8, &str); 6] = [
         (&["run", "x.agent"], 0, "0 end done\n"),
         (&["run", "--inline", "x.agent"], 0, "0 end done\n"),
@@ -55,8 +69,7 @@ fn commands_are_served(rt: HostRuntime) -> Result<(), Fail> {
         ),
     ];
     for (words, status, said) in lines {
-        let call = called_with_scripts(&rt, rt.alloc(), words, AGENT)?;
-        assert_eq!(rt; call.said(), (status, said), "{words:?}");
+        has_said(&rt, said, called_by_words(&rt, words), (status, said))?;
     }
     Ok(())
 }

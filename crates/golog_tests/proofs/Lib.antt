@@ -4,4 +4,3 @@ pub mod Grounded
 pub mod Evaluated
 pub mod Searched
 pub mod Unblocked
-pub mod Lamps

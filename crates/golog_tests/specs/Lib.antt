@@ -1,2 +1,1 @@
 pub mod Blockless
-pub mod Lamps

@@ -1,4 +1,9 @@
-use golog_tree::Cond;
+ghost use Rattle.std.specs.Prelude.{◌<◌, IfSome, length};
+ghost use Rattle.golog_tree.specs.Ground.{ground_actions};
+ghost use Rattle.golog_semantics.specs.WellFormed.{WellFormed};
+
+use golog_ground::read_action;
+use golog_tree::{Agent, Cond};
 
 /// A lamp and a bell, which may be rung where the lamp is on.
 pub const LAMP: &[u8] = b"(agent
@@ -72,5 +77,16 @@ pub fn is_first_fluent(cond: &Cond) -> bool {
     match cond {
         Cond::Is { fluent, args } => *fluent == 1 && args.is_empty(),
         _ => false,
+    }
+}
+
+/// The ground action of this text, by its number.
+pub fn action_of(agent: &Agent, text: &[u8]) -> Option<u32>
+    requires { WellFormed agent.now }
+    ensures { IfSome result (λ action. action < length (ground_actions agent.now)) }
+{
+    match read_action(agent, text) {
+        Some(action) => Some(action),
+        None => None,
     }
 }

@@ -1,6 +1,7 @@
 ghost use Rattle.golog_semantics.specs.WellFormed.{WellFormed};
 
 use crate::agents::BELL;
+use crate::asserting::same;
 use golog_base::{Boxed, NoMemory};
 use golog_file::read_agent;
 use golog_tree::{Agent, Prog};
@@ -42,5 +43,5 @@ fn bell_finds_blocks(alloc: Global) -> bool {
 
 #[test]
 fn blocks_at_the_front_are_found(rt: HostRuntime) {
-    assert!(rt; bell_finds_blocks(rt.alloc()));
+    same(&rt, "blocks", bell_finds_blocks(rt.alloc()), true);
 }

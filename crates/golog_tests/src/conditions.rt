@@ -1,6 +1,7 @@
 ghost use Rattle.golog_semantics.specs.WellFormed.{WellFormed};
 
 use crate::agents::LAMP;
+use crate::asserting::same;
 use golog_check::{CheckFault, SORT_CLASH, check_condition};
 use golog_file::read_agent;
 use golog_tree::{Agent, Cond, DraftArg, DraftCond, DraftTerm};
@@ -61,5 +62,5 @@ fn lamp_checks_conditions(alloc: Global) -> [bool; 2] {
 
 #[test]
 fn conditions_are_checked(rt: HostRuntime) {
-    assert_eq!(rt; lamp_checks_conditions(rt.alloc()), [true; 2]);
+    same(&rt, "lamp", lamp_checks_conditions(rt.alloc()), [true; 2]);
 }

@@ -1,6 +1,7 @@
 ghost use Rattle.golog_semantics.specs.SortLaws.{AreInSorts};
 ghost use Rattle.golog_semantics.specs.WellFormed.{WellFormed};
 
+use crate::asserting::same;
 use golog_base::NoMemory;
 use golog_file::read_agent;
 use golog_progress::{State, start};
@@ -138,14 +139,18 @@ fn all_tell(alloc: Global, file: &[u8], wanted: Told) -> bool {
 #[test]
 fn a_heavy_program_steps_whatever_its_fuel(rt: HostRuntime) {
     let scant = ([Told::WantsFuel, Told::WantsFuel, Told::Begins], Some(true));
-    assert!(rt; told_of(rt.alloc(), SCANT) == scant);
-    assert!(rt; all_tell(rt.alloc(), AMPLE, Told::Begins));
+    same(&rt, "scant", told_of(rt.alloc(), SCANT) == scant, true);
 }
 
 #[test]
-fn a_program_ends_or_is_blocked(rt: HostRuntime) {
-    assert!(rt; all_tell(rt.alloc(), ENDED, Told::Ends));
-    assert!(rt; all_tell(rt.alloc(), UNKNOWN, Told::Is(Blocked::Unknown)));
-    assert!(rt; all_tell(rt.alloc(), STUCK, Told::Is(Blocked::Stuck)));
-    assert!(rt; all_tell(rt.alloc(), SHALLOW, Told::Is(Blocked::Depth)));
+fn a_program_goes_on_ends_or_is_blocked(rt: HostRuntime) {
+    for (file, wanted) in [
+        (AMPLE, Told::Begins),
+        (ENDED, Told::Ends),
+        (UNKNOWN, Told::Is(Blocked::Unknown)),
+        (STUCK, Told::Is(Blocked::Stuck)),
+        (SHALLOW, Told::Is(Blocked::Depth)),
+    ] {
+        same(&rt, file, all_tell(rt.alloc(), file, wanted), true);
+    }
 }

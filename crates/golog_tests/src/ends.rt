@@ -1,6 +1,7 @@
 ghost use Rattle.golog_semantics.specs.WellFormed.{WellFormed};
 
 use crate::agents::{BELL, is_first_fluent};
+use crate::asserting::same;
 use golog_file::read_agent;
 use golog_tree::{Agent, Cond};
 use golog_ways::end_cond;
@@ -52,5 +53,5 @@ fn bell_ends_unless_awaited(alloc: Global) -> bool {
 
 #[test]
 fn ends_have_a_condition(rt: HostRuntime) {
-    assert!(rt; bell_ends_unless_awaited(rt.alloc()));
+    same(&rt, "bell", bell_ends_unless_awaited(rt.alloc()), true);
 }

@@ -3,6 +3,7 @@ ghost use Rattle.golog_semantics.specs.WellFormed.{WellFormed};
 ghost use Rattle.golog_ways.specs.FrontBlock.{has_front_block as block_in_front};
 
 use crate::agents::{LAMP, is_first_fluent};
+use crate::asserting::same;
 use golog_file::read_agent;
 use golog_tree::{Agent, Cond, Label, Prog};
 use golog_ways::{Front, fronts, has_front_block};
@@ -69,5 +70,5 @@ fn lamp_has_two_steps(alloc: Global) -> bool {
 
 #[test]
 fn steps_have_a_condition(rt: HostRuntime) {
-    assert!(rt; lamp_has_two_steps(rt.alloc()));
+    same(&rt, "lamp", lamp_has_two_steps(rt.alloc()), true);
 }

@@ -1,7 +1,8 @@
 ghost use Rattle.golog_semantics.specs.Reports.{IsReport};
 ghost use Rattle.golog_semantics.specs.WellFormed.{WellFormed};
 
-use golog_base::{Bytes, NoMemory};
+use crate::asserting::same;
+use golog_base::NoMemory;
 use golog_file::read_agent;
 use golog_semantics::Report;
 use golog_text::{TextFault, read_journal, write_journal};
@@ -18,25 +19,13 @@ const ARM: &[u8] = b"(agent
     (senses (look) (opened)) (senses (weigh) (height))
     (main nil))";
 
-/// What comes of a text: the number of entries that it says, or the code and the line of its refusal.
+/// What comes of a text: the number of entries that it says, and whether it is their text; or the code and the line of
+/// its refusal.
 #[derive(Clone, Copy, Debug, PartialEq, Eq)]
 enum Read {
-    Entries(usize),
+    Entries(usize, bool),
     Refused(u8, u32),
     NoMemory,
-}
-
-fn read_of(alloc: Global, agent: &Agent, text: &[u8]) -> Read
-    requires { WellFormed agent.now }
-{
-    let read = read_journal(alloc, agent, text);
-    let answer = match &read {
-        Ok(report) => Read::Entries(report.entries.len()),
-        Err(TextFault::Refused { line, why }) => Read::Refused(*why, *line),
-        Err(TextFault::Memory) => Read::NoMemory,
-    };
-    drop(read);
-    answer
 }
 
 /// Whether the report has this text.
@@ -50,34 +39,28 @@ fn is_written(alloc: Global, agent: &Agent, report: &Report, text: &[u8]) -> boo
     }
 }
 
-/// Whether the text comes back from its report.
-fn is_written_back(alloc: Global, agent: &Agent, text: &[u8]) -> bool
+fn read_of(alloc: Global, agent: &Agent, text: &[u8]) -> Read
     requires { WellFormed agent.now }
 {
     let read = read_journal(alloc, agent, text);
     let answer = match &read {
-        Ok(report) => is_written(alloc, agent, report, text),
-        Err(_fault) => false,
+        Ok(report) => {
+            let is_back = is_written(alloc, agent, report, text);
+            Read::Entries(report.entries.len(), is_back)
+        }
+        Err(TextFault::Refused { line, why }) => Read::Refused(*why, *line),
+        Err(TextFault::Memory) => Read::NoMemory,
     };
     drop(read);
     answer
 }
 
+/// The same of the agent of `ARM`.
 fn read_by_arm(alloc: Global, text: &[u8]) -> Read {
     let read = read_agent(alloc, ARM);
     let answer = match &read {
         Ok(agent) => read_of(alloc, agent, text),
         Err(_fault) => Read::NoMemory,
-    };
-    drop(read);
-    answer
-}
-
-fn is_back_by_arm(alloc: Global, text: &[u8]) -> bool {
-    let read = read_agent(alloc, ARM);
-    let answer = match &read {
-        Ok(agent) => is_written_back(alloc, agent, text),
-        Err(_fault) => false,
     };
     drop(read);
     answer
@@ -98,124 +81,98 @@ const WHOLE: &[u8] = b"0 do go(-1)
 11 close panel ended 0
 ";
 
-#[test]
-fn each_line_is_read_and_written_back(rt: HostRuntime) {
-    assert_eq!(rt; read_by_arm(rt.alloc(), WHOLE), Read::Entries(12));
-    assert!(rt; is_back_by_arm(rt.alloc(), WHOLE));
-    assert_eq!(rt; read_by_arm(rt.alloc(), b""), Read::Entries(0));
-}
-
-#[test]
-fn a_line_has_a_body_and_a_line_feed(rt: HostRuntime) {
-    for line in [
-        b"\n".as_slice(),
-        b"0 test",
-        b"0 test\r\n",
-        b"0 test \n",
-        b"0  test\n",
-        b" 0 test\n",
-        b"00 test\n",
-        b"x test\n",
-        b"0\n",
-        b"0 do ?\n",
-        b"0 do -\n",
-        b"0 do a()\n",
-        b"0 do a(01)\n",
-        b"0 do a(-0)\n",
-        b"0 do a(b\n",
-        b"0 do a(b)c\n",
-        b"0 do a @\n",
-        b"0 do \xe9\n",
-        b"0 rest arm 01\n",
-        b"0 rest arm -1\n",
-        b"0 test run\n",
-        b"0 test run \n",
-        b"0 test run -; \n",
-        b"0 test run -;-\n",
-        b"0 test @arm\n",
-        b"0 sense arm 0 true against\n",
-        b"0 close arm gone 0\n",
-        b"0 end fine\n",
-    ] {
-        assert_eq!(rt; read_by_arm(rt.alloc(), line), Read::Refused(50, 0));
-    }
-    assert_eq!(rt;
-        read_by_arm(rt.alloc(), b"0 test\n1 test"),
-        Read::Refused(50, 1)
-    );
-}
-
-#[test]
-fn numbers_are_places_and_small(rt: HostRuntime) {
-    for line in [
-        b"5 do zz\n".as_slice(),
-        b"1234567890123456789012345678901234567890 test\n",
-        b"0 sense d 9999999 zz\n",
-        b"0 rest zz 1048576\n",
-        b"0 close zz bad 18446744073709551616\n",
-    ] {
-        assert_eq!(rt; read_by_arm(rt.alloc(), line), Read::Refused(51, 0));
-    }
-    assert_eq!(rt;
-        read_by_arm(rt.alloc(), b"0 test\n0 test\n"),
-        Read::Refused(51, 1)
-    );
-}
-
-#[test]
-fn names_are_the_agents(rt: HostRuntime) {
-    for line in [
-        b"0 do zz\n".as_slice(),
-        b"0 do go(4)\n",
-        b"0 do go(1,1,1,1)\n",
-        b"0 do push(1)\n",
-        b"0 test run push(1)\n",
-        b"0 test run -; zz\n",
-        b"0 exo panel go(1)\n",
-        b"0 exo zz push(1)\n",
-        b"0 do go(1) @arm\n",
-        b"0 do look\n",
-        b"0 do look @panel\n",
-        b"0 sense arm 7 zz\n",
-        b"0 sense arm 7 true against zz\n",
+/// Texts that are refused, each with the code and the line.
+const REFUSED: [(&[u8], u8, u32); 55] = [
+    // A line has a body and a line feed.
+    (b"\n", 50, 0),
+    (b"0 test", 50, 0),
+    (b"0 test\r\n", 50, 0),
+    (b"0 test \n", 50, 0),
+    (b"0  test\n", 50, 0),
+    (b" 0 test\n", 50, 0),
+    (b"00 test\n", 50, 0),
+    (b"x test\n", 50, 0),
+    (b"0\n", 50, 0),
+    (b"0 do ?\n", 50, 0),
+    (b"0 do -\n", 50, 0),
+    (b"0 do a()\n", 50, 0),
+    (b"0 do a(01)\n", 50, 0),
+    (b"0 do a(-0)\n", 50, 0),
+    (b"0 do a(b\n", 50, 0),
+    (b"0 do a(b)c\n", 50, 0),
+    (b"0 do a @\n", 50, 0),
+    (b"0 do \xe9\n", 50, 0),
+    (b"0 rest arm 01\n", 50, 0),
+    (b"0 rest arm -1\n", 50, 0),
+    (b"0 test run\n", 50, 0),
+    (b"0 test run \n", 50, 0),
+    (b"0 test run -; \n", 50, 0),
+    (b"0 test run -;-\n", 50, 0),
+    (b"0 test @arm\n", 50, 0),
+    (b"0 sense arm 0 true against\n", 50, 0),
+    (b"0 close arm gone 0\n", 50, 0),
+    (b"0 end fine\n", 50, 0),
+    (b"0 test\n1 test", 50, 1),
+    // Numbers are places, and small.
+    (b"5 do zz\n", 51, 0),
+    (b"1234567890123456789012345678901234567890 test\n", 51, 0),
+    (b"0 sense d 9999999 zz\n", 51, 0),
+    (b"0 rest zz 1048576\n", 51, 0),
+    (b"0 close zz bad 18446744073709551616\n", 51, 0),
+    (b"0 test\n0 test\n", 51, 1),
+    // Names are the agent's.
+    (b"0 do zz\n", 52, 0),
+    (b"0 do go(4)\n", 52, 0),
+    (b"0 do go(1,1,1,1)\n", 52, 0),
+    (b"0 do push(1)\n", 52, 0),
+    (b"0 test run push(1)\n", 52, 0),
+    (b"0 test run -; zz\n", 52, 0),
+    (b"0 exo panel go(1)\n", 52, 0),
+    (b"0 exo zz push(1)\n", 52, 0),
+    (b"0 do go(1) @arm\n", 52, 0),
+    (b"0 do look\n", 52, 0),
+    (b"0 do look @panel\n", 52, 0),
+    (b"0 sense arm 7 zz\n", 52, 0),
+    (b"0 sense arm 7 true against zz\n", 52, 0),
+    (
         b"0 rest an-arm-with-a-name-of-more-than-31-bytes 0\n",
-    ] {
-        assert_eq!(rt; read_by_arm(rt.alloc(), line), Read::Refused(52, 0));
-    }
-}
+        52,
+        0,
+    ),
+    // Results are of earlier commands.
+    (b"0 do look @arm\n1 sense arm 1 true\n", 53, 1),
+    (b"0 do look @arm\n1 sense panel 0 true\n", 53, 1),
+    (b"0 do look @arm\n1 sense arm 0 3\n", 53, 1),
+    (b"0 do look @arm\n1 sense arm 0 true against 3\n", 53, 1),
+    (b"0 do look @arm\n1 sense arm 2 true\n", 53, 1),
+    (b"0 do lift(1,1) @arm\n1 sense arm 0 true\n", 53, 1),
+];
 
 #[test]
-fn results_are_of_earlier_commands(rt: HostRuntime) {
-    for line in [
-        b"1 sense arm 1 true\n".as_slice(),
-        b"1 sense panel 0 true\n",
-        b"1 sense arm 0 3\n",
-        b"1 sense arm 0 true against 3\n",
-        b"1 sense arm 2 true\n",
-    ] {
-        assert_eq!(rt; read_after_look(rt.alloc(), line), Read::Refused(53, 1));
+fn lines_are_read_or_refused(rt: HostRuntime) {
+    for (text, code, line) in REFUSED {
+        same(
+            &rt,
+            text,
+            read_by_arm(rt.alloc(), text),
+            Read::Refused(code, line),
+        );
     }
-    assert_eq!(rt;
-        read_after_look(rt.alloc(), b"1 sense arm 0 true against true\n"),
-        Read::Entries(2)
-    );
-    assert_eq!(rt;
-        read_by_arm(rt.alloc(), b"0 do lift(1,1) @arm\n1 sense arm 0 true\n"),
-        Read::Refused(53, 1)
-    );
-}
-
-/// What comes of a line behind the look of the arm.
-fn read_after_look(alloc: Global, line: &[u8]) -> Read {
-    match text_after_look(alloc, line) {
-        Ok(text) => read_by_arm(alloc, text.as_slice()),
-        Err(NoMemory) => Read::NoMemory,
+    let entries: [(&[u8], usize, bool); 3] = [
+        (b"", 0, true),
+        (WHOLE, 12, true),
+        (
+            b"0 do look @arm\n1 sense arm 0 true against true\n",
+            2,
+            false,
+        ),
+    ];
+    for (text, count, is_back) in entries {
+        same(
+            &rt,
+            text,
+            read_by_arm(rt.alloc(), text),
+            Read::Entries(count, is_back),
+        );
     }
-}
-
-fn text_after_look(alloc: Global, line: &[u8]) -> Result<Bytes, NoMemory> {
-    let mut text = Bytes::new(alloc);
-    text.extend(b"0 do look @arm\n")?;
-    text.extend(line)?;
-    Ok(text)
 }

@@ -4,6 +4,8 @@
 #[cfg(test)]
 mod agents;
 #[cfg(test)]
+mod asserting;
+#[cfg(test)]
 mod blockless;
 #[cfg(test)]
 mod blocks;
@@ -17,8 +19,6 @@ mod ends;
 mod fronts;
 #[cfg(test)]
 mod journals;
-#[cfg(test)]
-mod known;
 #[cfg(test)]
 mod limits;
 #[cfg(test)]

@@ -1,3 +1,4 @@
+use crate::asserting::same;
 use golog_base::NoMemory;
 use golog_file::{AgentFault, read_agent};
 use std::alloc::Global;
@@ -102,11 +103,8 @@ fn codes_at(alloc: Global, limit: &Limit) -> Result<(u8, u8), NoMemory> {
 
 #[test]
 fn limits_are_reached_and_not_passed(rt: HostRuntime) {
-    let alloc = rt.alloc();
     for limit in &LIMITS {
-        match codes_at(alloc, limit) {
-            Ok(codes) => assert_eq!(rt; codes, (0, limit.code)),
-            Err(NoMemory) => assert!(rt; false),
-        }
+        let codes = codes_at(rt.alloc(), limit).ok();
+        same(&rt, limit.part, codes, Some((0, limit.code)));
     }
 }

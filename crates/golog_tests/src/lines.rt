@@ -3,6 +3,7 @@ ghost use Rattle.golog_semantics.specs.Reports.{IsReport};
 ghost use Rattle.golog_semantics.specs.SortLaws.{AreInSorts};
 ghost use Rattle.golog_semantics.specs.WellFormed.{WellFormed};
 
+use crate::asserting::same;
 use golog_base::{Bytes, List, NoMemory};
 use golog_file::read_agent;
 use golog_progress::{State, start};
@@ -127,5 +128,5 @@ fn wide_is_filled(alloc: Global) -> [bool; 4] {
 
 #[test]
 fn the_longest_line_fits_and_the_next_stands_alone(rt: HostRuntime) {
-    assert_eq!(rt; wide_is_filled(rt.alloc()), [true; 4]);
+    same(&rt, "lines", wide_is_filled(rt.alloc()), [true; 4]);
 }

@@ -1,6 +1,7 @@
 ghost use Rattle.golog_semantics.specs.WellFormed.{WellFormed};
 
 use crate::agents::BELL;
+use crate::asserting::same;
 use golog_base::NoMemory;
 use golog_file::read_agent;
 use golog_progress::start;
@@ -31,43 +32,33 @@ pub fn may_end(alloc: Global, agent: &Agent, mode: Mode) -> Option<bool>
     }
 }
 
-/// Whether the program of `BELL` has a step at the start, in this mode.
-fn bell_has_step(alloc: Global, mode: Mode) -> Option<bool> {
+/// Whether the program of `BELL` has a step at the start, and whether it may end there, in this mode.
+fn bell_goes(alloc: Global, mode: Mode) -> [Option<bool>; 2] {
     let read = read_agent(alloc, BELL);
     let answer = match &read {
-        Ok(agent) => has_step(alloc, agent, mode),
-        Err(_fault) => None,
-    };
-    drop(read);
-    answer
-}
-
-/// Whether the program of `BELL` may end at the start, in this mode.
-fn bell_may_end(alloc: Global, mode: Mode) -> Option<bool> {
-    let read = read_agent(alloc, BELL);
-    let answer = match &read {
-        Ok(agent) => may_end(alloc, agent, mode),
-        Err(_fault) => None,
+        Ok(agent) => [has_step(alloc, agent, mode), may_end(alloc, agent, mode)],
+        Err(_fault) => [None; 2],
     };
     drop(read);
     answer
 }
 
 #[test]
-fn a_step_that_is_not_certain_may_be(rt: HostRuntime) {
-    assert_eq!(rt; bell_has_step(rt.alloc(), Mode::Must), Some(false));
-    assert_eq!(rt; bell_has_step(rt.alloc(), Mode::Near), Some(true));
-}
-
-#[test]
-fn an_end_that_is_not_certain_may_be(rt: HostRuntime) {
-    assert_eq!(rt; bell_may_end(rt.alloc(), Mode::Must), Some(false));
-    assert_eq!(rt; bell_may_end(rt.alloc(), Mode::Near), Some(true));
+fn what_is_not_certain_may_be(rt: HostRuntime) {
+    for (mode, goes) in [(Mode::Must, false), (Mode::Near, true)] {
+        same(&rt, mode, bell_goes(rt.alloc(), mode), [Some(goes); 2]);
+    }
 }
 
 #[test]
 fn modes_are_turned(rt: HostRuntime) {
-    assert!(rt; holds(Mode::May, Truth::Unknown) && !holds(Mode::Must, Truth::Unknown));
-    assert!(rt; holds(Mode::Must, Truth::Yes) && !holds(Mode::Near, Truth::No));
-    assert!(rt; flip(Mode::Must) == Mode::May && flip(Mode::Near) == Mode::Must);
+    let unknown = [
+        holds(Mode::May, Truth::Unknown),
+        holds(Mode::Must, Truth::Unknown),
+    ];
+    same(&rt, "unknown", unknown, [true, false]);
+    let known = [holds(Mode::Must, Truth::Yes), holds(Mode::Near, Truth::No)];
+    same(&rt, "known", known, [true, false]);
+    let turned = flip(Mode::Must) == Mode::May && flip(Mode::Near) == Mode::Must;
+    same(&rt, "turned", turned, true);
 }

@@ -1,6 +1,7 @@
 ghost use Rattle.golog_semantics.specs.WellFormed.{WellFormed};
 
 use crate::agents::LAMP;
+use crate::asserting::same;
 use golog_base::{Boxed, NoMemory};
 use golog_file::read_agent;
 use golog_memo::{Nodes, Seen, is_same_prog};
@@ -49,7 +50,7 @@ fn has_numbers(alloc: Global) -> Result<bool, NoMemory> {
 
 #[test]
 fn programs_have_numbers(rt: HostRuntime) {
-    assert_eq!(rt; has_numbers(rt.alloc()).ok(), Some(true));
+    same(&rt, "numbers", has_numbers(rt.alloc()).ok(), Some(true));
 }
 
 /// Which of three pairs are new, of which the second is the first.
@@ -79,5 +80,5 @@ fn sees_pairs(alloc: Global) -> bool {
 
 #[test]
 fn pairs_are_seen_once(rt: HostRuntime) {
-    assert!(rt; sees_pairs(rt.alloc()));
+    same(&rt, "pairs", sees_pairs(rt.alloc()), true);
 }

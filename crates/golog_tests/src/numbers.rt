@@ -3,6 +3,7 @@ ghost use Rattle.golog_tree.specs.Ground.{action_args, ground_count};
 ghost use Rattle.golog_semantics.specs.WellFormed.{WellFormed};
 
 use crate::agents::LIFT;
+use crate::asserting::same;
 use golog_file::read_agent;
 use golog_ground::read_action;
 use golog_tree::{Agent, Ground, action_no, action_of, fluent_no, fluent_of};
@@ -76,5 +77,5 @@ fn lift_is_numbered(alloc: Global) -> [bool; 2] {
 
 #[test]
 fn ground_things_are_numbered(rt: HostRuntime) {
-    assert_eq!(rt; lift_is_numbered(rt.alloc()), [true; 2]);
+    same(&rt, "lift", lift_is_numbered(rt.alloc()), [true; 2]);
 }

@@ -1,4 +1,5 @@
 use crate::agents::{BELL, LIFT};
+use crate::asserting::same;
 use golog_base::NoMemory;
 use golog_file::read_agent;
 use golog_prog::print_prog;
@@ -26,7 +27,16 @@ fn is_printed_back(alloc: Global, file: &[u8], program: &[u8]) -> bool {
 
 #[test]
 fn programs_that_were_read_are_printed_back(rt: HostRuntime) {
-    let alloc = rt.alloc();
-    assert!(rt; is_printed_back(alloc, BELL, b"(while (awaited) (act ring))"));
-    assert!(rt; is_printed_back(alloc, LIFT, b"(pick (v0_0 level) (act off v0_0))"));
+    let programs: [(&[u8], &[u8]); 2] = [
+        (BELL, b"(while (awaited) (act ring))"),
+        (LIFT, b"(pick (v0_0 level) (act off v0_0))"),
+    ];
+    for (file, program) in programs {
+        same(
+            &rt,
+            program,
+            is_printed_back(rt.alloc(), file, program),
+            true,
+        );
+    }
 }

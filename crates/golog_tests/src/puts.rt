@@ -1,3 +1,4 @@
+use crate::asserting::same;
 use golog_base::{List, NoMemory};
 use golog_tree::{Arg, Cond, copy_cond, put_cond};
 use std::alloc::Global;
@@ -59,5 +60,5 @@ fn answers(alloc: Global) -> [bool; 3] {
 
 #[test]
 fn constants_are_put_into_conditions(rt: HostRuntime) {
-    assert_eq!(rt; answers(rt.alloc()), [true; 3]);
+    same(&rt, "puts", answers(rt.alloc()), [true; 3]);
 }

@@ -1,12 +1,12 @@
-ghost use Rattle.std.specs.Prelude.{◌<◌, All, IfSome, length};
+ghost use Rattle.std.specs.Prelude.{◌<◌, All, length};
 ghost use Rattle.golog_tree.specs.Ground.{ground_actions};
 ghost use Rattle.golog_semantics.specs.WellFormed.{WellFormed};
 ghost use Rattle.golog_regress.specs.Regression.{EventFits};
 
-use crate::agents::WORLD;
+use crate::agents::{WORLD, action_of};
+use crate::asserting::same;
 use golog_base::{Boxed, List, NoMemory};
 use golog_file::read_agent;
-use golog_ground::read_action;
 use golog_regress::{Event, nodes, regress, regress_all};
 use golog_tree::{Agent, Arg, Cond};
 use std::alloc::Global;
@@ -32,17 +32,6 @@ fn some_blocked(alloc: Global) -> Result<Cond, NoMemory> {
         sort: PLACE,
         body: Boxed::new(alloc, blocked(alloc, Arg::Var(0))?)?,
     })
-}
-
-/// The number of the ground action that blocks the way to `b`.
-fn blocking(agent: &Agent) -> Option<u32>
-    requires { WellFormed agent.now }
-    ensures { IfSome result (λ action. action < length (ground_actions agent.now)) }
-{
-    match read_action(agent, b"block(b)") {
-        Some(action) => Some(action),
-        None => None,
-    }
 }
 
 /// Whether the condition is `true` as it stands.
@@ -146,7 +135,7 @@ fn is_taken_back_over_all(alloc: Global, agent: &Agent, action: u32) -> bool
 fn regresses(alloc: Global, agent: &Agent) -> bool
     requires { WellFormed agent.now }
 {
-    match blocking(agent) {
+    match action_of(agent, b"block(b)") {
         Some(action) => {
             is_taken_back(alloc, agent, action) && is_taken_back_over_all(alloc, agent, action)
         }
@@ -167,5 +156,5 @@ fn world_regresses(alloc: Global) -> bool {
 
 #[test]
 fn conditions_are_taken_back(rt: HostRuntime) {
-    assert!(rt; world_regresses(rt.alloc()));
+    same(&rt, "world", world_regresses(rt.alloc()), true);
 }

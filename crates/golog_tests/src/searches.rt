@@ -3,6 +3,7 @@ ghost use Rattle.golog_semantics.specs.WellFormed.{WellFormed};
 ghost use Rattle.golog_tests.specs.Blockless.{IsBlockless};
 
 use crate::agents::{BRANCHES, DOOR, ROADS, STAIRS};
+use crate::asserting::same;
 use crate::blockless::has_blocks;
 use golog_base::NoMemory;
 use golog_file::read_agent;
@@ -140,55 +141,42 @@ fn certain(depth: u32, fuel: u32) -> Asked {
 }
 
 #[test]
-fn a_run_as_long_as_the_depth_is_found(rt: HostRuntime) {
+fn runs_are_found(rt: HostRuntime) {
     let up = [Label::Do(2), Label::Do(2), Label::Do(2), Label::Quiet];
-    assert!(rt; comes_to(rt.alloc(), STAIRS, certain(4, 1000), Wanted::Run(&up)));
-}
-
-#[test]
-fn a_run_beyond_the_depth_is_cut(rt: HostRuntime) {
-    assert!(rt;
-        comes_to(
-            rt.alloc(),
-            STAIRS,
-            certain(3, 1000),
-            Wanted::Absent { cut: true }
-        )
-    );
-}
-
-#[test]
-fn the_first_of_the_shortest_runs_is_found(rt: HostRuntime) {
     let first = [Label::Do(2), Label::Do(4)];
-    assert!(rt; comes_to(rt.alloc(), BRANCHES, certain(4, 3), Wanted::Run(&first)));
-}
-
-#[test]
-fn a_search_may_want_fuel(rt: HostRuntime) {
-    assert!(rt; comes_to(rt.alloc(), BRANCHES, certain(4, 2), Wanted::Fuel));
-}
-
-#[test]
-fn a_run_goes_round_what_is_blocked(rt: HostRuntime) {
-    let round = [Label::Do(2), Label::Do(4)];
-    assert!(rt; comes_to(rt.alloc(), ROADS, certain(4, 1000), Wanted::Run(&round)));
-}
-
-#[test]
-fn a_run_that_is_not_certain_may_be(rt: HostRuntime) {
     let through = [Label::Do(2), Label::Quiet, Label::Do(3)];
     let near = Asked {
         depth: 4,
         fuel: 1000,
         certain: false,
     };
-    assert!(rt;
-        comes_to(
-            rt.alloc(),
-            DOOR,
+    let absent = Wanted::Absent { cut: false };
+    let cut = Wanted::Absent { cut: true };
+    let searches = [
+        (
+            "as long as the depth",
+            STAIRS,
             certain(4, 1000),
-            Wanted::Absent { cut: false }
-        )
-    );
-    assert!(rt; comes_to(rt.alloc(), DOOR, near, Wanted::Run(&through)));
+            Wanted::Run(&up),
+        ),
+        ("cut beyond the depth", STAIRS, certain(3, 1000), cut),
+        (
+            "first of the shortest",
+            BRANCHES,
+            certain(4, 3),
+            Wanted::Run(&first),
+        ),
+        ("wants fuel", BRANCHES, certain(4, 2), Wanted::Fuel),
+        (
+            "round what is blocked",
+            ROADS,
+            certain(4, 1000),
+            Wanted::Run(&first),
+        ),
+        ("not certain", DOOR, certain(4, 1000), absent),
+        ("not certain but near", DOOR, near, Wanted::Run(&through)),
+    ];
+    for (name, file, asked, wanted) in searches {
+        same(&rt, name, comes_to(rt.alloc(), file, asked, wanted), true);
+    }
 }

@@ -2,6 +2,7 @@ ghost use Rattle.golog_semantics.specs.SortLaws.{AreInSorts};
 ghost use Rattle.golog_semantics.specs.WellFormed.{WellFormed};
 
 use crate::agents::LAMP;
+use crate::asserting::same;
 use golog_base::NoMemory;
 use golog_file::read_agent;
 use golog_progress::{State, start};
@@ -52,5 +53,5 @@ fn lamp_begins_by_switching(alloc: Global) -> bool {
 
 #[test]
 fn the_first_certain_step_is_found(rt: HostRuntime) {
-    assert!(rt; lamp_begins_by_switching(rt.alloc()));
+    same(&rt, "lamp", lamp_begins_by_switching(rt.alloc()), true);
 }

@@ -1,54 +1,116 @@
 ghost use Rattle.golog_semantics.specs.WellFormed.{WellFormed};
 
 use crate::agents::LIFT;
+use crate::asserting::same;
 use golog_file::read_agent;
 use golog_ground::{action_text, constant_text, read_action, read_constant};
 use golog_tree::{Agent, sort_size};
 use std::alloc::Global;
 
-/// Whether the text is that of this ground action alone.
-fn is_action(agent: &Agent, action: u32, text: &[u8]) -> bool
+/// Sorts of numbers, of which two reach the ends of what may be, and actions with arguments and without.
+const MOVES: &[u8] = b"(agent
+    (sort place a b) (sort level -1 3) (sort small -2 2)
+    (sort least -2147483648 -2147483647) (sort most 2147483646 2147483647)
+    (action up ()) (action move (place level))
+    (main nil))";
+
+/// The sorts of numbers of that agent.
+const LEVEL: u32 = 2;
+
+const SMALL: u32 = 3;
+
+const LEAST: u32 = 4;
+
+const MOST: u32 = 5;
+
+/// Stands for a number whose text is another one.
+const OTHER: u32 = u32::MAX;
+
+/// The number of the ground action of this text.
+fn action_back(agent: &Agent, text: &[u8]) -> Option<u32>
     requires { WellFormed agent.now }
 {
     match read_action(agent, text) {
-        Some(found) => found == action && action_text(agent, found).as_bytes() == text,
-        None => false,
+        Some(found) => {
+            let is_so = action_text(agent, found).as_bytes() == text;
+            Some(if is_so { found } else { OTHER })
+        }
+        None => None,
     }
 }
 
-/// Whether the text is that of the constant at this place in its sort alone.
+/// Whether this is the text of the constant at this place in its sort.
 fn is_constant(agent: &Agent, sort: u32, value: u8, text: &[u8]) -> bool
     requires { WellFormed agent.now }
 {
     u32::from(value) < sort_size(agent, sort)
         && constant_text(agent, sort, value).as_bytes() == text
-        && read_constant(agent, sort, text) == Some(value)
 }
 
-/// Whether ground actions and constants have these texts alone, and others none.
-fn have_texts(agent: &Agent) -> [bool; 4]
+/// The place in its sort of the constant of this text.
+fn constant_back(agent: &Agent, sort: u32, text: &[u8]) -> Option<u32>
     requires { WellFormed agent.now }
 {
-    [
-        is_action(agent, 16, b"turn(right,3)"),
-        is_constant(agent, 1, 0, b"-1"),
-        read_action(agent, b"turn(right, 3)").is_none(),
-        read_constant(agent, 1, b"+1").is_none(),
-    ]
+    match read_constant(agent, sort, text) {
+        Some(value) => {
+            let is_so = is_constant(agent, sort, value, text);
+            Some(if is_so { u32::from(value) } else { OTHER })
+        }
+        None => None,
+    }
 }
 
-/// The same of the agent of `LIFT`.
-fn lift_has_texts(alloc: Global) -> [bool; 4] {
-    let read = read_agent(alloc, LIFT);
-    let answer = match &read {
-        Ok(agent) => have_texts(agent),
-        Err(_fault) => [false; 4],
+/// The same of the agent that a file spells: of a constant of a sort, or else of an action.
+fn back(alloc: Global, file: &[u8], sort: Option<u32>, text: &[u8]) -> Option<u32> {
+    let read = read_agent(alloc, file);
+    let answer = match (&read, sort) {
+        (Ok(agent), Some(sort)) => constant_back(agent, sort, text),
+        (Ok(agent), None) => action_back(agent, text),
+        (Err(_fault), _) => None,
     };
     drop(read);
     answer
 }
 
+// Each text with the number of the ground action that has it.
 #[test]
-fn ground_things_have_one_text(rt: HostRuntime) {
-    assert_eq!(rt; lift_has_texts(rt.alloc()), [true; 4]);
+fn ground_actions_have_one_text(rt: HostRuntime) {
+    let texts: [(&[u8], &[u8], Option<u32>); 8] = [
+        (LIFT, b"turn(right,3)", Some(16)),
+        (LIFT, b"turn(right, 3)", None),
+        (MOVES, b"up", Some(2)),
+        (MOVES, b"up()", None),
+        (MOVES, b"move(a,-1)", Some(3)),
+        (MOVES, b"move(a,3)", Some(7)),
+        (MOVES, b"move(b,3)", Some(12)),
+        (MOVES, b"move", None),
+    ];
+    for (file, text, number) in texts {
+        same(&rt, text, back(rt.alloc(), file, None, text), number);
+    }
+}
+
+// Each text with the place of the constant that has it: a number has a sign only below 0, and no leading zeros.
+#[test]
+fn constants_have_one_text(rt: HostRuntime) {
+    let texts: [(u32, &[u8], Option<u32>); 15] = [
+        (LEVEL, b"-1", Some(0)),
+        (LEVEL, b"+1", None),
+        (SMALL, b"-1", Some(1)),
+        (SMALL, b"0", Some(2)),
+        (SMALL, b"2", Some(4)),
+        (SMALL, b"3", None),
+        (SMALL, b"-3", None),
+        (SMALL, b"01", None),
+        (SMALL, b"-0", None),
+        (SMALL, b"+1", None),
+        (SMALL, b" 1", None),
+        (SMALL, b"", None),
+        (LEAST, b"-2147483648", Some(0)),
+        (MOST, b"2147483647", Some(1)),
+        (MOST, b"2147483648", None),
+    ];
+    for (sort, text, place) in texts {
+        same(&rt, text, back(rt.alloc(), MOVES, Some(sort), text), place);
+    }
 }

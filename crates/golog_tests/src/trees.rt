@@ -1,4 +1,6 @@
+use crate::asserting::same;
 use golog_base::{Boxed, List, NoMemory, Word};
+use golog_progress::State;
 use golog_tree::{
     ActionItem, Arg, CauseItem, Firsts, FluentItem, PossItem, ProcItem, Prog, SenseItem, SortItem,
     copy_prog, nest, put_arg, tidy_conc, tidy_prio, tidy_seq,
@@ -77,7 +79,7 @@ fn puts_and_copies(alloc: Global) -> [bool; 3] {
 
 #[test]
 fn constants_are_put_in(rt: HostRuntime) {
-    assert_eq!(rt; puts_and_copies(rt.alloc()), [true; 3]);
+    same(&rt, "puts", puts_and_copies(rt.alloc()), [true; 3]);
 }
 
 /// Whether a `pick` is as it was when 9 is put in for its variable.
@@ -100,7 +102,7 @@ fn binder_keeps(alloc: Global) -> bool {
 
 #[test]
 fn binders_keep_their_variable(rt: HostRuntime) {
-    assert!(rt; binder_keeps(rt.alloc()));
+    same(&rt, "binder", binder_keeps(rt.alloc()), true);
 }
 
 fn after_nothing(alloc: Global) -> Result<Prog, NoMemory> {
@@ -143,13 +145,17 @@ fn nest_of(made: Result<Prog, NoMemory>) -> u32 {
 #[test]
 fn empty_parts_are_left_out(rt: HostRuntime) {
     let alloc = rt.alloc();
-    assert!(rt; is_alone(after_nothing(alloc)));
-    assert!(rt; is_alone(beside_nothing(alloc)));
-    assert!(rt; is_alone(under_nothing(alloc)));
-    assert_eq!(rt;
+    let alone = [
+        is_alone(after_nothing(alloc)),
+        is_alone(beside_nothing(alloc)),
+        is_alone(under_nothing(alloc)),
+    ];
+    same(&rt, "alone", alone, [true; 3]);
+    same(
+        &rt,
+        "an empty second part stays",
         nest_of(before_nothing(alloc)),
         2,
-        "an empty second part stays"
     );
 }
 
@@ -160,15 +166,20 @@ fn is_shared<T: Send + Sync>() -> bool {
 
 // An agent is a record of these lists and of a program.
 #[test]
-fn threads_share_the_items_of_agents(rt: HostRuntime) {
-    assert!(rt; is_shared::<List<SortItem>>() && is_shared::<List<FluentItem>>());
-    assert!(rt; is_shared::<List<ActionItem>>() && is_shared::<Firsts>());
-    assert!(rt; is_shared::<List<Word>>() && is_shared::<List<u8>>());
-}
-
-#[test]
-fn threads_share_rules_and_programs(rt: HostRuntime) {
-    assert!(rt; is_shared::<List<PossItem>>() && is_shared::<List<CauseItem>>());
-    assert!(rt; is_shared::<List<SenseItem>>() && is_shared::<List<ProcItem>>());
-    assert!(rt; is_shared::<Prog>());
+fn threads_share_agents_and_states(rt: HostRuntime) {
+    let shared = [
+        is_shared::<List<SortItem>>(),
+        is_shared::<List<FluentItem>>(),
+        is_shared::<List<ActionItem>>(),
+        is_shared::<Firsts>(),
+        is_shared::<List<Word>>(),
+        is_shared::<List<u8>>(),
+        is_shared::<List<PossItem>>(),
+        is_shared::<List<CauseItem>>(),
+        is_shared::<List<SenseItem>>(),
+        is_shared::<List<ProcItem>>(),
+        is_shared::<Prog>(),
+        is_shared::<State>(),
+    ];
+    same(&rt, "shared", shared, [true; 12]);
 }

@@ -1,21 +1,15 @@
-ghost use Rattle.std.specs.Prelude.{◌≡◌, IsTrue, Ok};
-ghost use Rattle.golog_tree.specs.declared.draft.DraftTheory.{DraftTheory};
-ghost use Rattle.golog_tree.specs.declared.draft_cond.DraftCond.{DraftCond};
-ghost use Rattle.golog_draft.specs.Drafts.{AgentCondKeeps, CondKeeps};
+ghost use Rattle.std.specs.Prelude.{IsTrue};
 ghost use Rattle.golog_semantics.specs.Fits.{cond_fits, nothing_bound};
 ghost use Rattle.golog_semantics.specs.WellFormed.{WellFormed};
-ghost use Rattle.golog_theory.specs.Items.{theory_of as theory_in};
-ghost use Rattle.golog_file.specs.Spelled.{SpellsAgent};
+ghost use Rattle.golog_file.specs.Conditions.{CondsStayKept};
 
 use crate::agents::LAMPS;
+use crate::asserting::same;
 use golog_base::NoMemory;
-use golog_check::check_condition;
-use golog_file::{read_agent, read_conditions_stay_kept};
-use golog_form::{Form, read_form};
+use golog_file::{Understood, read_condition, read_theory_and_agent};
 use golog_known::{Env, value};
 use golog_progress::start;
-use golog_theory::{condition_of, theory_of};
-use golog_tree::{Agent, Cond, DraftCond, DraftTheory, Truth};
+use golog_tree::{Agent, Cond, Truth};
 use std::alloc::Global;
 
 /// The truth of a condition where the agent starts.
@@ -30,98 +24,26 @@ fn truth_at_start(alloc: Global, agent: &Agent, cond: &Cond) -> Option<Truth>
     }
 }
 
-/// That of the condition that a draft spells, if it spells one.
-fn truth_of_draft(alloc: Global, agent: &Agent, draft: &DraftCond) -> Option<Truth>
-    requires formed { WellFormed agent.now }
-    requires kept { AgentCondKeeps agent.now draft.now }
+/// That of the condition that a text spells, if it spells one.
+fn truth_of_text(alloc: Global, understood: &Understood, text: &[u8]) -> Option<Truth>
+    requires formed { WellFormed understood.now.agent }
+    requires kept { CondsStayKept understood.now.theory understood.now.agent }
 {
-    let checked = check_condition(alloc, agent, draft);
-    let answer = match &checked {
-        Ok(cond) => truth_at_start(alloc, agent, cond),
-        Err(_fault) => None,
-    };
-    drop(checked);
-    answer
-}
-
-/// That of the condition that a form spells over the theory.
-fn truth_of_form(alloc: Global, agent: &Agent, theory: &DraftTheory, form: &Form) -> Option<Truth>
-    requires formed { WellFormed agent.now }
-    requires kept { (cond : DraftCond) → CondKeeps theory.now cond → AgentCondKeeps agent.now cond }
-{
-    let read = condition_of(alloc, theory, form);
+    let read = read_condition(alloc, &understood.theory, &understood.agent, text);
     let answer = match &read {
-        Ok(draft) => truth_of_draft(alloc, agent, draft),
+        Ok(cond) => truth_at_start(alloc, &understood.agent, cond),
         Err(_fault) => None,
     };
     drop(read);
     answer
 }
 
-/// That of the condition that a text spells over the theory.
-fn truth_of_text(alloc: Global, agent: &Agent, theory: &DraftTheory, text: &[u8]) -> Option<Truth>
-    requires formed { WellFormed agent.now }
-    requires kept { (cond : DraftCond) → CondKeeps theory.now cond → AgentCondKeeps agent.now cond }
-{
-    let read = read_form(alloc, text);
+/// The same over the agent that a file spells.
+fn truth_of(alloc: Global, file: &[u8], text: &[u8]) -> Option<Truth> {
+    let read = read_theory_and_agent(alloc, file);
     let answer = match &read {
-        Ok(form) => truth_of_form(alloc, agent, theory, form),
+        Ok(understood) => truth_of_text(alloc, understood, text),
         Err(_fault) => None,
-    };
-    drop(read);
-    answer
-}
-
-/// The truths of four conditions: that the lamp of a floor is lit and the sign is not blue, on the first, the
-/// second and the third floor, and one that compares the sign with a number.
-fn truths(alloc: Global, agent: &Agent, theory: &DraftTheory) -> [Option<Truth>; 4]
-    requires formed { WellFormed agent.now }
-    requires kept { (cond : DraftCond) → CondKeeps theory.now cond → AgentCondKeeps agent.now cond }
-{
-    [
-        truth_of_text(alloc, agent, theory, b"(and (lit 1) (not (= (sign) blue)))"),
-        truth_of_text(alloc, agent, theory, b"(and (lit 2) (not (= (sign) blue)))"),
-        truth_of_text(alloc, agent, theory, b"(and (lit 3) (not (= (sign) blue)))"),
-        truth_of_text(alloc, agent, theory, b"(= (sign) 1)"),
-    ]
-}
-
-/// Their truths over the theory that the form of the agent's file spells.
-fn truths_by_form(alloc: Global, agent: &Agent, form: &Form) -> [Option<Truth>; 4]
-    requires formed { WellFormed agent.now }
-    requires kept { (theory : DraftTheory) → (theory_in form.now).outcome ≡ Ok theory
-        → (cond : DraftCond) → CondKeeps theory cond → AgentCondKeeps agent.now cond }
-{
-    let read = theory_of(alloc, form);
-    let answer = match &read {
-        Ok(theory) => truths(alloc, agent, theory),
-        Err(_fault) => [None; 4],
-    };
-    drop(read);
-    answer
-}
-
-/// Their truths over the agent that the file spells.
-fn truths_over(alloc: Global, agent: &Agent, file: &[u8]) -> [Option<Truth>; 4]
-    requires formed { WellFormed agent.now }
-    requires spelled { SpellsAgent file.now agent.now }
-{
-    read_conditions_stay_kept();
-    let read = read_form(alloc, file);
-    let answer = match &read {
-        Ok(form) => truths_by_form(alloc, agent, form),
-        Err(_fault) => [None; 4],
-    };
-    drop(read);
-    answer
-}
-
-/// Their truths over the agent of `LAMPS`.
-fn lamps_truths(alloc: Global) -> [Option<Truth>; 4] {
-    let read = read_agent(alloc, LAMPS);
-    let answer = match &read {
-        Ok(agent) => truths_over(alloc, agent, LAMPS),
-        Err(_fault) => [None; 4],
     };
     drop(read);
     answer
@@ -129,11 +51,109 @@ fn lamps_truths(alloc: Global) -> [Option<Truth>; 4] {
 
 #[test]
 fn conditions_that_were_read_have_their_truths(rt: HostRuntime) {
-    let wanted = [
-        Some(Truth::Yes),
-        Some(Truth::No),
-        Some(Truth::Unknown),
-        None,
+    let conditions: [(&[u8], Option<Truth>); 4] = [
+        (b"(and (lit 1) (not (= (sign) blue)))", Some(Truth::Yes)),
+        (b"(and (lit 2) (not (= (sign) blue)))", Some(Truth::No)),
+        (b"(and (lit 3) (not (= (sign) blue)))", Some(Truth::Unknown)),
+        (b"(= (sign) 1)", None),
     ];
-    assert_eq!(rt; lamps_truths(rt.alloc()), wanted);
+    for (text, truth) in conditions {
+        same(&rt, text, truth_of(rt.alloc(), LAMPS, text), truth);
+    }
+}
+
+/// Doors that are open, shut or hidden, things on each of four levels and one that may be on any, and rows of lamps
+/// of which all or some are lit, dark or unseen.
+const HOUSE: &[u8] = b"(agent
+    (sort level 0 3)
+    (fluent open () bool true) (fluent shut () bool false) (fluent hidden () bool)
+    (fluent cellar () level 0) (fluent hall () level 1) (fluent study () level 2) (fluent attic () level 3)
+    (fluent cat () level)
+    (fluent lit (level) bool true) (fluent dark (level) bool false) (fluent unseen (level) bool)
+    (fluent one_lit (level) bool false) (start (one_lit 3) true)
+    (fluent one_unseen (level) bool false) (start (one_unseen 3) unknown)
+    (fluent others_lit (level) bool true) (start (others_lit 3) unknown)
+    (main nil))";
+
+#[test]
+fn parts_are_joined_by_the_kleene_tables(rt: HostRuntime) {
+    let conditions: [(&[u8], Truth); 21] = [
+        (b"(not (open))", Truth::No),
+        (b"(not (shut))", Truth::Yes),
+        (b"(not (hidden))", Truth::Unknown),
+        (b"(and (open) (open))", Truth::Yes),
+        (b"(and (open) (shut))", Truth::No),
+        (b"(and (open) (hidden))", Truth::Unknown),
+        (b"(and (shut) (open))", Truth::No),
+        (b"(and (shut) (shut))", Truth::No),
+        (b"(and (shut) (hidden))", Truth::No),
+        (b"(and (hidden) (open))", Truth::Unknown),
+        (b"(and (hidden) (shut))", Truth::No),
+        (b"(and (hidden) (hidden))", Truth::Unknown),
+        (b"(or (open) (open))", Truth::Yes),
+        (b"(or (open) (shut))", Truth::Yes),
+        (b"(or (open) (hidden))", Truth::Yes),
+        (b"(or (shut) (open))", Truth::Yes),
+        (b"(or (shut) (shut))", Truth::No),
+        (b"(or (shut) (hidden))", Truth::Unknown),
+        (b"(or (hidden) (open))", Truth::Yes),
+        (b"(or (hidden) (shut))", Truth::Unknown),
+        (b"(or (hidden) (hidden))", Truth::Unknown),
+    ];
+    for (text, truth) in conditions {
+        same(&rt, text, truth_of(rt.alloc(), HOUSE, text), Some(truth));
+    }
+}
+
+// Two levels up and two down, and then whether each is below level 1, at most on it, and on it.
+#[test]
+fn levels_stop_at_their_ends_and_are_compared(rt: HostRuntime) {
+    let conditions: [(&[u8], Truth); 22] = [
+        (b"(= (+ (cellar) 2) 2)", Truth::Yes),
+        (b"(= (- (cellar) 2) 0)", Truth::Yes),
+        (b"(= (+ (hall) 2) 3)", Truth::Yes),
+        (b"(= (- (hall) 2) 0)", Truth::Yes),
+        (b"(= (+ (study) 2) 3)", Truth::Yes),
+        (b"(= (- (study) 2) 0)", Truth::Yes),
+        (b"(= (+ (attic) 2) 3)", Truth::Yes),
+        (b"(= (- (attic) 2) 1)", Truth::Yes),
+        (b"(= (+ (cat) 2) 3)", Truth::Unknown),
+        (b"(= (- (cat) 2) 0)", Truth::Unknown),
+        (b"(< (cellar) 1)", Truth::Yes),
+        (b"(<= (cellar) 1)", Truth::Yes),
+        (b"(= (cellar) 1)", Truth::No),
+        (b"(< (hall) 1)", Truth::No),
+        (b"(<= (hall) 1)", Truth::Yes),
+        (b"(= (hall) 1)", Truth::Yes),
+        (b"(< (study) 1)", Truth::No),
+        (b"(<= (study) 1)", Truth::No),
+        (b"(= (study) 1)", Truth::No),
+        (b"(< (cat) 1)", Truth::Unknown),
+        (b"(<= (cat) 1)", Truth::Unknown),
+        (b"(= (cat) 1)", Truth::Unknown),
+    ];
+    for (text, truth) in conditions {
+        same(&rt, text, truth_of(rt.alloc(), HOUSE, text), Some(truth));
+    }
+}
+
+#[test]
+fn binders_go_over_all_constants(rt: HostRuntime) {
+    let conditions: [(&[u8], Truth); 12] = [
+        (b"(some (x level) (lit x))", Truth::Yes),
+        (b"(all (x level) (lit x))", Truth::Yes),
+        (b"(some (x level) (dark x))", Truth::No),
+        (b"(all (x level) (dark x))", Truth::No),
+        (b"(some (x level) (one_lit x))", Truth::Yes),
+        (b"(all (x level) (one_lit x))", Truth::No),
+        (b"(some (x level) (one_unseen x))", Truth::Unknown),
+        (b"(all (x level) (one_unseen x))", Truth::No),
+        (b"(some (x level) (others_lit x))", Truth::Yes),
+        (b"(all (x level) (others_lit x))", Truth::Unknown),
+        (b"(some (x level) (unseen x))", Truth::Unknown),
+        (b"(all (x level) (unseen x))", Truth::Unknown),
+    ];
+    for (text, truth) in conditions {
+        same(&rt, text, truth_of(rt.alloc(), HOUSE, text), Some(truth));
+    }
 }

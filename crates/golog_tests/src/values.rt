@@ -1,87 +1,108 @@
-ghost use Rattle.std.specs.Prelude.{◌<◌, IfSome, length};
+ghost use Rattle.std.specs.Prelude.{◌<◌, length};
 ghost use Rattle.golog_tree.specs.Ground.{ground_actions};
 ghost use Rattle.golog_semantics.specs.WellFormed.{WellFormed};
 
-use crate::agents::LAMP;
+use crate::agents::{LAMP, action_of};
+use crate::asserting::same;
 use golog_base::NoMemory;
 use golog_file::read_agent;
-use golog_ground::read_action;
 use golog_progress::{Entry, State, start};
 use golog_tree::Agent;
 use std::alloc::Global;
 
-/// The number of the ground action that switches the lamp.
-fn switching(agent: &Agent) -> Option<u32>
-    requires { WellFormed agent.now }
-    ensures { IfSome result (λ action. action < length (ground_actions agent.now)) }
-{
-    match read_action(agent, b"switch") {
-        Some(action) => Some(action),
-        None => None,
-    }
-}
+/// Two digits, the other of which nobody knows, and actions whose effects speak of different arguments, of equal
+/// ones, and of a first one that is 2.
+const DIGITS: &[u8] = b"(agent
+    (sort digit 0 9)
+    (fluent one () digit 1) (fluent other () digit)
+    (action both (digit digit)) (action same (digit digit)) (action second (digit digit))
+    (causes (both x y) (one) x) (causes (both x y) (other) y)
+    (causes (same x x) (one) x)
+    (causes (second 2 x) (one) x)
+    (main nil))";
 
-/// The values of the two ground fluents, of which the first is built in.
-fn two(state: &State) -> [u8; 2] {
+/// The values of the first ground fluents, of which the first is built in, 99 where there are two.
+fn three(state: &State) -> [u8; 3] {
     match state.values() {
-        [running, on] => [*running, *on],
-        _ => [99; 2],
+        [running, one] => [*running, *one, 99],
+        [running, one, other] => [*running, *one, *other],
+        _ => [99; 3],
     }
 }
 
 /// The values after an action, and those of a copy that was made before.
-fn after_one(alloc: Global, agent: &Agent, action: u32) -> Result<[[u8; 2]; 2], NoMemory>
+fn after_one(alloc: Global, agent: &Agent, action: u32) -> Result<[[u8; 3]; 2], NoMemory>
     requires formed { WellFormed agent.now }
     requires action { action < length (ground_actions agent.now) }
 {
     let mut state = start(alloc, agent)?;
     let copy = state.copy(alloc)?;
     state.after_do(agent, action);
-    Ok([two(&state), two(&copy)])
+    Ok([three(&state), three(&copy)])
 }
 
 /// The values after the entry of an action.
-fn after_entry(alloc: Global, agent: &Agent, action: u32) -> Result<[u8; 2], NoMemory>
+fn after_entry(alloc: Global, agent: &Agent, action: u32) -> Result<[u8; 3], NoMemory>
     requires formed { WellFormed agent.now }
     requires action { action < length (ground_actions agent.now) }
 {
     let mut state = start(alloc, agent)?;
     state.roll(agent, &[Entry::Do { action }]);
-    Ok(two(&state))
+    Ok(three(&state))
 }
 
-/// Whether switching the lamp turns it on, and a copy that was made before stays.
-fn turns_on(alloc: Global, agent: &Agent) -> bool
+/// The values once a sensing has told the last of them, and those of a copy that was made before.
+fn after_sensing(alloc: Global, agent: &Agent) -> Result<[[u8; 3]; 2], NoMemory>
     requires { WellFormed agent.now }
 {
-    match switching(agent) {
-        Some(action) => after_one(alloc, agent, action).ok() == Some([[0, 1], [0, 0]]),
-        None => false,
+    let mut state = start(alloc, agent)?;
+    let copy = state.copy(alloc)?;
+    if state.values().len() > 2 {
+        state.after_sense(2, 7);
     }
+    Ok([three(&state), three(&copy)])
 }
 
-/// Whether the entry of switching the lamp turns it on.
-fn entry_turns_on(alloc: Global, agent: &Agent) -> bool
+/// The values after the action of this text, those of a copy from before it, and those after the action's entry. The empty
+/// text stands for the sensing.
+fn after_text(alloc: Global, agent: &Agent, text: &[u8]) -> Option<[[u8; 3]; 3]>
     requires { WellFormed agent.now }
 {
-    match switching(agent) {
-        Some(action) => after_entry(alloc, agent, action).ok() == Some([0, 1]),
-        None => false,
+    if text.is_empty() {
+        let [after, copy] = after_sensing(alloc, agent).ok()?;
+        return Some([after, copy, after]);
     }
+    let action = action_of(agent, text)?;
+    let [after, copy] = after_one(alloc, agent, action).ok()?;
+    let rolled = after_entry(alloc, agent, action).ok()?;
+    Some([after, copy, rolled])
 }
 
-/// Whether both hold of the agent of `LAMP`.
-fn lamp_turns_on(alloc: Global) -> bool {
-    let read = read_agent(alloc, LAMP);
+/// The same of the agent that a file spells.
+fn after(alloc: Global, file: &[u8], text: &[u8]) -> Option<[[u8; 3]; 3]> {
+    let read = read_agent(alloc, file);
     let answer = match &read {
-        Ok(agent) => turns_on(alloc, agent) && entry_turns_on(alloc, agent),
-        Err(_fault) => false,
+        Ok(agent) => after_text(alloc, agent, text),
+        Err(_fault) => None,
     };
     drop(read);
     answer
 }
 
+// Each agent and action with the values before, which a copy keeps, and after it.
 #[test]
-fn actions_change_values(rt: HostRuntime) {
-    assert!(rt; lamp_turns_on(rt.alloc()));
+fn actions_and_sensing_change_values(rt: HostRuntime) {
+    let actions: [(&[u8], &[u8], [u8; 3], [u8; 3]); 7] = [
+        (LAMP, b"switch", [0, 0, 99], [0, 1, 99]),
+        (DIGITS, b"", [0, 1, 255], [0, 1, 7]),
+        (DIGITS, b"both(3,4)", [0, 1, 255], [0, 3, 4]),
+        (DIGITS, b"same(3,3)", [0, 1, 255], [0, 3, 255]),
+        (DIGITS, b"same(3,4)", [0, 1, 255], [0, 1, 255]),
+        (DIGITS, b"second(2,5)", [0, 1, 255], [0, 5, 255]),
+        (DIGITS, b"second(3,5)", [0, 1, 255], [0, 1, 255]),
+    ];
+    for (file, text, before, after_it) in actions {
+        let wanted = Some([after_it, before, after_it]);
+        same(&rt, text, after(rt.alloc(), file, text), wanted);
+    }
 }

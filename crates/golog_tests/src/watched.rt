@@ -1,15 +1,15 @@
-ghost use Rattle.std.specs.Prelude.{◌≡◌, ◌<◌, IfOk, IfSome, length};
-ghost use Rattle.golog_tree.specs.Ground.{ground_actions};
+ghost use Rattle.std.specs.Prelude.{◌≡◌};
 ghost use Rattle.golog_semantics.specs.SortLaws.{AreInSorts};
 ghost use Rattle.golog_semantics.specs.WellFormed.{WellFormed};
 ghost use Rattle.golog_watch.specs.Watched.{AreWatches};
 ghost use Rattle.golog_tests.specs.Blockless.{IsBlockless};
 
+use crate::agents::action_of;
+use crate::asserting::same;
 use crate::blockless::has_blocks;
 use crate::searches::{Asked, block_of, find_at_start};
 use golog_base::NoMemory;
 use golog_file::read_agent;
-use golog_ground::read_action;
 use golog_progress::{State, start};
 use golog_search::{Block, Found};
 use golog_tree::{Agent, Way};
@@ -86,17 +86,6 @@ fn told(
     let walked = told_by(alloc, agent, run, state, &mut Walk::new())?;
     let watched = told_by_watch(alloc, agent, run, state)?;
     Ok([watched, kept, walked])
-}
-
-/// The ground action of this text.
-fn action_of(agent: &Agent, text: &[u8]) -> Option<u32>
-    requires { WellFormed agent.now }
-    ensures { IfSome result (λ action. action < length (ground_actions agent.now)) }
-{
-    match read_action(agent, text) {
-        Some(action) => Some(action),
-        None => None,
-    }
 }
 
 /// The state after the ground action of this text, or the state where there is none.
@@ -235,18 +224,14 @@ fn told_of(alloc: Global, bytes: &[u8], actions: [&[u8]; 2]) -> Option<[[bool; 3
     answer
 }
 
+// A run goes through or not in the states that actions make. Where a condition of it grows too large the run is
+// stepped again.
 #[test]
-fn a_run_is_watched(rt: HostRuntime) {
-    assert_eq!(rt;
-        told_of(rt.alloc(), CROSSING, [b"block(b)", b"block(c)"]),
-        Some([[true; 3], [false; 3], [true; 3], [true; 3]])
-    );
-}
-
-#[test]
-fn a_run_with_a_condition_that_grows_too_large_is_stepped_again(rt: HostRuntime) {
-    assert_eq!(rt;
-        told_of(rt.alloc(), TOGGLED, [b"press", b"switch"]),
-        Some([[true; 3], [false; 3], [false; 3], [true; 3]])
-    );
+fn runs_are_watched(rt: HostRuntime) {
+    let crossed = told_of(rt.alloc(), CROSSING, [b"block(b)", b"block(c)"]);
+    let wanted = Some([[true; 3], [false; 3], [true; 3], [true; 3]]);
+    same(&rt, "crossing", crossed, wanted);
+    let toggled = told_of(rt.alloc(), TOGGLED, [b"press", b"switch"]);
+    let wanted = Some([[true; 3], [false; 3], [false; 3], [true; 3]]);
+    same(&rt, "toggled", toggled, wanted);
 }

@@ -1,6 +1,7 @@
 ghost use Rattle.golog_semantics.specs.SortLaws.{AreInSorts};
 ghost use Rattle.golog_semantics.specs.WellFormed.{WellFormed};
 
+use crate::asserting::same;
 use crate::modes::{has_step, may_end};
 use golog_base::NoMemory;
 use golog_file::read_agent;
@@ -63,23 +64,14 @@ fn is_open(alloc: Global, agent: &Agent) -> bool
         && may_end(alloc, agent, Mode::May) == Some(false)
 }
 
-/// Whether the program of this file begins in the world that the file spells with this label.
-fn file_begins_with(alloc: Global, file: &[u8], label: Label) -> bool {
+/// Whether the program of this file begins in the world that the file spells with this label, or is open where there is
+/// none.
+fn goes(alloc: Global, file: &[u8], label: Option<Label>) -> bool {
     let read = read_agent(alloc, file);
-    let answer = match &read {
-        Ok(agent) => begins_with(alloc, agent, label),
-        Err(_fault) => false,
-    };
-    drop(read);
-    answer
-}
-
-/// Whether the program of this file is open at its start.
-fn file_is_open(alloc: Global, file: &[u8]) -> bool {
-    let read = read_agent(alloc, file);
-    let answer = match &read {
-        Ok(agent) => is_open(alloc, agent),
-        Err(_fault) => false,
+    let answer = match (&read, label) {
+        (Ok(agent), Some(label)) => begins_with(alloc, agent, label),
+        (Ok(agent), None) => is_open(alloc, agent),
+        (Err(_fault), _) => false,
     };
     drop(read);
     answer
@@ -89,7 +81,10 @@ fn file_is_open(alloc: Global, file: &[u8]) -> bool {
 // neither step is certain.
 #[test]
 fn no_step_is_certain_where_worlds_differ(rt: HostRuntime) {
-    assert!(rt; file_is_open(rt.alloc(), UNKNOWN));
-    assert!(rt; file_begins_with(rt.alloc(), FALSE, Label::Do(3)));
-    assert!(rt; file_begins_with(rt.alloc(), TRUE, Label::Quiet));
+    let told = [
+        goes(rt.alloc(), UNKNOWN, None),
+        goes(rt.alloc(), FALSE, Some(Label::Do(3))),
+        goes(rt.alloc(), TRUE, Some(Label::Quiet)),
+    ];
+    same(&rt, "worlds", told, [true; 3]);
 }

@@ -1,1 +1,3 @@
+mod Looking
+mod Posting
 mod Starting

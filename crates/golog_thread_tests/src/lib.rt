@@ -1,6 +1,11 @@
-//! Tests of runs with devices of the tests: beside each other and beside a program, and leads that write.
+//! Tests of a journal, and of runs with devices of the tests: beside each other and beside a program, and leads that
+//! write.
 #![tactic(auto)]
 
+#[cfg(test)]
+mod asserting;
+#[cfg(test)]
+mod journals;
 #[cfg(test)]
 mod meeting;
 #[cfg(test)]

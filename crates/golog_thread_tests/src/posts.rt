@@ -1,16 +1,16 @@
 //! Devices that post many actions beside a program that steps all the time.
 ghost use Rattle.golog_semantics.specs.WellFormed.{WellFormed};
 
+use crate::asserting::same;
 use crate::runs::{agent_of, answer_in, posts_of, report_over};
 use golog_base::{Bytes, List, NoMemory};
-use golog_device::{Begun, Device, Idle, Served};
+use golog_device::{Begun, Idle, TableDevice};
 use golog_ground::read_action;
 use golog_journal::Report;
 use golog_semantics::Answer;
 use golog_tree::Agent;
 use std::alloc::Global;
 use std::sync::Wait;
-use std::test::Fail;
 use std::thread::Threads;
 
 /// A program that steps until both devices have finished.
@@ -25,23 +25,19 @@ const MARKS: u32 = 100;
 /// How many ticks a device posts.
 const TICKS: u32 = 2_000;
 
-/// A device that posts what it has, the last first, and closes.
-#[derive(Drop)]
-struct Clock {
-    fresh: bool,
-    posts: Vec<Bytes>,
+/// A device that posts ticks, each with the next mark, then that it has finished, and closes.
+fn clock_of(alloc: Global, who: u32) -> Result<TableDevice, NoMemory> {
+    let idles = idles_of(alloc, who)?;
+    TableDevice::new(alloc, Begun::Ready, List::new(alloc), idles)
 }
 
-impl Clock {
-    // A device that posts ticks, each with the next mark, and finishes.
-    fn new(alloc: Global, who: u32) -> Result<Clock, NoMemory> {
-        let mut posts = Vec::new(alloc);
-        posts.push(text_of(alloc, "finish", who)?)?;
-        for tick in 0..TICKS {
-            posts.push(text_of(alloc, "tick", mark_of(TICKS - 1 - tick))?)?;
-        }
-        Ok(Clock { fresh: true, posts })
+fn idles_of(alloc: Global, who: u32) -> Result<List<Idle>, NoMemory> {
+    let mut idles = List::new(alloc);
+    for tick in 0..TICKS {
+        idles.push(Idle::Post(text_of(alloc, "tick", mark_of(tick))?))?;
     }
+    idles.push(Idle::Post(text_of(alloc, "finish", who)?))?;
+    Ok(idles)
 }
 
 // The mark of a tick.
@@ -55,32 +51,8 @@ fn text_of(alloc: Global, action: &str, argument: u32) -> Result<Bytes, NoMemory
     List::copy_of(alloc, text.as_bytes())
 }
 
-impl Device for Clock {
-    ghost use Rattle.std.specs.Prelude.{false, None};
-
-    ghost fresh = { λ clock. clock.fresh };
-
-    ghost meaning = { λ clock. record { cut = false; given = None; told = None; left = None } };
-
-    fn begin(&mut self, _alloc: Global, _name: &[u8], _script: &[u8]) -> Begun {
-        self.fresh = false;
-        Begun::Ready
-    }
-
-    fn serve(&mut self, _action: &[u8], _asked: bool) -> Served {
-        Served::Nothing
-    }
-
-    fn idle(&mut self) -> Idle {
-        match self.posts.pop() {
-            Some(text) => Idle::Post(text),
-            None => Idle::Close,
-        }
-    }
-}
-
-/// The first place where a device's posts, if anywhere, aren't its ticks in order and behind them that it has finished.
-/// The last place also where there are more or fewer.
+/// The first place where a device's posts, if anywhere, aren't its ticks in order and behind them that it has
+/// finished. The last place also where there are more or fewer.
 fn fault_in(
     alloc: Global,
     agent: &Agent,
@@ -134,7 +106,7 @@ fn tick_with<R: Threads + Wait + Sync>(
     rt: &R,
     alloc: Global,
     agent: &Agent,
-    devices: &mut [Clock],
+    devices: &mut [TableDevice],
 ) -> Result<Option<Told>, NoMemory>
     requires formed { WellFormed agent.now }
 {
@@ -159,8 +131,8 @@ fn tick<R: Threads + Wait + Sync>(
 ) -> Result<Option<Told>, NoMemory>
     requires formed { WellFormed agent.now }
 {
-    let one = Clock::new(alloc, 1)?;
-    let two = Clock::new(alloc, 2)?;
+    let one = clock_of(alloc, 1)?;
+    let two = clock_of(alloc, 2)?;
     let mut devices = [one, two];
     tick_with(rt, alloc, agent, &mut devices)
 }
@@ -177,8 +149,8 @@ fn tick_all<R: Threads + Wait + Sync>(rt: &R, alloc: Global) -> Result<Option<To
 }
 
 #[test]
-fn posts_stand_in_order_and_whole(rt: HostRuntime) -> Result<(), Fail> {
+fn posts_stand_in_order_and_whole(rt: HostRuntime) -> Result<(), NoMemory> {
     let told = tick_all(&rt, rt.alloc())?;
-    assert_eq!(rt; told, Some(([None, None], Some(Answer::Done))));
+    same(&rt, "posts", told, Some(([None, None], Some(Answer::Done))));
     Ok(())
 }

@@ -1,6 +1,7 @@
 //! Journals that are written as they grow: whoever follows one sees each line when its entry is seen.
 ghost use Rattle.golog_semantics.specs.WellFormed.{WellFormed};
 
+use crate::asserting::same;
 use crate::runs::agent_of;
 use golog_agent::{Pen, Scribe, run_inline};
 use golog_base::{Bytes, Failed, List, MemSink, NoMemory, Sink};
@@ -10,7 +11,6 @@ use golog_semantics::Answer;
 use golog_tree::Agent;
 use std::alloc::Global;
 use std::sync::atomic::{AtomicU64, Ordering};
-use std::test::Fail;
 
 /// A program of two steps beside a device that posts.
 const AGENT: &[u8] =
@@ -163,15 +163,25 @@ fn all_cut_short(alloc: Global) -> Result<(Option<Came>, bool), NoMemory> {
 
 // The device saw none, two and four lines: in each round its post, and the step that the program took behind it.
 #[test]
-fn each_line_is_seen_with_its_entry(rt: HostRuntime) -> Result<(), Fail> {
+fn each_line_is_seen_with_its_entry(rt: HostRuntime) -> Result<(), NoMemory> {
     let told = followed_all(rt.alloc())?;
-    assert_eq!(rt; told, (Some((false, Some(Answer::Done))), 24, 6));
+    same(
+        &rt,
+        "lines",
+        told,
+        (Some((false, Some(Answer::Done))), 24, 6),
+    );
     Ok(())
 }
 
 #[test]
-fn nothing_is_written_after_a_fault(rt: HostRuntime) -> Result<(), Fail> {
+fn nothing_is_written_after_a_fault(rt: HostRuntime) -> Result<(), NoMemory> {
     let told = all_cut_short(rt.alloc())?;
-    assert_eq!(rt; told, (Some((true, Some(Answer::Done))), true));
+    same(
+        &rt,
+        "cut short",
+        told,
+        (Some((true, Some(Answer::Done))), true),
+    );
     Ok(())
 }

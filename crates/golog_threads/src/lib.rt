@@ -10,8 +10,6 @@ mod naming;
 mod ops;
 mod run;
 mod shared;
-#[cfg(test)]
-mod tests;
 
 pub use laws::{commit_stays, post_stays};
 pub use run::run_threads;

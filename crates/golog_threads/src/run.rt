@@ -30,7 +30,7 @@ use std::sync::Wait;
 use std::thread::{Threads, join_mut};
 
 // The party of the lead, after those of the devices.
-pub(crate) const LEAD: u32 = 16;
+const LEAD: u32 = 16;
 
 // Whether the lead has ended.
 fn is_ended(led: Led) -> bool
@@ -97,10 +97,7 @@ fn opens_of(journal: &Journal, count: usize) -> [bool; DEVICES]
 }
 
 // A seat for the lead, whose party is above the devices'.
-pub(crate) fn split_lead<A: Naming>(
-    lock: &TurnLock<Shared<A>>,
-    seat: &mut Seat<Shared<A>>,
-) -> Seat<Shared<A>>
+fn split_lead<A: Naming>(lock: &TurnLock<Shared<A>>, seat: &mut Seat<Shared<A>>) -> Seat<Shared<A>>
     requires lock { IsSeatOf lock.now seat.old }
     requires parties { parties_of seat.old ≡ parties_below 17 }
     ensures lock { IsSeatOf lock.now seat.new × IsSeatOf lock.now result }
