@@ -58,56 +58,53 @@ module _ (agent : Agent) where
     pub one : PartOf r p
     pub other : PartOf r q
 
-  pub choice_parts : (r p q : Prog) → IsClosed agent r → r ≡ prog.Choice p q → PartsOf r p q
-  choice_parts r p q c e =
-      let is : out-Prog r ≡ Choice p q = ap out-Prog e ∙ prog.outs-Choice p q in
-      let k = and_cases (prog_fits agent p (outside c.in_block)) (prog_fits agent q (outside c.in_block)) (level r c (Choice p q) is) in
-      let h = ap (λ (f : Front). f.height) (front-at agent r (Choice p q) is) in
-      record {
-        one = record { closed_too = closed c.in_block p k.0; lower = omega arith };
-        other = record { closed_too = closed c.in_block q k.1; lower = omega arith };
-      }
-
-  pub conc_parts : (r p q : Prog) → IsClosed agent r → r ≡ prog.Conc p q → PartsOf r p q
-  conc_parts r p q c e =
-      let is : out-Prog r ≡ Conc p q = ap out-Prog e ∙ prog.outs-Conc p q in
-      let k = and_cases (prog_fits agent p (outside c.in_block)) (prog_fits agent q (outside c.in_block)) (level r c (Conc p q) is) in
-      let h = ap (λ (f : Front). f.height) (front-at agent r (Conc p q) is) in
-      record {
-        one = record { closed_too = closed c.in_block p k.0; lower = omega arith };
-        other = record { closed_too = closed c.in_block q k.1; lower = omega arith };
-      }
-
-  pub prio_parts : (r p q : Prog) → IsClosed agent r → r ≡ prog.Prio p q → PartsOf r p q
-  prio_parts r p q c e =
-      let is : out-Prog r ≡ Prio p q = ap out-Prog e ∙ prog.outs-Prio p q in
-      let k = and_cases (prog_fits agent p (outside c.in_block)) (prog_fits agent q (outside c.in_block)) (level r c (Prio p q) is) in
-      let h = ap (λ (f : Front). f.height) (front-at agent r (Prio p q) is) in
-      record {
-        one = record { closed_too = closed c.in_block p k.0; lower = omega arith };
-        other = record { closed_too = closed c.in_block q k.1; lower = omega arith };
-      }
-
   -- the parts of a sequence, of which the second is at the front where the first may be skipped
   pub record SeqParts (r p q : Prog) : Type 0 where
     pub one : PartOf r p
     pub other_closed : IsClosed agent q
     pub other_lower : (front agent p).skip ≡ true → height q < height r
 
-  pub seq_parts : (r p q : Prog) → IsClosed agent r → r ≡ prog.Seq p q → SeqParts r p q
-  seq_parts r p q c e =
-      let is : out-Prog r ≡ Seq p q = ap out-Prog e ∙ prog.outs-Seq p q in
-      let k = and_cases (prog_fits agent p (outside c.in_block)) (prog_fits agent q (outside c.in_block)) (level r c (Seq p q) is) in
-      let h : height r ≡ 1 + max (height p) (if (front agent p).skip then height q else 0) = ap (λ (f : Front). f.height) (front-at agent r (Seq p q) is) in
-      record {
-        one = record { closed_too = closed c.in_block p k.0; lower = omega arith };
-        other_closed = closed c.in_block q k.1;
-        other_lower = λ s. let d : height r ≡ 1 + max (height p) (height q) = h ∙ (rw s refl) in omega arith;
-      }
+  -- the condition and the branches of an `if`
+  pub record IfParts (r : Prog) (t : Cond) (p q : Prog) : Type 0 where
+    pub cond : cond_fits agent t nothing_bound ≡ true
+    pub yes : PartOf r p
+    pub no : PartOf r q
+
+  -- the condition and the body of a `while`
+  pub record WhileParts (r : Prog) (t : Cond) (p : Prog) : Type 0 where
+    pub cond : cond_fits agent t nothing_bound ≡ true
+    pub body : PartOf r p
 
   -- how deep two parts lead of which the second may stand at the front only where the first may be skipped
   abbrev pub both_height : Prog → Prog → ℕ
   both_height p q = max (height p) (if (front agent p).skip then height q else 0)
+
+  -- a part as a walk comes down to it
+  pub record Down (r p : Prog) : Type 0 where
+    pub closed_too : IsClosed agent p
+    pub to_part : 1 + 3 * height p < 1 + 3 * height r
+    pub to_more : 2 + 3 * height p < 1 + 3 * height r
+    pub from_whole : 1 + 3 * height p < 3 * height r
+    pub more_from_whole : 2 + 3 * height p < 3 * height r
+
+  -- two parts as a walk comes down to both
+  pub record BothDown (r p q : Prog) : Type 0 where
+    pub one : IsClosed agent p
+    pub other : IsClosed agent q
+    pub to_both : 2 + 3 * max (height p) (height q) < 1 + 3 * height r
+    pub to_either : 3 + 3 * max (height p) (height q) < 1 + 3 * height r
+    pub from_whole : 2 + 3 * max (height p) (height q) < 3 * height r
+
+  -- a construct as it is handed on whole
+  pub record Whole (r q : Prog) : Type 0 where
+    pub closed_too : IsClosed agent q
+    pub lower : 3 * height q < 1 + 3 * height r
+
+  -- two parts as they are handed on to where both are walked over, the second only where the first may be skipped
+  pub record BothUnder (r p q : Prog) : Type 0 where
+    pub one : IsClosed agent p
+    pub other : IsClosed agent q
+    pub lower : 2 + 3 * both_height p q < 1 + 3 * height r
 
   pub both_one_lower : (p q : Prog) → 1 + 3 * height p < 2 + 3 * both_height p q
   both_one_lower p q = go (if (front agent p).skip then height q else 0)
@@ -129,24 +126,6 @@ module _ (agent : Agent) where
       go true k = let j = k refl in omega arith
       go false k = omega arith
 
-  pub seq_lower : (r p q : Prog) → SeqParts r p q → 2 + 3 * both_height p q < 1 + 3 * height r
-  seq_lower r p q parts = both_under r p q parts.one.lower parts.other_lower
-
-  pub parts_lower : (r p q : Prog) → PartsOf r p q → 2 + 3 * both_height p q < 1 + 3 * height r
-  parts_lower r p q parts = both_under r p q parts.one.lower (λ s. parts.other.lower)
-
-  pub star_part : (r p : Prog) → IsClosed agent r → r ≡ prog.Star p → PartOf r p
-  star_part r p c e =
-      let is : out-Prog r ≡ Star p = ap out-Prog e ∙ prog.outs-Star p in
-      let h = ap (λ (f : Front). f.height) (front-at agent r (Star p) is) in
-      record { closed_too = closed c.in_block p (level r c (Star p) is); lower = omega arith }
-
-  pub cstar_part : (r p : Prog) → IsClosed agent r → r ≡ prog.Cstar p → PartOf r p
-  cstar_part r p c e =
-      let is : out-Prog r ≡ Cstar p = ap out-Prog e ∙ prog.outs-Cstar p in
-      let h = ap (λ (f : Front). f.height) (front-at agent r (Cstar p) is) in
-      record { closed_too = closed c.in_block p (level r c (Cstar p) is); lower = omega arith }
-
   pub search_part : (r p : Prog) (depth fuel : ℕ) → IsClosed agent r → r ≡ prog.Search depth fuel p → PartOf r p
   search_part r p depth fuel c e =
       let is : out-Prog r ≡ Search depth fuel p = ap out-Prog e ∙ prog.outs-Search depth fuel p in
@@ -167,36 +146,6 @@ module _ (agent : Agent) where
 
   pub act_fits-of : (r : Prog) (action : ℕ) (args : List Arg) → IsClosed agent r → r ≡ prog.Act action args → act_fits agent outermost action args ≡ true
   act_fits-of r action args c e = level r c (Act action args) (ap out-Prog e ∙ prog.outs-Act action args)
-
-  -- the condition and the branches of an `if`
-  pub record IfParts (r : Prog) (t : Cond) (p q : Prog) : Type 0 where
-    pub cond : cond_fits agent t nothing_bound ≡ true
-    pub yes : PartOf r p
-    pub no : PartOf r q
-
-  pub if_parts : (r : Prog) (t : Cond) (p q : Prog) → IsClosed agent r → r ≡ prog.If t p q → IfParts r t p q
-  if_parts r t p q c e =
-      let is : out-Prog r ≡ If t p q = ap out-Prog e ∙ prog.outs-If t p q in
-      let j = and_cases (cond_fits agent t nothing_bound && prog_fits agent p (outside c.in_block)) (prog_fits agent q (outside c.in_block)) (level r c (If t p q) is) in
-      let k = and_cases (cond_fits agent t nothing_bound) (prog_fits agent p (outside c.in_block)) j.0 in
-      let h = ap (λ (f : Front). f.height) (front-at agent r (If t p q) is) in
-      record {
-        cond = k.0;
-        yes = record { closed_too = closed c.in_block p k.1; lower = omega arith };
-        no = record { closed_too = closed c.in_block q j.1; lower = omega arith };
-      }
-
-  -- the condition and the body of a `while`
-  pub record WhileParts (r : Prog) (t : Cond) (p : Prog) : Type 0 where
-    pub cond : cond_fits agent t nothing_bound ≡ true
-    pub body : PartOf r p
-
-  pub while_parts : (r : Prog) (t : Cond) (p : Prog) → IsClosed agent r → r ≡ prog.While t p → WhileParts r t p
-  while_parts r t p c e =
-      let is : out-Prog r ≡ While t p = ap out-Prog e ∙ prog.outs-While t p in
-      let k = and_cases (cond_fits agent t nothing_bound) (prog_fits agent p (outside c.in_block)) (level r c (While t p) is) in
-      let h = ap (λ (f : Front). f.height) (front-at agent r (While t p) is) in
-      record { cond = k.0; body = record { closed_too = closed c.in_block p k.1; lower = omega arith } }
 
   -- the body of a `pick` with a constant of the sort put in
   pub pick_part : (r : Prog) (x sort : ℕ) (p : Prog) → IsClosed agent r → r ≡ prog.Pick x sort p → (value : ℕ) → value < sort_size agent sort → PartOf r (put_arg p x value)
@@ -238,3 +187,110 @@ module _ (agent : Agent) where
   call_few f r item args c e =
       let is : out-Prog r ≡ Call item args = ap out-Prog e ∙ prog.outs-Call item args in
       few-args agent.procs item args f.params (and_cases (option_map_or (fits_params args) (slice_get agent.procs item) false) _ (level r c (Call item args) is)).0
+
+module _ {agent : Agent} {r p q : Prog} where
+  pub choice_parts : IsClosed agent r → r ≡ prog.Choice p q → PartsOf agent r p q
+  choice_parts c e =
+      let is : out-Prog r ≡ Choice p q = ap out-Prog e ∙ prog.outs-Choice p q in
+      let k = and_cases (prog_fits agent p (outside agent c.in_block)) (prog_fits agent q (outside agent c.in_block)) (level agent r c (Choice p q) is) in
+      let h = ap (λ (f : Front). f.height) (front-at agent r (Choice p q) is) in
+      record {
+        one = record { closed_too = closed agent c.in_block p k.0; lower = omega arith };
+        other = record { closed_too = closed agent c.in_block q k.1; lower = omega arith };
+      }
+
+  pub conc_parts : IsClosed agent r → r ≡ prog.Conc p q → PartsOf agent r p q
+  conc_parts c e =
+      let is : out-Prog r ≡ Conc p q = ap out-Prog e ∙ prog.outs-Conc p q in
+      let k = and_cases (prog_fits agent p (outside agent c.in_block)) (prog_fits agent q (outside agent c.in_block)) (level agent r c (Conc p q) is) in
+      let h = ap (λ (f : Front). f.height) (front-at agent r (Conc p q) is) in
+      record {
+        one = record { closed_too = closed agent c.in_block p k.0; lower = omega arith };
+        other = record { closed_too = closed agent c.in_block q k.1; lower = omega arith };
+      }
+
+  pub prio_parts : IsClosed agent r → r ≡ prog.Prio p q → PartsOf agent r p q
+  prio_parts c e =
+      let is : out-Prog r ≡ Prio p q = ap out-Prog e ∙ prog.outs-Prio p q in
+      let k = and_cases (prog_fits agent p (outside agent c.in_block)) (prog_fits agent q (outside agent c.in_block)) (level agent r c (Prio p q) is) in
+      let h = ap (λ (f : Front). f.height) (front-at agent r (Prio p q) is) in
+      record {
+        one = record { closed_too = closed agent c.in_block p k.0; lower = omega arith };
+        other = record { closed_too = closed agent c.in_block q k.1; lower = omega arith };
+      }
+
+  pub seq_parts : IsClosed agent r → r ≡ prog.Seq p q → SeqParts agent r p q
+  seq_parts c e =
+      let is : out-Prog r ≡ Seq p q = ap out-Prog e ∙ prog.outs-Seq p q in
+      let k = and_cases (prog_fits agent p (outside agent c.in_block)) (prog_fits agent q (outside agent c.in_block)) (level agent r c (Seq p q) is) in
+      let h : height agent r ≡ 1 + max (height agent p) (if (front agent p).skip then height agent q else 0) = ap (λ (f : Front). f.height) (front-at agent r (Seq p q) is) in
+      record {
+        one = record { closed_too = closed agent c.in_block p k.0; lower = omega arith };
+        other_closed = closed agent c.in_block q k.1;
+        other_lower = λ s. let d : height agent r ≡ 1 + max (height agent p) (height agent q) = h ∙ (rw s refl) in omega arith;
+      }
+
+  pub if_parts : {t : Cond} → IsClosed agent r → r ≡ prog.If t p q → IfParts agent r t p q
+  if_parts {t} c e =
+      let is : out-Prog r ≡ If t p q = ap out-Prog e ∙ prog.outs-If t p q in
+      let j = and_cases (cond_fits agent t nothing_bound && prog_fits agent p (outside agent c.in_block)) (prog_fits agent q (outside agent c.in_block)) (level agent r c (If t p q) is) in
+      let k = and_cases (cond_fits agent t nothing_bound) (prog_fits agent p (outside agent c.in_block)) j.0 in
+      let h = ap (λ (f : Front). f.height) (front-at agent r (If t p q) is) in
+      record {
+        cond = k.0;
+        yes = record { closed_too = closed agent c.in_block p k.1; lower = omega arith };
+        no = record { closed_too = closed agent c.in_block q j.1; lower = omega arith };
+      }
+
+  pub branches : {t : Cond} → IfParts agent r t p q → PartsOf agent r p q
+  branches parts = record { one = parts.yes; other = parts.no }
+
+  -- the parts of a sequence whose first may be skipped
+  pub skipped : (front agent p).skip ≡ true → SeqParts agent r p q → PartsOf agent r p q
+  skipped s parts = record { one = parts.one; other = record { closed_too = parts.other_closed; lower = parts.other_lower s } }
+
+  pub both_down : PartsOf agent r p q → BothDown agent r p q
+  both_down parts =
+      let l = parts.one.lower in
+      let k = parts.other.lower in
+      record { one = parts.one.closed_too; other = parts.other.closed_too; to_both = omega arith; to_either = omega arith; from_whole = omega arith }
+
+  pub seq_both : SeqParts agent r p q → BothUnder agent r p q
+  seq_both parts = record { one = parts.one.closed_too; other = parts.other_closed; lower = both_under agent r p q parts.one.lower parts.other_lower }
+
+  pub parts_both : PartsOf agent r p q → BothUnder agent r p q
+  parts_both parts = record { one = parts.one.closed_too; other = parts.other.closed_too; lower = both_under agent r p q parts.one.lower (λ s. parts.other.lower) }
+
+module _ {agent : Agent} {r p : Prog} where
+  pub whole : r ≡ p → IsClosed agent r → Whole agent r p
+  whole e c =
+      let same = ap (λ (z : Prog). height agent z) e in
+      record { closed_too = subst (λ (z : Prog). IsClosed agent z) e c; lower = omega arith }
+
+  pub down : PartOf agent r p → Down agent r p
+  down part =
+      let l = part.lower in
+      record { closed_too = part.closed_too; to_part = omega arith; to_more = omega arith; from_whole = omega arith; more_from_whole = omega arith }
+
+  -- a part by another name
+  pub part_as : {q : Prog} → q ≡ p → PartOf agent r p → PartOf agent r q
+  part_as {q} e part = subst (λ (z : Prog). PartOf agent r z) (sym e) part
+
+  pub star_part : IsClosed agent r → r ≡ prog.Star p → PartOf agent r p
+  star_part c e =
+      let is : out-Prog r ≡ Star p = ap out-Prog e ∙ prog.outs-Star p in
+      let h = ap (λ (f : Front). f.height) (front-at agent r (Star p) is) in
+      record { closed_too = closed agent c.in_block p (level agent r c (Star p) is); lower = omega arith }
+
+  pub cstar_part : IsClosed agent r → r ≡ prog.Cstar p → PartOf agent r p
+  cstar_part c e =
+      let is : out-Prog r ≡ Cstar p = ap out-Prog e ∙ prog.outs-Cstar p in
+      let h = ap (λ (f : Front). f.height) (front-at agent r (Cstar p) is) in
+      record { closed_too = closed agent c.in_block p (level agent r c (Cstar p) is); lower = omega arith }
+
+  pub while_parts : {t : Cond} → IsClosed agent r → r ≡ prog.While t p → WhileParts agent r t p
+  while_parts {t} c e =
+      let is : out-Prog r ≡ While t p = ap out-Prog e ∙ prog.outs-While t p in
+      let k = and_cases (cond_fits agent t nothing_bound) (prog_fits agent p (outside agent c.in_block)) (level agent r c (While t p) is) in
+      let h = ap (λ (f : Front). f.height) (front-at agent r (While t p) is) in
+      record { cond = k.0; body = record { closed_too = closed agent c.in_block p k.1; lower = omega arith } }

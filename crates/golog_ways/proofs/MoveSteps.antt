@@ -62,6 +62,11 @@ head-flat f (c ∷ cs) = let e = head-append (f c) (flat_map f cs) in let k = he
 pub move_as : {E : Type 0} (result : Result (Option Move) E) (x y : Option Move) → x ≡ y → IfOk result (λ w. w ≡ x) → IfOk result (λ w. w ≡ y)
 move_as result x y e h = subst (λ (z : Option Move). IfOk result (λ w. w ≡ z)) e h
 
+-- the first step of a program is that of one that equals it
+pub first_as : (agent : Agent) (blocks : Blocks) (values : Values) {E : Type 0} (result : Result (Option Move) E) {r q : Prog} → r ≡ q
+    → IfOk result (λ w. w ≡ first_move agent blocks values q) → IfOk result (λ w. w ≡ first_move agent blocks values r)
+first_as agent blocks values result e h = subst (λ (z : Prog). IfOk result (λ w. w ≡ first_move agent blocks values z)) (sym e) h
+
 -- the first for the constants from this one on
 abbrev pub rest_moves : Agent → Blocks → Values → ℕ → ℕ → Prog → ℕ → Option Move
 rest_moves agent blocks values x sort p i = move_among (λ c. first_move agent blocks values (put_arg p x c)) (range_with_len i (sort_size agent sort - i))

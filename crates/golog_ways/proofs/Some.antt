@@ -60,6 +60,11 @@ at-end f i n found l h = sym (h ∙ or_none found (from f i n) (from-end f i n l
 pub at-found : (f : ℕ → Bool) (i n : ℕ) (found : Bool) → found ≡ true → SoFar f i n found → found ≡ list_any f (range_with_len 0 n)
 at-found f i n found e h = e ∙ sym (h ∙ ap (λ z. z || from f i n) e)
 
+certain : (m : Mode) (t : Truth) → holds Must t ≡ true → holds m t ≡ true
+certain m Yes e = holds-yes m
+certain m No e = absurd (cc)
+certain m Unknown e = absurd (cc)
+
 module _ (agent : Agent) (values : Values) (x sort : ℕ) (p : Prog) where
   abbrev may_end : Mode → ℕ → Bool
   may_end m c = final agent values m (put_arg p x c)
@@ -68,26 +73,26 @@ module _ (agent : Agent) (values : Values) (x sort : ℕ) (p : Prog) where
   pub record EndsSoFar (i : ℕ) (t : Truth) : Type 0 where
     pub ends : (m : Mode) → SoFar (may_end m) i (sort_size agent sort) (holds m t)
 
-  pub none_ends : EndsSoFar 0 No
-  none_ends = record { ends = λ m. none-yet (may_end m) (sort_size agent sort) m }
+module _ {agent : Agent} {values : Values} {x sort : ℕ} {p : Prog} where
+  pub none_ends : EndsSoFar agent values x sort p 0 No
+  none_ends = record { ends = λ m. none-yet (may_end agent values x sort p m) (sort_size agent sort) m }
 
-  pub more_ends : (i : ℕ) (t u r : Truth) → i < sort_size agent sort → r ≡ either t u → EndsAs agent values (put_arg p x i) u → EndsSoFar i t → EndsSoFar (i + 1) r
-  more_ends i t u r l is h s =
-      subst (λ (z : Truth). EndsSoFar (i + 1) z) (sym is) (record { ends = λ m. one-more (may_end m) i (sort_size agent sort) m t u l (h.ends m) (s.ends m) })
+  pub more_ends : {i : ℕ} {t u r : Truth} {put : Prog} → i < sort_size agent sort → r ≡ either t u → put ≡ put_arg p x i → EndsAs agent values put u → EndsSoFar agent values x sort p i t
+      → EndsSoFar agent values x sort p (i + 1) r
+  more_ends {i} {t} {u} {r} {put} l is e h s =
+      subst (λ (z : Truth). EndsSoFar agent values x sort p (i + 1) z) (sym is)
+      (record { ends = λ m. one-more (may_end agent values x sort p m) i (sort_size agent sort) m t u l (h.ends m ∙ ap (final agent values m) e) (s.ends m) })
 
-  pub pick_ends : IsGuarded agent → (i : ℕ) (t : Truth) → sort_size agent sort ≤ i → EndsSoFar i t → EndsAs agent values (prog.Pick x sort p) t
-  pick_ends g i t l s = record {
-    ends = λ m. at-end (may_end m) i (sort_size agent sort) (holds m t) l (s.ends m) ∙ sym (final-by agent values g m (prog.Pick x sort p) (Pick x sort p) (prog.outs-Pick x sort p));
-  }
-
-  pub pick_settled : IsGuarded agent → (i : ℕ) (t : Truth) → holds Must t ≡ true → EndsSoFar i t → EndsAs agent values (prog.Pick x sort p) t
-  pick_settled g i t e s = record {
+  pub pick_ends : {i : ℕ} {t : Truth} → IsGuarded agent → sort_size agent sort ≤ i → EndsSoFar agent values x sort p i t → EndsAs agent values (prog.Pick x sort p) t
+  pick_ends {i} {t} g l s = record {
     ends = λ m.
-        at-found (may_end m) i (sort_size agent sort) (holds m t) (certain m t e) (s.ends m)
+        at-end (may_end agent values x sort p m) i (sort_size agent sort) (holds m t) l (s.ends m)
         ∙ sym (final-by agent values g m (prog.Pick x sort p) (Pick x sort p) (prog.outs-Pick x sort p));
   }
-    where
-      certain : (m : Mode) (t : Truth) → holds Must t ≡ true → holds m t ≡ true
-      certain m Yes e = holds-yes m
-      certain m No e = absurd (cc)
-      certain m Unknown e = absurd (cc)
+
+  pub pick_settled : {i : ℕ} {t : Truth} → IsGuarded agent → holds Must t ≡ true → EndsSoFar agent values x sort p i t → EndsAs agent values (prog.Pick x sort p) t
+  pick_settled {i} {t} g e s = record {
+    ends = λ m.
+        at-found (may_end agent values x sort p m) i (sort_size agent sort) (holds m t) (certain m t e) (s.ends m)
+        ∙ sym (final-by agent values g m (prog.Pick x sort p) (Pick x sort p) (prog.outs-Pick x sort p));
+  }

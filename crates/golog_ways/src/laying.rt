@@ -6,8 +6,8 @@ ghost use Rattle.golog_ways.specs.Puts.{cond_put_args, cond_put_one};
 
 use crate::combining::{negation_of, pair_of};
 use crate::context::Place;
-use crate::ending::end_of;
 use crate::front_lists::{Front, fronts_at, fronts_where, joined, none_open};
+use crate::here::Fit;
 use golog_base::{List, NoMemory};
 use golog_known::Env;
 use golog_tree::{Agent, Arg, Cond, Label, Prog, action_no, copy_cond, put_cond};
@@ -111,7 +111,8 @@ fn where_ends(
     requires closed { IsClosed agent.now one.now }
     ensures { IfOk result (AreWhereEnds agent.now one.now fronts.now) }
 {
-    let end = end_of(alloc, agent, one)?;
+    let fit = Fit { alloc, agent };
+    let end = fit.end_of(one)?;
     fronts_where(alloc, &end, fronts)
 }
 

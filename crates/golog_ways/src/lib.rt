@@ -11,6 +11,7 @@ mod ending;
 mod finality;
 mod front_lists;
 mod going;
+mod here;
 mod keep;
 mod laws;
 mod laying;

@@ -11,7 +11,7 @@ ghost use Rattle.golog_ways.specs.FrontBlock.{has_front_block};
 ghost use Rattle.golog_ways.specs.InWorlds.{EndIsSo, StepIsSo, WayIsCertain};
 ghost use Rattle.golog_ways.specs.Lefts.{LeavesClosed};
 
-use crate::finality::can_end;
+use crate::here::Here;
 use crate::without::{any_without, first_without};
 use golog_base::NoMemory;
 use golog_progress::State;
@@ -36,7 +36,12 @@ pub fn is_final(
     ensures worlds { IsTrue (fits agent.now prog.now)
         → IfOk result (EndIsSo agent.now state.now prog.now mode) }
 {
-    can_end(alloc, agent, mode, prog, state.values())
+    let here = Here {
+        alloc,
+        agent,
+        values: state.values(),
+    };
+    here.can_end(mode, prog)
 }
 
 /// The first certain step of a program in a state, found without listing the others: `None` exactly where

@@ -15,14 +15,14 @@ use Rattle.golog_search.proofs.told.+asking.Goals as goal
 pub ask_of-ask-requires-clause-searched : goal.ask_of-ask-requires-clause-searched
 ask_of-ask-requires-clause-searched g t c =
     let a = c.get.result.now in
-    let e = one_same (λ (z : Prog). prog.Follow c.in-Follow.depth c.in-Follow.fuel z c.in-Follow.rest) c.args.prog.now c.in-Follow.body a c.in-Follow.is c.get.ensures in
+    let e = one_same (λ (z : Prog). prog.Follow c.in-Follow.depth c.in-Follow.fuel z c.in-Follow.rest) c.in-Follow.is c.get.ensures in
     follow_body c.args.agent.now c.args.state.now c.requires.sorts c.args.prog.now a c.in-Follow.depth c.in-Follow.fuel c.in-Follow.rest c.requires.closed e
 
 pub ask_of-ask_of-requires : goal.ask_of-ask_of-requires
 ask_of-ask_of-requires g t c κs within =
     let a = c.get-in-Seq.result.now in
-    let e = one_same (λ (z : Prog). prog.Seq z c.in-Seq.field-1) c.args.prog.now c.in-Seq.one a c.in-Seq.is c.get-in-Seq.ensures in
-    let parts = seq_parts c.args.agent.now c.args.prog.now a c.in-Seq.field-1 c.requires.closed e in
+    let e = one_same (λ (z : Prog). prog.Seq z c.in-Seq.field-1) c.in-Seq.is c.get-in-Seq.ensures in
+    let parts = seq_parts c.requires.closed e in
     let closed = parts.one.closed_too in
     let l = parts.one.lower in
     let low : 2 * (front c.args.agent.now a).height < 2 * (front c.args.agent.now c.args.prog.now).height = omega arith in
@@ -32,8 +32,8 @@ pub ask_of-ask_of_both-requires : goal.ask_of-ask_of_both-requires
 ask_of-ask_of_both-requires g t c κs within =
     let a = c.get-in-Conc.result.now in
     let b = c.get-in-Conc-2.result.now in
-    let e = two_same (prog.Conc) c.args.prog.now c.in-Conc.one c.in-Conc.other a b c.in-Conc.is c.get-in-Conc.ensures c.get-in-Conc-2.ensures in
-    let parts = conc_parts c.args.agent.now c.args.prog.now a b c.requires.closed e in
+    let e = two_same (prog.Conc) c.in-Conc.is c.get-in-Conc.ensures c.get-in-Conc-2.ensures in
+    let parts = conc_parts c.requires.closed e in
     let one_closed = parts.one.closed_too in
     let other_closed = parts.other.closed_too in
     let l = parts.one.lower in
@@ -45,8 +45,8 @@ pub ask_of-ask_of_both-requires-in-Prio : goal.ask_of-ask_of_both-requires-in-Pr
 ask_of-ask_of_both-requires-in-Prio g t c κs within =
     let a = c.get-in-Prio.result.now in
     let b = c.get-in-Prio-2.result.now in
-    let e = two_same (prog.Prio) c.args.prog.now c.in-Prio.one c.in-Prio.other a b c.in-Prio.is c.get-in-Prio.ensures c.get-in-Prio-2.ensures in
-    let parts = prio_parts c.args.agent.now c.args.prog.now a b c.requires.closed e in
+    let e = two_same (prog.Prio) c.in-Prio.is c.get-in-Prio.ensures c.get-in-Prio-2.ensures in
+    let parts = prio_parts c.requires.closed e in
     let one_closed = parts.one.closed_too in
     let other_closed = parts.other.closed_too in
     let l = parts.one.lower in
@@ -74,7 +74,7 @@ ask_of-returns-in-Follow-clause-asked g t c =
     let values = c.args.state.now in
     let old = c.args.told.now in
     let a = c.get.result.now in
-    let is = one_same (λ (z : Prog). prog.Follow c.in-Follow.depth c.in-Follow.fuel z c.in-Follow.rest) c.args.prog.now c.in-Follow.body a c.in-Follow.is c.get.ensures in
+    let is = one_same (λ (z : Prog). prog.Follow c.in-Follow.depth c.in-Follow.fuel z c.in-Follow.rest) c.in-Follow.is c.get.ensures in
     let same : told_in agent values c.args.prog.now ≡ told_at agent values a c.in-Follow.rest = ap (told_in agent values) is ∙ in-follow agent values c.in-Follow.depth c.in-Follow.fuel a c.in-Follow.rest in
     on_ok_weaker c.ask.result
     (λ (e : c.ask.new.told ≡ old ++ told_at agent values a c.as_slice.result.now). e ∙ ap (λ (xs : List Told). old ++ xs) (ap (told_at agent values a) c.as_slice.ensures ∙ sym same))
@@ -86,7 +86,7 @@ ask_of-returns-in-Seq-clause-asked g t c =
     let values = c.args.state.now in
     let old = c.args.told.now in
     let a = c.get-in-Seq.result.now in
-    let is = one_same (λ (z : Prog). prog.Seq z c.in-Seq.field-1) c.args.prog.now c.in-Seq.one a c.in-Seq.is c.get-in-Seq.ensures in
+    let is = one_same (λ (z : Prog). prog.Seq z c.in-Seq.field-1) c.in-Seq.is c.get-in-Seq.ensures in
     on_ok_weaker c.ask_of.result
     (λ (e : c.ask_of.new.told ≡ old ++ told_in agent values a). e ∙ ap (λ (xs : List Told). old ++ xs) (sym (ap (told_in agent values) is ∙ in-seq agent values a c.in-Seq.field-1)))
     c.ask_of.ensures.asked
@@ -98,7 +98,7 @@ ask_of-returns-in-Conc-clause-asked g t c =
     let old = c.args.told.now in
     let a = c.get-in-Conc.result.now in
     let b = c.get-in-Conc-2.result.now in
-    let is = two_same (prog.Conc) c.args.prog.now c.in-Conc.one c.in-Conc.other a b c.in-Conc.is c.get-in-Conc.ensures c.get-in-Conc-2.ensures in
+    let is = two_same (prog.Conc) c.in-Conc.is c.get-in-Conc.ensures c.get-in-Conc-2.ensures in
     on_ok_weaker c.ask_of_both.result
     (λ (e : c.ask_of_both.new.told ≡ old ++ (told_in agent values a ++ told_in agent values b)).
     e ∙ ap (λ (xs : List Told). old ++ xs) (sym (ap (told_in agent values) is ∙ in-conc agent values a b))) c.ask_of_both.ensures.asked
@@ -110,7 +110,7 @@ ask_of-returns-in-Prio-clause-asked g t c =
     let old = c.args.told.now in
     let a = c.get-in-Prio.result.now in
     let b = c.get-in-Prio-2.result.now in
-    let is = two_same (prog.Prio) c.args.prog.now c.in-Prio.one c.in-Prio.other a b c.in-Prio.is c.get-in-Prio.ensures c.get-in-Prio-2.ensures in
+    let is = two_same (prog.Prio) c.in-Prio.is c.get-in-Prio.ensures c.get-in-Prio-2.ensures in
     on_ok_weaker c.ask_of_both-in-Prio.result
     (λ (e : c.ask_of_both-in-Prio.new.told ≡ old ++ (told_in agent values a ++ told_in agent values b)).
     e ∙ ap (λ (xs : List Told). old ++ xs) (sym (ap (told_in agent values) is ∙ in-prio agent values a b))) c.ask_of_both-in-Prio.ensures.asked

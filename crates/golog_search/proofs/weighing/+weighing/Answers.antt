@@ -28,8 +28,8 @@ pub some_weighs-weighs_in_seq-requires : goal.some_weighs-weighs_in_seq-requires
 some_weighs-weighs_in_seq-requires t c =
     let a = c.get.result.now in
     let b = c.get-in-Seq.result.now in
-    let e = two_same (prog.Seq) c.args.prog.now c.in-Seq.one c.in-Seq.other a b c.in-Seq.is c.get.ensures c.get-in-Seq.ensures in
-    let closed = closed_as c.args.agent.now c.args.prog.now (prog.Seq a b) e c.requires.closed in
+    let e = two_same (prog.Seq) c.in-Seq.is c.get.ensures c.get-in-Seq.ensures in
+    let closed = closed_as e c.requires.closed in
     let same : (front c.args.agent.now c.args.prog.now).height ≡ (front c.args.agent.now (prog.Seq a b)).height = ap (λ (z : Prog). (front c.args.agent.now z).height) e in
     let low : 3 * (front c.args.agent.now (prog.Seq a b)).height < 1 + 3 * (front c.args.agent.now c.args.prog.now).height = omega arith in
     search rules
@@ -38,15 +38,15 @@ pub some_weighs-returns-in-Seq : goal.some_weighs-returns-in-Seq
 some_weighs-returns-in-Seq t c =
     let a = c.get.result.now in
     let b = c.get-in-Seq.result.now in
-    let e = two_same (prog.Seq) c.args.prog.now c.in-Seq.one c.in-Seq.other a b c.in-Seq.is c.get.ensures c.get-in-Seq.ensures in
+    let e = two_same (prog.Seq) c.in-Seq.is c.get.ensures c.get-in-Seq.ensures in
     subst (λ (z : Prog). IfOk c.weighs_in_seq.result (λ b. b ≡ some_weighs c.args.agent.now c.args.state.now c.args.at.stepless c.args.at.higher z)) (sym e) c.weighs_in_seq.ensures
 
 pub some_weighs-either_weighs-requires : goal.some_weighs-either_weighs-requires
 some_weighs-either_weighs-requires t c =
     let a = c.get-in-Choice.result.now in
     let b = c.get-in-Choice-2.result.now in
-    let e = two_same (prog.Choice) c.args.prog.now c.in-Choice.one c.in-Choice.other a b c.in-Choice.is c.get-in-Choice.ensures c.get-in-Choice-2.ensures in
-    let parts = choice_parts c.args.agent.now c.args.prog.now a b c.requires.closed e in
+    let e = two_same (prog.Choice) c.in-Choice.is c.get-in-Choice.ensures c.get-in-Choice-2.ensures in
+    let parts = choice_parts c.requires.closed e in
     let one_closed = parts.one.closed_too in
     let other_closed = parts.other.closed_too in
     let l = parts.one.lower in
@@ -58,15 +58,15 @@ pub some_weighs-returns-in-Choice : goal.some_weighs-returns-in-Choice
 some_weighs-returns-in-Choice t c =
     let a = c.get-in-Choice.result.now in
     let b = c.get-in-Choice-2.result.now in
-    let e = two_same (prog.Choice) c.args.prog.now c.in-Choice.one c.in-Choice.other a b c.in-Choice.is c.get-in-Choice.ensures c.get-in-Choice-2.ensures in
+    let e = two_same (prog.Choice) c.in-Choice.is c.get-in-Choice.ensures c.get-in-Choice-2.ensures in
     ok_as c.either_weighs.result _ _ (choice_weighs c.args.agent.now c.args.state.now c.args.at.stepless c.args.at.higher c.requires.agent.programs.guarded c.args.prog.now a b e) c.either_weighs.ensures
 
 pub some_weighs-either_weighs-requires-in-If : goal.some_weighs-either_weighs-requires-in-If
 some_weighs-either_weighs-requires-in-If t c =
     let a = c.get-in-If.result.now in
     let b = c.get-in-If-2.result.now in
-    let e = two_same (prog.If c.in-If.cond) c.args.prog.now c.in-If.yes c.in-If.no a b c.in-If.is c.get-in-If.ensures c.get-in-If-2.ensures in
-    let parts = if_parts c.args.agent.now c.args.prog.now c.in-If.cond a b c.requires.closed e in
+    let e = two_same (prog.If c.in-If.cond) c.in-If.is c.get-in-If.ensures c.get-in-If-2.ensures in
+    let parts = if_parts c.requires.closed e in
     let one_closed = parts.yes.closed_too in
     let other_closed = parts.no.closed_too in
     let l = parts.yes.lower in
@@ -78,15 +78,15 @@ pub some_weighs-returns-in-If : goal.some_weighs-returns-in-If
 some_weighs-returns-in-If t c =
     let a = c.get-in-If.result.now in
     let b = c.get-in-If-2.result.now in
-    let e = two_same (prog.If c.in-If.cond) c.args.prog.now c.in-If.yes c.in-If.no a b c.in-If.is c.get-in-If.ensures c.get-in-If-2.ensures in
+    let e = two_same (prog.If c.in-If.cond) c.in-If.is c.get-in-If.ensures c.get-in-If-2.ensures in
     ok_as c.either_weighs-in-If.result _ _ (if_weighs c.args.agent.now c.args.state.now c.args.at.stepless c.args.at.higher c.requires.agent.programs.guarded c.args.prog.now c.in-If.cond a b e) c.either_weighs-in-If.ensures
 
 pub some_weighs-either_weighs-requires-in-Conc : goal.some_weighs-either_weighs-requires-in-Conc
 some_weighs-either_weighs-requires-in-Conc t c =
     let a = c.get-in-Conc.result.now in
     let b = c.get-in-Conc-2.result.now in
-    let e = two_same (prog.Conc) c.args.prog.now c.in-Conc.one c.in-Conc.other a b c.in-Conc.is c.get-in-Conc.ensures c.get-in-Conc-2.ensures in
-    let parts = conc_parts c.args.agent.now c.args.prog.now a b c.requires.closed e in
+    let e = two_same (prog.Conc) c.in-Conc.is c.get-in-Conc.ensures c.get-in-Conc-2.ensures in
+    let parts = conc_parts c.requires.closed e in
     let one_closed = parts.one.closed_too in
     let other_closed = parts.other.closed_too in
     let l = parts.one.lower in
@@ -98,15 +98,15 @@ pub some_weighs-returns-in-Conc : goal.some_weighs-returns-in-Conc
 some_weighs-returns-in-Conc t c =
     let a = c.get-in-Conc.result.now in
     let b = c.get-in-Conc-2.result.now in
-    let e = two_same (prog.Conc) c.args.prog.now c.in-Conc.one c.in-Conc.other a b c.in-Conc.is c.get-in-Conc.ensures c.get-in-Conc-2.ensures in
+    let e = two_same (prog.Conc) c.in-Conc.is c.get-in-Conc.ensures c.get-in-Conc-2.ensures in
     ok_as c.either_weighs-in-Conc.result _ _ (conc_weighs c.args.agent.now c.args.state.now c.args.at.stepless c.args.at.higher c.requires.agent.programs.guarded c.args.prog.now a b e) c.either_weighs-in-Conc.ensures
 
 pub some_weighs-weighs_in_prio-requires : goal.some_weighs-weighs_in_prio-requires
 some_weighs-weighs_in_prio-requires t c =
     let a = c.get-in-Prio.result.now in
     let b = c.get-in-Prio-2.result.now in
-    let e = two_same (prog.Prio) c.args.prog.now c.in-Prio.high c.in-Prio.low a b c.in-Prio.is c.get-in-Prio.ensures c.get-in-Prio-2.ensures in
-    let parts = prio_parts c.args.agent.now c.args.prog.now a b c.requires.closed e in
+    let e = two_same (prog.Prio) c.in-Prio.is c.get-in-Prio.ensures c.get-in-Prio-2.ensures in
+    let parts = prio_parts c.requires.closed e in
     let one_closed = parts.one.closed_too in
     let other_closed = parts.other.closed_too in
     let l = parts.one.lower in
@@ -118,14 +118,14 @@ pub some_weighs-returns-in-Prio : goal.some_weighs-returns-in-Prio
 some_weighs-returns-in-Prio t c =
     let a = c.get-in-Prio.result.now in
     let b = c.get-in-Prio-2.result.now in
-    let e = two_same (prog.Prio) c.args.prog.now c.in-Prio.high c.in-Prio.low a b c.in-Prio.is c.get-in-Prio.ensures c.get-in-Prio-2.ensures in
+    let e = two_same (prog.Prio) c.in-Prio.is c.get-in-Prio.ensures c.get-in-Prio-2.ensures in
     ok_as c.weighs_in_prio.result _ _ (prio_weighs c.args.agent.now c.args.state.now c.args.at.stepless c.args.at.higher c.requires.agent.programs.guarded c.args.prog.now a b e) c.weighs_in_prio.ensures
 
 pub some_weighs-some_weighs-requires : goal.some_weighs-some_weighs-requires
 some_weighs-some_weighs-requires t c =
     let a = c.get-in-Star.result.now in
-    let e = one_same (prog.Star) c.args.prog.now c.in-Star.body a c.in-Star.is c.get-in-Star.ensures in
-    let part = star_part c.args.agent.now c.args.prog.now a c.requires.closed e in
+    let e = one_same (prog.Star) c.in-Star.is c.get-in-Star.ensures in
+    let part = star_part c.requires.closed e in
     let closed = part.closed_too in
     let l = part.lower in
     let low : 1 + 3 * (front c.args.agent.now a).height < 1 + 3 * (front c.args.agent.now c.args.prog.now).height = omega arith in
@@ -134,14 +134,14 @@ some_weighs-some_weighs-requires t c =
 pub some_weighs-returns-in-Star : goal.some_weighs-returns-in-Star
 some_weighs-returns-in-Star t c =
     let a = c.get-in-Star.result.now in
-    let e = one_same (prog.Star) c.args.prog.now c.in-Star.body a c.in-Star.is c.get-in-Star.ensures in
+    let e = one_same (prog.Star) c.in-Star.is c.get-in-Star.ensures in
     ok_as c.some_weighs.result _ _ (star_weighs c.args.agent.now c.args.state.now c.args.at.stepless c.args.at.higher c.requires.agent.programs.guarded c.args.prog.now a e) c.some_weighs.ensures
 
 pub some_weighs-some_weighs-requires-in-Cstar : goal.some_weighs-some_weighs-requires-in-Cstar
 some_weighs-some_weighs-requires-in-Cstar t c =
     let a = c.get-in-Cstar.result.now in
-    let e = one_same (prog.Cstar) c.args.prog.now c.in-Cstar.body a c.in-Cstar.is c.get-in-Cstar.ensures in
-    let part = cstar_part c.args.agent.now c.args.prog.now a c.requires.closed e in
+    let e = one_same (prog.Cstar) c.in-Cstar.is c.get-in-Cstar.ensures in
+    let part = cstar_part c.requires.closed e in
     let closed = part.closed_too in
     let l = part.lower in
     let low : 1 + 3 * (front c.args.agent.now a).height < 1 + 3 * (front c.args.agent.now c.args.prog.now).height = omega arith in
@@ -150,14 +150,14 @@ some_weighs-some_weighs-requires-in-Cstar t c =
 pub some_weighs-returns-in-Cstar : goal.some_weighs-returns-in-Cstar
 some_weighs-returns-in-Cstar t c =
     let a = c.get-in-Cstar.result.now in
-    let e = one_same (prog.Cstar) c.args.prog.now c.in-Cstar.body a c.in-Cstar.is c.get-in-Cstar.ensures in
+    let e = one_same (prog.Cstar) c.in-Cstar.is c.get-in-Cstar.ensures in
     ok_as c.some_weighs-in-Cstar.result _ _ (cstar_weighs c.args.agent.now c.args.state.now c.args.at.stepless c.args.at.higher c.requires.agent.programs.guarded c.args.prog.now a e) c.some_weighs-in-Cstar.ensures
 
 pub some_weighs-some_weighs-requires-in-While : goal.some_weighs-some_weighs-requires-in-While
 some_weighs-some_weighs-requires-in-While t c =
     let a = c.get-in-While.result.now in
-    let e = one_same (prog.While c.in-While.cond) c.args.prog.now c.in-While.body a c.in-While.is c.get-in-While.ensures in
-    let part = (while_parts c.args.agent.now c.args.prog.now c.in-While.cond a c.requires.closed e).body in
+    let e = one_same (prog.While c.in-While.cond) c.in-While.is c.get-in-While.ensures in
+    let part = (while_parts c.requires.closed e).body in
     let closed = part.closed_too in
     let l = part.lower in
     let low : 1 + 3 * (front c.args.agent.now a).height < 1 + 3 * (front c.args.agent.now c.args.prog.now).height = omega arith in
@@ -166,14 +166,14 @@ some_weighs-some_weighs-requires-in-While t c =
 pub some_weighs-returns-in-While : goal.some_weighs-returns-in-While
 some_weighs-returns-in-While t c =
     let a = c.get-in-While.result.now in
-    let e = one_same (prog.While c.in-While.cond) c.args.prog.now c.in-While.body a c.in-While.is c.get-in-While.ensures in
+    let e = one_same (prog.While c.in-While.cond) c.in-While.is c.get-in-While.ensures in
     ok_as c.some_weighs-in-While.result _ _ (while_weighs c.args.agent.now c.args.state.now c.args.at.stepless c.args.at.higher c.requires.agent.programs.guarded c.args.prog.now c.in-While.cond a e) c.some_weighs-in-While.ensures
 
 pub some_weighs-weighs_in_pick-requires : goal.some_weighs-weighs_in_pick-requires
 some_weighs-weighs_in_pick-requires t c =
     let a = c.get-in-Pick.result.now in
-    let e = one_same (prog.Pick c.in-Pick.var c.in-Pick.sort) c.args.prog.now c.in-Pick.body a c.in-Pick.is c.get-in-Pick.ensures in
-    let closed = closed_as c.args.agent.now c.args.prog.now (prog.Pick c.in-Pick.var c.in-Pick.sort a) e c.requires.closed in
+    let e = one_same (prog.Pick c.in-Pick.var c.in-Pick.sort) c.in-Pick.is c.get-in-Pick.ensures in
+    let closed = closed_as e c.requires.closed in
     let same : (front c.args.agent.now c.args.prog.now).height ≡ (front c.args.agent.now (prog.Pick c.in-Pick.var c.in-Pick.sort a)).height = ap (λ (z : Prog). (front c.args.agent.now z).height) e in
     let low : 3 * (front c.args.agent.now (prog.Pick c.in-Pick.var c.in-Pick.sort a)).height < 1 + 3 * (front c.args.agent.now c.args.prog.now).height = omega arith in
     search rules
@@ -181,14 +181,14 @@ some_weighs-weighs_in_pick-requires t c =
 pub some_weighs-returns-in-Pick : goal.some_weighs-returns-in-Pick
 some_weighs-returns-in-Pick t c =
     let a = c.get-in-Pick.result.now in
-    let e = one_same (prog.Pick c.in-Pick.var c.in-Pick.sort) c.args.prog.now c.in-Pick.body a c.in-Pick.is c.get-in-Pick.ensures in
+    let e = one_same (prog.Pick c.in-Pick.var c.in-Pick.sort) c.in-Pick.is c.get-in-Pick.ensures in
     subst (λ (z : Prog). IfOk c.weighs_in_pick.result (λ b. b ≡ some_weighs c.args.agent.now c.args.state.now c.args.at.stepless c.args.at.higher z)) (sym e) c.weighs_in_pick.ensures
 
 pub some_weighs-weighs_in_call-requires : goal.some_weighs-weighs_in_call-requires
 some_weighs-weighs_in_call-requires t c =
     let a = c.as_slice.result.now in
     let e = c.in-Call.is ∙ ap (prog.Call c.in-Call.item) (sym c.as_slice.ensures) in
-    let closed = closed_as c.args.agent.now c.args.prog.now (prog.Call c.in-Call.item a) e c.requires.closed in
+    let closed = closed_as e c.requires.closed in
     let same : (front c.args.agent.now c.args.prog.now).height ≡ (front c.args.agent.now (prog.Call c.in-Call.item a)).height = ap (λ (z : Prog). (front c.args.agent.now z).height) e in
     let low : 3 * (front c.args.agent.now (prog.Call c.in-Call.item a)).height < 1 + 3 * (front c.args.agent.now c.args.prog.now).height = omega arith in
     search rules
@@ -202,26 +202,26 @@ some_weighs-returns-in-Call t c =
 pub some_weighs-search_weighs-requires-clause-searched : goal.some_weighs-search_weighs-requires-clause-searched
 some_weighs-search_weighs-requires-clause-searched t c =
     let a = c.get-in-Search.result.now in
-    let e = one_same (prog.Search c.in-Search.depth c.in-Search.fuel) c.args.prog.now c.in-Search.body a c.in-Search.is c.get-in-Search.ensures in
+    let e = one_same (prog.Search c.in-Search.depth c.in-Search.fuel) c.in-Search.is c.get-in-Search.ensures in
     search_body c.args.agent.now c.args.state.now c.requires.sorts c.args.prog.now a c.in-Search.depth c.in-Search.fuel c.requires.closed e
 
 pub some_weighs-returns-in-Search : goal.some_weighs-returns-in-Search
 some_weighs-returns-in-Search t c =
     let a = c.get-in-Search.result.now in
-    let e = one_same (prog.Search c.in-Search.depth c.in-Search.fuel) c.args.prog.now c.in-Search.body a c.in-Search.is c.get-in-Search.ensures in
+    let e = one_same (prog.Search c.in-Search.depth c.in-Search.fuel) c.in-Search.is c.get-in-Search.ensures in
     ok_as c.search_weighs.result _ _ (search_weighs c.args.agent.now c.args.state.now c.args.at.stepless c.args.at.higher c.requires.agent.programs.guarded c.args.prog.now a c.in-Search.depth c.in-Search.fuel e) c.search_weighs.ensures
 
 pub some_weighs-follow_weighs-requires-clause-searched : goal.some_weighs-follow_weighs-requires-clause-searched
 some_weighs-follow_weighs-requires-clause-searched t c =
     let a = c.get-body.result.now in
-    let e = one_same (λ (z : Prog). prog.Follow c.in-Follow.depth c.in-Follow.fuel z c.in-Follow.rest) c.args.prog.now c.in-Follow.body a c.in-Follow.is c.get-body.ensures in
+    let e = one_same (λ (z : Prog). prog.Follow c.in-Follow.depth c.in-Follow.fuel z c.in-Follow.rest) c.in-Follow.is c.get-body.ensures in
     follow_body c.args.agent.now c.args.state.now c.requires.sorts c.args.prog.now a c.in-Follow.depth c.in-Follow.fuel c.in-Follow.rest c.requires.closed e
 
 pub some_weighs-returns-in-Follow : goal.some_weighs-returns-in-Follow
 some_weighs-returns-in-Follow t c =
     let a = c.get-body.result.now in
     let rest = c.as_slice-rest.result.now in
-    let same = one_same (λ (z : Prog). prog.Follow c.in-Follow.depth c.in-Follow.fuel z c.in-Follow.rest) c.args.prog.now c.in-Follow.body a c.in-Follow.is c.get-body.ensures in
+    let same = one_same (λ (z : Prog). prog.Follow c.in-Follow.depth c.in-Follow.fuel z c.in-Follow.rest) c.in-Follow.is c.get-body.ensures in
     let e = same ∙ ap (prog.Follow c.in-Follow.depth c.in-Follow.fuel a) (sym c.as_slice-rest.ensures) in
     ok_as c.follow_weighs.result _ _ (follow_weighs c.args.agent.now c.args.state.now c.args.at.stepless c.args.at.higher c.requires.agent.programs.guarded c.args.prog.now a c.in-Follow.depth c.in-Follow.fuel rest e) c.follow_weighs.ensures
 
@@ -251,7 +251,7 @@ weighs_in_prio-some_weighs-requires-else-branch t c =
 
 pub weighs_in_seq-either_weighs-requires : goal.weighs_in_seq-either_weighs-requires
 weighs_in_seq-either_weighs-requires t c =
-    let parts = seq_parts c.args.agent.now (prog.Seq c.args.one.now c.args.other.now) c.args.one.now c.args.other.now c.requires.closed refl in
+    let parts = seq_parts c.requires.closed refl in
     let skip : (front c.args.agent.now c.args.one.now).skip ≡ true = sym c.may_skip.ensures ∙ c.if-may_skip.true in
     let one_closed = parts.one.closed_too in
     let other_closed = parts.other_closed in
@@ -262,7 +262,7 @@ weighs_in_seq-either_weighs-requires t c =
 
 pub weighs_in_seq-some_weighs-requires : goal.weighs_in_seq-some_weighs-requires
 weighs_in_seq-some_weighs-requires t c =
-    let parts = seq_parts c.args.agent.now (prog.Seq c.args.one.now c.args.other.now) c.args.one.now c.args.other.now c.requires.closed refl in
+    let parts = seq_parts c.requires.closed refl in
     let closed = parts.one.closed_too in
     let l = parts.one.lower in
     let low : 1 + 3 * (front c.args.agent.now c.args.one.now).height < 3 * (front c.args.agent.now (prog.Seq c.args.one.now c.args.other.now)).height = omega arith in
@@ -290,7 +290,7 @@ weighs_in_pick-weighs_in-requires t c =
     let below : c.loop-constant.constant < sort_size c.args.agent.now c.args.sort = omega arith in
     let put = c.in_ok-put.put in
     let part = pick_part c.args.agent.now (prog.Pick c.args.var c.args.sort c.args.body.now) c.args.var c.args.sort c.args.body.now c.requires.closed refl c.loop-constant.constant below in
-    let closed = closed_as c.args.agent.now (put_arg c.args.body.now c.args.var c.loop-constant.constant) put (sym c.in_ok-put.ensures) part.closed_too in
+    let closed = closed_as (sym c.in_ok-put.ensures) part.closed_too in
     let same : (front c.args.agent.now put).height ≡ (front c.args.agent.now (put_arg c.args.body.now c.args.var c.loop-constant.constant)).height = ap (λ (z : Prog). (front c.args.agent.now z).height) c.in_ok-put.ensures in
     let l = part.lower in
     let low : 2 + 3 * (front c.args.agent.now put).height < 3 * (front c.args.agent.now (prog.Pick c.args.var c.args.sort c.args.body.now)).height = omega arith in
@@ -324,7 +324,7 @@ pub weighs_in_call-weighs_in-requires : goal.weighs_in_call-weighs_in-requires
 weighs_in_call-weighs_in-requires t c =
     let body = c.in_ok-body.body in
     let part = call_part c.args.agent.now (well_formed_fits c.args.agent.now c.requires.agent) (prog.Call c.args.item c.args.args.now) c.args.item c.args.args.now c.requires.closed refl in
-    let closed = closed_as c.args.agent.now (body_of c.args.agent.now c.args.item c.args.args.now) body (sym c.in_ok-body.ensures) part.closed_too in
+    let closed = closed_as (sym c.in_ok-body.ensures) part.closed_too in
     let same : (front c.args.agent.now body).height ≡ (front c.args.agent.now (body_of c.args.agent.now c.args.item c.args.args.now)).height = ap (λ (z : Prog). (front c.args.agent.now z).height) c.in_ok-body.ensures in
     let l = part.lower in
     let low : 2 + 3 * (front c.args.agent.now body).height < 3 * (front c.args.agent.now (prog.Call c.args.item c.args.args.now)).height = omega arith in

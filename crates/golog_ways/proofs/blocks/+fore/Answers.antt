@@ -14,7 +14,7 @@ pub fore_of-fore_of_seq-requires : goal.fore_of-fore_of_seq-requires
 fore_of-fore_of_seq-requires t c =
     let a = c.get.result.now in
     let b = c.get-in-Seq.result.now in
-    let e = two_same (prog.Seq) c.args.prog.now c.in-Seq.one c.in-Seq.other a b c.in-Seq.is c.get.ensures c.get-in-Seq.ensures in
+    let e = two_same prog.Seq c.in-Seq.is c.get.ensures c.get-in-Seq.ensures in
     let same : (front c.args.agent.now c.args.prog.now).height ≡ (front c.args.agent.now (prog.Seq a b)).height = ap (λ (z : Prog). (front c.args.agent.now z).height) e in
     let low : 3 * (front c.args.agent.now (prog.Seq a b)).height < 1 + 3 * (front c.args.agent.now c.args.prog.now).height = omega arith in
     search rules
@@ -23,7 +23,7 @@ pub fore_of-fores-requires : goal.fore_of-fores-requires
 fore_of-fores-requires t c =
     let a = c.get-in-Choice.result.now in
     let b = c.get-in-Choice-2.result.now in
-    let e = two_same (prog.Choice) c.args.prog.now c.in-Choice.one c.in-Choice.other a b c.in-Choice.is c.get-in-Choice.ensures c.get-in-Choice-2.ensures in
+    let e = two_same prog.Choice c.in-Choice.is c.get-in-Choice.ensures c.get-in-Choice-2.ensures in
     let l = choice_low c.args.agent.now c.args.prog.now a b e in
     let k = l.one in
     let j = l.other in
@@ -34,7 +34,7 @@ pub fore_of-fores-requires-in-If : goal.fore_of-fores-requires-in-If
 fore_of-fores-requires-in-If t c =
     let a = c.get-in-If.result.now in
     let b = c.get-in-If-2.result.now in
-    let e = two_same (prog.If c.in-If.cond) c.args.prog.now c.in-If.yes c.in-If.no a b c.in-If.is c.get-in-If.ensures c.get-in-If-2.ensures in
+    let e = two_same (prog.If c.in-If.cond) c.in-If.is c.get-in-If.ensures c.get-in-If-2.ensures in
     let l = if_low c.args.agent.now c.in-If.cond c.args.prog.now a b e in
     let k = l.one in
     let j = l.other in
@@ -45,7 +45,7 @@ pub fore_of-fores-requires-in-Conc : goal.fore_of-fores-requires-in-Conc
 fore_of-fores-requires-in-Conc t c =
     let a = c.get-in-Conc.result.now in
     let b = c.get-in-Conc-2.result.now in
-    let e = two_same (prog.Conc) c.args.prog.now c.in-Conc.one c.in-Conc.other a b c.in-Conc.is c.get-in-Conc.ensures c.get-in-Conc-2.ensures in
+    let e = two_same prog.Conc c.in-Conc.is c.get-in-Conc.ensures c.get-in-Conc-2.ensures in
     let l = conc_low c.args.agent.now c.args.prog.now a b e in
     let k = l.one in
     let j = l.other in
@@ -56,7 +56,7 @@ pub fore_of-fores-requires-in-Prio : goal.fore_of-fores-requires-in-Prio
 fore_of-fores-requires-in-Prio t c =
     let a = c.get-in-Prio.result.now in
     let b = c.get-in-Prio-2.result.now in
-    let e = two_same (prog.Prio) c.args.prog.now c.in-Prio.high c.in-Prio.low a b c.in-Prio.is c.get-in-Prio.ensures c.get-in-Prio-2.ensures in
+    let e = two_same prog.Prio c.in-Prio.is c.get-in-Prio.ensures c.get-in-Prio-2.ensures in
     let l = prio_low c.args.agent.now c.args.prog.now a b e in
     let k = l.one in
     let j = l.other in
@@ -66,7 +66,7 @@ fore_of-fores-requires-in-Prio t c =
 pub fore_of-fore_of-requires : goal.fore_of-fore_of-requires
 fore_of-fore_of-requires t c =
     let a = c.get-in-Pick.result.now in
-    let e = one_same (prog.Pick c.in-Pick.var c.in-Pick.sort) c.args.prog.now c.in-Pick.body a c.in-Pick.is c.get-in-Pick.ensures in
+    let e = one_same (prog.Pick c.in-Pick.var c.in-Pick.sort) c.in-Pick.is c.get-in-Pick.ensures in
     let l = pick_low c.args.agent.now c.in-Pick.var c.in-Pick.sort c.args.prog.now a e in
     let low : 1 + 3 * (front c.args.agent.now a).height < 1 + 3 * (front c.args.agent.now c.args.prog.now).height = omega arith in
     search rules
@@ -74,7 +74,7 @@ fore_of-fore_of-requires t c =
 pub fore_of-fore_of-requires-in-Star : goal.fore_of-fore_of-requires-in-Star
 fore_of-fore_of-requires-in-Star t c =
     let a = c.get-in-Star.result.now in
-    let e = one_same (prog.Star) c.args.prog.now c.in-Star.body a c.in-Star.is c.get-in-Star.ensures in
+    let e = one_same prog.Star c.in-Star.is c.get-in-Star.ensures in
     let l = star_low c.args.agent.now c.args.prog.now a e in
     let low : 1 + 3 * (front c.args.agent.now a).height < 1 + 3 * (front c.args.agent.now c.args.prog.now).height = omega arith in
     search rules
@@ -82,7 +82,7 @@ fore_of-fore_of-requires-in-Star t c =
 pub fore_of-fore_of-requires-in-Cstar : goal.fore_of-fore_of-requires-in-Cstar
 fore_of-fore_of-requires-in-Cstar t c =
     let a = c.get-in-Cstar.result.now in
-    let e = one_same (prog.Cstar) c.args.prog.now c.in-Cstar.body a c.in-Cstar.is c.get-in-Cstar.ensures in
+    let e = one_same prog.Cstar c.in-Cstar.is c.get-in-Cstar.ensures in
     let l = cstar_low c.args.agent.now c.args.prog.now a e in
     let low : 1 + 3 * (front c.args.agent.now a).height < 1 + 3 * (front c.args.agent.now c.args.prog.now).height = omega arith in
     search rules
@@ -90,7 +90,7 @@ fore_of-fore_of-requires-in-Cstar t c =
 pub fore_of-fore_of-requires-in-While : goal.fore_of-fore_of-requires-in-While
 fore_of-fore_of-requires-in-While t c =
     let a = c.get-in-While.result.now in
-    let e = one_same (prog.While c.in-While.cond) c.args.prog.now c.in-While.body a c.in-While.is c.get-in-While.ensures in
+    let e = one_same (prog.While c.in-While.cond) c.in-While.is c.get-in-While.ensures in
     let l = while_low c.args.agent.now c.in-While.cond c.args.prog.now a e in
     let low : 1 + 3 * (front c.args.agent.now a).height < 1 + 3 * (front c.args.agent.now c.args.prog.now).height = omega arith in
     search rules
@@ -98,7 +98,7 @@ fore_of-fore_of-requires-in-While t c =
 pub fore_of-fore_of-requires-in-Search : goal.fore_of-fore_of-requires-in-Search
 fore_of-fore_of-requires-in-Search t c =
     let a = c.get-in-Search.result.now in
-    let e = one_same (prog.Search c.in-Search.depth c.in-Search.fuel) c.args.prog.now c.in-Search.body a c.in-Search.is c.get-in-Search.ensures in
+    let e = one_same (prog.Search c.in-Search.depth c.in-Search.fuel) c.in-Search.is c.get-in-Search.ensures in
     let l = search_low c.args.agent.now c.in-Search.depth c.in-Search.fuel c.args.prog.now a e in
     let low : 1 + 3 * (front c.args.agent.now a).height < 1 + 3 * (front c.args.agent.now c.args.prog.now).height = omega arith in
     search rules
@@ -106,7 +106,7 @@ fore_of-fore_of-requires-in-Search t c =
 pub fore_of-fore_of-requires-in-Follow : goal.fore_of-fore_of-requires-in-Follow
 fore_of-fore_of-requires-in-Follow t c =
     let a = c.get-in-Follow.result.now in
-    let e = one_same (λ (z : Prog). prog.Follow c.in-Follow.depth c.in-Follow.fuel z c.in-Follow.rest) c.args.prog.now c.in-Follow.body a c.in-Follow.is c.get-in-Follow.ensures in
+    let e = one_same (λ (z : Prog). prog.Follow c.in-Follow.depth c.in-Follow.fuel z c.in-Follow.rest) c.in-Follow.is c.get-in-Follow.ensures in
     let l = follow_low c.args.agent.now c.in-Follow.depth c.in-Follow.fuel c.in-Follow.rest c.args.prog.now a e in
     let low : 1 + 3 * (front c.args.agent.now a).height < 1 + 3 * (front c.args.agent.now c.args.prog.now).height = omega arith in
     search rules
@@ -133,71 +133,71 @@ pub fore_of-returns-in-Seq : goal.fore_of-returns-in-Seq
 fore_of-returns-in-Seq t c =
     let a = c.get.result.now in
     let b = c.get-in-Seq.result.now in
-    let e = two_same (prog.Seq) c.args.prog.now c.in-Seq.one c.in-Seq.other a b c.in-Seq.is c.get.ensures c.get-in-Seq.ensures in
+    let e = two_same prog.Seq c.in-Seq.is c.get.ensures c.get-in-Seq.ensures in
     subst (λ (z : Prog). IsFore c.args.agent.now z c.fore_of_seq.result) (sym e) c.fore_of_seq.ensures
 
 pub fore_of-returns-in-Choice : goal.fore_of-returns-in-Choice
 fore_of-returns-in-Choice t c =
     let a = c.get-in-Choice.result.now in
     let b = c.get-in-Choice-2.result.now in
-    let e = two_same (prog.Choice) c.args.prog.now c.in-Choice.one c.in-Choice.other a b c.in-Choice.is c.get-in-Choice.ensures c.get-in-Choice-2.ensures in
+    let e = two_same prog.Choice c.in-Choice.is c.get-in-Choice.ensures c.get-in-Choice-2.ensures in
     choice_fore c.args.agent.now c.args.prog.now a b c.fores.result.0 c.fores.result.1 c.or.result c.fores.ensures.one c.fores.ensures.other e c.or.ensures.skip c.or.ensures.block
 
 pub fore_of-returns-in-If : goal.fore_of-returns-in-If
 fore_of-returns-in-If t c =
     let a = c.get-in-If.result.now in
     let b = c.get-in-If-2.result.now in
-    let e = two_same (prog.If c.in-If.cond) c.args.prog.now c.in-If.yes c.in-If.no a b c.in-If.is c.get-in-If.ensures c.get-in-If-2.ensures in
+    let e = two_same (prog.If c.in-If.cond) c.in-If.is c.get-in-If.ensures c.get-in-If-2.ensures in
     if_fore c.args.agent.now c.args.prog.now a b c.fores-in-If.result.0 c.fores-in-If.result.1 c.or-in-If.result c.fores-in-If.ensures.one c.fores-in-If.ensures.other c.in-If.cond e c.or-in-If.ensures.skip c.or-in-If.ensures.block
 
 pub fore_of-returns-in-Conc : goal.fore_of-returns-in-Conc
 fore_of-returns-in-Conc t c =
     let a = c.get-in-Conc.result.now in
     let b = c.get-in-Conc-2.result.now in
-    let e = two_same (prog.Conc) c.args.prog.now c.in-Conc.one c.in-Conc.other a b c.in-Conc.is c.get-in-Conc.ensures c.get-in-Conc-2.ensures in
+    let e = two_same prog.Conc c.in-Conc.is c.get-in-Conc.ensures c.get-in-Conc-2.ensures in
     conc_fore c.args.agent.now c.args.prog.now a b c.fores-in-Conc.result.0 c.fores-in-Conc.result.1 c.and.result c.fores-in-Conc.ensures.one c.fores-in-Conc.ensures.other e c.and.ensures.skip c.and.ensures.block
 
 pub fore_of-returns-in-Prio : goal.fore_of-returns-in-Prio
 fore_of-returns-in-Prio t c =
     let a = c.get-in-Prio.result.now in
     let b = c.get-in-Prio-2.result.now in
-    let e = two_same (prog.Prio) c.args.prog.now c.in-Prio.high c.in-Prio.low a b c.in-Prio.is c.get-in-Prio.ensures c.get-in-Prio-2.ensures in
+    let e = two_same prog.Prio c.in-Prio.is c.get-in-Prio.ensures c.get-in-Prio-2.ensures in
     prio_fore c.args.agent.now c.args.prog.now a b c.fores-in-Prio.result.0 c.fores-in-Prio.result.1 c.and-in-Prio.result c.fores-in-Prio.ensures.one c.fores-in-Prio.ensures.other e c.and-in-Prio.ensures.skip c.and-in-Prio.ensures.block
 
 pub fore_of-returns-in-Pick : goal.fore_of-returns-in-Pick
 fore_of-returns-in-Pick t c =
     let a = c.get-in-Pick.result.now in
-    let e = one_same (prog.Pick c.in-Pick.var c.in-Pick.sort) c.args.prog.now c.in-Pick.body a c.in-Pick.is c.get-in-Pick.ensures in
+    let e = one_same (prog.Pick c.in-Pick.var c.in-Pick.sort) c.in-Pick.is c.get-in-Pick.ensures in
     pick_fore c.args.agent.now c.args.prog.now a c.fore_of.result c.fore_of.result c.fore_of.ensures c.in-Pick.var c.in-Pick.sort e refl refl
 
 pub fore_of-returns-in-Star : goal.fore_of-returns-in-Star
 fore_of-returns-in-Star t c =
     let a = c.get-in-Star.result.now in
-    let e = one_same (prog.Star) c.args.prog.now c.in-Star.body a c.in-Star.is c.get-in-Star.ensures in
+    let e = one_same prog.Star c.in-Star.is c.get-in-Star.ensures in
     star_fore c.args.agent.now c.args.prog.now a c.fore_of-in-Star.result c.repeated.result c.fore_of-in-Star.ensures e c.repeated.ensures.skip c.repeated.ensures.block
 
 pub fore_of-returns-in-Cstar : goal.fore_of-returns-in-Cstar
 fore_of-returns-in-Cstar t c =
     let a = c.get-in-Cstar.result.now in
-    let e = one_same (prog.Cstar) c.args.prog.now c.in-Cstar.body a c.in-Cstar.is c.get-in-Cstar.ensures in
+    let e = one_same prog.Cstar c.in-Cstar.is c.get-in-Cstar.ensures in
     cstar_fore c.args.agent.now c.args.prog.now a c.fore_of-in-Cstar.result c.repeated-in-Cstar.result c.fore_of-in-Cstar.ensures e c.repeated-in-Cstar.ensures.skip c.repeated-in-Cstar.ensures.block
 
 pub fore_of-returns-in-While : goal.fore_of-returns-in-While
 fore_of-returns-in-While t c =
     let a = c.get-in-While.result.now in
-    let e = one_same (prog.While c.in-While.cond) c.args.prog.now c.in-While.body a c.in-While.is c.get-in-While.ensures in
+    let e = one_same (prog.While c.in-While.cond) c.in-While.is c.get-in-While.ensures in
     while_fore c.args.agent.now c.args.prog.now a c.fore_of-in-While.result c.repeated-in-While.result c.fore_of-in-While.ensures c.in-While.cond e c.repeated-in-While.ensures.skip c.repeated-in-While.ensures.block
 
 pub fore_of-returns-in-Search : goal.fore_of-returns-in-Search
 fore_of-returns-in-Search t c =
     let a = c.get-in-Search.result.now in
-    let e = one_same (prog.Search c.in-Search.depth c.in-Search.fuel) c.args.prog.now c.in-Search.body a c.in-Search.is c.get-in-Search.ensures in
+    let e = one_same (prog.Search c.in-Search.depth c.in-Search.fuel) c.in-Search.is c.get-in-Search.ensures in
     search_fore c.args.agent.now c.args.prog.now a c.fore_of-in-Search.result c.blocked.result c.fore_of-in-Search.ensures c.in-Search.depth c.in-Search.fuel e c.blocked.ensures.skip c.blocked.ensures.block
 
 pub fore_of-returns-in-Follow : goal.fore_of-returns-in-Follow
 fore_of-returns-in-Follow t c =
     let a = c.get-in-Follow.result.now in
-    let e = one_same (λ (z : Prog). prog.Follow c.in-Follow.depth c.in-Follow.fuel z c.in-Follow.rest) c.args.prog.now c.in-Follow.body a c.in-Follow.is c.get-in-Follow.ensures in
+    let e = one_same (λ (z : Prog). prog.Follow c.in-Follow.depth c.in-Follow.fuel z c.in-Follow.rest) c.in-Follow.is c.get-in-Follow.ensures in
     follow_fore c.args.agent.now c.args.prog.now a c.fore_of-in-Follow.result c.blocked-in-Follow.result c.fore_of-in-Follow.ensures c.in-Follow.depth c.in-Follow.fuel c.in-Follow.rest e c.blocked-in-Follow.ensures.skip c.blocked-in-Follow.ensures.block
 
 pub fore_of-returns-in-Call : goal.fore_of-returns-in-Call

@@ -10,5 +10,5 @@ pub returns-clause-closed : goal.returns-clause-closed
 returns-clause-closed c =
     end_closed c.args.agent.now c.args.prog.now c.end_of.result c.end_of.ensures
 
-pub end_of-requires-clause-fit : goal.end_of-requires-clause-fit
-end_of-requires-clause-fit c = well_formed_fits c.args.agent.now c.requires.agent
+pub invariant_of-fit : goal.invariant_of-fit
+invariant_of-fit c = record { fit = well_formed_fits c.args.agent.now c.requires.agent }

@@ -4,11 +4,11 @@ use Rattle.golog_ways.proofs.InWorlds.{end_in_worlds}
 use Rattle.golog_ways.proofs.WellFormedFits.{well_formed_fits}
 use Rattle.golog_ways.proofs.programs.is_final.Goals as goal
 
-pub can_end-requires-clause-fit : goal.can_end-requires-clause-fit
-can_end-requires-clause-fit c = well_formed_fits c.args.agent.now c.requires.agent
+pub invariant_of-here-clause-fit : goal.invariant_of-here-clause-fit
+invariant_of-here-clause-fit c = well_formed_fits c.args.agent.now c.requires.agent
 
-pub can_end-requires-clause-whole : goal.can_end-requires-clause-whole
-can_end-requires-clause-whole c = ap length c.values.ensures ∙ c.requires.sorts.whole
+pub invariant_of-here-clause-whole : goal.invariant_of-here-clause-whole
+invariant_of-here-clause-whole c = ap length c.values.ensures ∙ c.requires.sorts.whole
 
 pub returns : goal.returns
 returns c =

@@ -1,5 +1,0 @@
-use Rattle.golog_ways.proofs.Acting.{closed_cond}
-use Rattle.golog_ways.proofs.conditions.truth.Goals as goal
-
-pub value-requires-clause-fits : goal.value-requires-clause-fits
-value-requires-clause-fits c = closed_cond c.args.agent.now c.args.cond.now c.new.result c.requires.fits

@@ -1,0 +1,33 @@
+//! Where a walk over programs stands.
+ghost use Rattle.std.specs.Prelude.{◌≡◌, length};
+ghost use Rattle.golog_tree.specs.Ground.{ground_fluents};
+ghost use Rattle.golog_ways.specs.Closed.{IsFit};
+
+use crate::answering::Blocks;
+use golog_tree::Agent;
+use std::alloc::Global;
+
+/// An agent whose programs are walked over.
+#[derive(Clone, Copy)]
+pub(crate) struct Fit<'a> {
+    pub alloc: Global,
+    pub agent: &'a Agent,
+    ghost fit: { IsFit agent.now },
+}
+
+/// An agent whose programs are walked over, and the value of each of its ground fluents.
+#[derive(Clone, Copy)]
+pub(crate) struct Here<'a, 'v> {
+    pub alloc: Global,
+    pub agent: &'a Agent,
+    pub values: &'v [u8],
+    ghost fit: { IsFit agent.now },
+    ghost whole: { length values.now ≡ length (ground_fluents agent.now) },
+}
+
+/// The same, and who tells the steps of search blocks there.
+#[derive_where(Clone, Copy)]
+pub(crate) struct Within<'a, 'v, 'b, B: Blocks> {
+    pub here: Here<'a, 'v>,
+    pub blocks: &'b B,
+}
