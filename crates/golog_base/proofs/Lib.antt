@@ -1,3 +1,4 @@
+pub mod Amounts
 pub mod KnownLemmas
 pub mod MemFilesLemmas
 pub mod WordLemmas

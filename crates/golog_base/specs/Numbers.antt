@@ -1,5 +1,5 @@
 -- The numbers that digits spell.
-use Rattle.std.specs.Prelude.{ℕ, ℤ, pos, negsuc, ◌+◌, ◌-◌, ◌*◌, ◌^◌, nat_eq, nat_lt, nat_le, not, ◌&&◌, Bool, true, false, if◌then◌else◌, List, [], ◌∷◌, Option, Some, None}
+use Rattle.std.specs.Prelude.{ℕ, ℤ, pos, negsuc, ◌+◌, ◌-◌, ◌*◌, ◌^◌, nat_eq, nat_lt, nat_le, not, ◌&&◌, ◌||◌, Bool, true, false, if◌then◌else◌, List, [], ◌∷◌, Option, Some, None}
 use Rattle.std.specs.List.{list_all}
 use Rattle.golog_base.specs.Names.{is_digit}
 
@@ -17,6 +17,10 @@ is_zero _ = false
 abbrev pub is_positive : List ℕ → Bool
 is_positive [] = false
 is_positive (byte ∷ bytes) = are_digits (byte ∷ bytes) && not (nat_eq byte 48)
+
+-- digits without a leading zero
+abbrev pub is_natural : List ℕ → Bool
+is_natural bytes = is_zero bytes || is_positive bytes
 
 -- a `-` before the digits
 abbrev pub has_sign : List ℕ → Bool

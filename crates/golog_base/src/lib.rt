@@ -10,6 +10,7 @@ mod list;
 mod mem_files;
 mod mem_sink;
 mod memory;
+mod numbers;
 mod out_sink;
 mod results;
 mod sink;
@@ -24,11 +25,9 @@ pub use list::{Bytes, List};
 pub use mem_files::{HeldFile, MemFiles};
 pub use mem_sink::MemSink;
 pub use memory::NoMemory;
+pub use numbers::{amount_within, has_sign, is_natural, is_number, value};
 pub use out_sink::OutSink;
 pub use results::both;
 pub use sink::{Sink, write_all};
 pub use text::Text;
 pub use word::{Word, is_name};
-
-#[cfg(test)]
-mod tests;

@@ -37,17 +37,23 @@ module _ (agent : Agent) where
       let f = ap not i in
       cc
 
+  both-plain : (make : Prog → Prog → Prog) (p q : Prog) → IsPlainWithin p → IsPlainWithin q → (at : Position) → at.in_block ≡ true
+      → (prog_fits agent p at && prog_fits agent q at) ≡ true → make (plain p) (plain q) ≡ make p q
+  both-plain make p q f g at i h =
+      let k = and_cases (prog_fits agent p at) (prog_fits agent q at) h in
+      ap (λ z. make z (plain q)) (f at i k.0) ∙ ap (λ z. make p z) (g at i k.1)
+
   cases : parts.Cases IsPlainWithin (λ w. Unit {0})
   cases = record {
     nil_case = λ at i h. parts.fold-nil Prog Way plain_step plain_way;
     act_case = λ action args at i h. parts.fold-act Prog Way plain_step plain_way action args;
     test_case = λ c at i h. parts.fold-test Prog Way plain_step plain_way c;
     seq_case = λ p q f g at i h.
-        let k = and_cases (prog_fits agent p at) (prog_fits agent q at) (sym (ap (λ (s : A). s at) (parts.fold-seq A A (prog_step agent) (way_step agent) p q)) ∙ h) in
-        parts.fold-seq Prog Way plain_step plain_way p q ∙ ap (λ z. prog.Seq z (plain q)) (f at i k.0) ∙ ap (λ z. prog.Seq p z) (g at i k.1);
+        parts.fold-seq Prog Way plain_step plain_way p q
+        ∙ both-plain (λ p q. prog.Seq p q) p q f g at i (sym (ap (λ (s : A). s at) (parts.fold-seq A A (prog_step agent) (way_step agent) p q)) ∙ h);
     choice_case = λ p q f g at i h.
-        let k = and_cases (prog_fits agent p at) (prog_fits agent q at) (sym (ap (λ (s : A). s at) (parts.fold-choice A A (prog_step agent) (way_step agent) p q)) ∙ h) in
-        parts.fold-choice Prog Way plain_step plain_way p q ∙ ap (λ z. prog.Choice z (plain q)) (f at i k.0) ∙ ap (λ z. prog.Choice p z) (g at i k.1);
+        parts.fold-choice Prog Way plain_step plain_way p q
+        ∙ both-plain (λ p q. prog.Choice p q) p q f g at i (sym (ap (λ (s : A). s at) (parts.fold-choice A A (prog_step agent) (way_step agent) p q)) ∙ h);
     pick_case = λ x sort p f at i h.
         let k = and_cases (binder_fits agent x sort) (prog_fits agent p (within_binder at x sort)) (sym (ap (λ (s : A). s at) (parts.fold-pick A A (prog_step agent) (way_step agent) x sort p)) ∙ h) in
         parts.fold-pick Prog Way plain_step plain_way x sort p ∙ ap (λ z. prog.Pick x sort z) (f (within_binder at x sort) i k.1);
@@ -62,11 +68,11 @@ module _ (agent : Agent) where
         let k = and_cases (cond_fits agent c at.scope) (prog_fits agent p at) (sym (ap (λ (s : A). s at) (parts.fold-while A A (prog_step agent) (way_step agent) c p)) ∙ h) in
         parts.fold-while Prog Way plain_step plain_way c p ∙ ap (λ z. prog.While c z) (f at i k.1);
     conc_case = λ p q f g at i h.
-        let k = and_cases (prog_fits agent p at) (prog_fits agent q at) (sym (ap (λ (s : A). s at) (parts.fold-conc A A (prog_step agent) (way_step agent) p q)) ∙ h) in
-        parts.fold-conc Prog Way plain_step plain_way p q ∙ ap (λ z. prog.Conc z (plain q)) (f at i k.0) ∙ ap (λ z. prog.Conc p z) (g at i k.1);
+        parts.fold-conc Prog Way plain_step plain_way p q
+        ∙ both-plain (λ p q. prog.Conc p q) p q f g at i (sym (ap (λ (s : A). s at) (parts.fold-conc A A (prog_step agent) (way_step agent) p q)) ∙ h);
     prio_case = λ p q f g at i h.
-        let k = and_cases (prog_fits agent p at) (prog_fits agent q at) (sym (ap (λ (s : A). s at) (parts.fold-prio A A (prog_step agent) (way_step agent) p q)) ∙ h) in
-        parts.fold-prio Prog Way plain_step plain_way p q ∙ ap (λ z. prog.Prio z (plain q)) (f at i k.0) ∙ ap (λ z. prog.Prio p z) (g at i k.1);
+        parts.fold-prio Prog Way plain_step plain_way p q
+        ∙ both-plain (λ p q. prog.Prio p q) p q f g at i (sym (ap (λ (s : A). s at) (parts.fold-prio A A (prog_step agent) (way_step agent) p q)) ∙ h);
     cstar_case = λ p f at i h.
         parts.fold-cstar Prog Way plain_step plain_way p
         ∙ ap (λ z. prog.Cstar z) (f at i (sym (ap (λ (s : A). s at) (parts.fold-cstar A A (prog_step agent) (way_step agent) p)) ∙ h));

@@ -47,7 +47,7 @@ module _ (agent : Agent) where
   no_more values p run h = if_some (final agent values Must p) (final agent values Near p) run (final-more agent values Must Near must_near p) h
 
   -- the certain runs are near ones
-  runs-must_near : (n : ℕ) (p : Prog) (values : Values) (run : Run) → Among (runs agent Must n p values) run → Among (runs agent Near n p values) run
+  pub runs-must_near : (n : ℕ) (p : Prog) (values : Values) (run : Run) → Among (runs agent Must n p values) run → Among (runs agent Near n p values) run
   runs-must_near zero p values run h = no_more values p run h
   runs-must_near (suc n) p values run h =
       let b = longer agent Must n p values run h in

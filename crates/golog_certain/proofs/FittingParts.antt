@@ -14,7 +14,7 @@ use Rattle.golog_semantics.specs.ProgFits.{Position, block_fits, depth_limit, fu
 use Rattle.golog_semantics.specs.FitLaws.{ProcsFit}
 use Rattle.golog_semantics.proofs.ClosedFits.{Closed, body_closed, put_closed}
 use Rattle.golog_semantics.proofs.FrontParts.{AtFront, Claim, GoesOn}
-use Rattle.golog_semantics.proofs.ProgPut.{at_scope, way_fits}
+use Rattle.golog_semantics.proofs.ProgPut.{at_scope, inside, outside, way_fits}
 use Rattle.golog_semantics.proofs.Tests.{and_cases}
 
 -- programs that fit, and blocks whose depth and body do
@@ -24,12 +24,6 @@ fitting agent = record { of_prog = λ p. Closed agent false p; of_block = λ dep
 module _ (agent : Agent) (f : ProcsFit agent) where
   abbrev A : Type 0
   A = Position → Bool
-
-  abbrev outside : Position
-  outside = at_scope nothing_bound false
-
-  abbrev inside : Position
-  inside = at_scope nothing_bound true
 
   depth_low : (depth fuel : ℕ) → block_fits outside depth fuel ≡ true → 1 ≤ depth
   depth_low depth fuel h =

@@ -132,11 +132,7 @@ module _ (agent : Agent) (w : WellFormed agent) (before : Journal) (world : Valu
   left_taken : (e : Entry) (label : Label) → label_of e ≡ Some label → left_at agent values p e ≡ left_by agent p (moves agent values Must p)
   left_taken (Do action) label h = refl
   left_taken Test label h = refl
-  left_taken (Exo poster action) label h = absurd (cc)
-  left_taken (Sense poster place fluent value) label h = absurd (cc)
-  left_taken (Rest poster taken) label h = absurd (cc)
-  left_taken (Close poster reason taken) label h = absurd (cc)
-  left_taken (End answer) label h = absurd (cc)
+  left_taken _ label h = absurd (cc)
 
   step_so : (e : Entry) (label : Label) → label_of e ≡ Some label → option_map_or (may_step agent before values p) (label_of e) true ≡ true
       → TransW agent world (plain p) label (plain (left_after agent (before ++ e ∷ [])))

@@ -65,20 +65,7 @@ module _ (agent : Agent) where
   level_as_is : (world : Values) (blocks : BlockSteps) (trans : Prog → Steps) (l : Layer) (label : Label) (left : Prog)
       → trans_step agent world blocks trans l label left ≡ trans_step agent world blocks trans (viewed (λ p. p) l) label left
   level_as_is world blocks trans Nil label left = refl
-  level_as_is world blocks trans (Act action args) label left = refl
-  level_as_is world blocks trans (Test c) label left = refl
-  level_as_is world blocks trans (Seq p q) label left = refl
-  level_as_is world blocks trans (Choice p q) label left = refl
-  level_as_is world blocks trans (Pick x sort p) label left = refl
-  level_as_is world blocks trans (Star p) label left = refl
-  level_as_is world blocks trans (If c p q) label left = refl
-  level_as_is world blocks trans (While c p) label left = refl
-  level_as_is world blocks trans (Conc p q) label left = refl
-  level_as_is world blocks trans (Prio p q) label left = refl
-  level_as_is world blocks trans (Cstar p) label left = refl
-  level_as_is world blocks trans (Call item args) label left = refl
-  level_as_is world blocks trans (Search depth fuel p) label left = refl
-  level_as_is world blocks trans (Follow depth fuel p rest) label left = refl
+  level_as_is world blocks trans _ label left = refl
 
   -- a program as it is
   pub as_it_is : View agent (λ p. p)

@@ -4,6 +4,7 @@ use Rattle.std.specs.Prelude.{not, nat_lt, int_lt, ◌-ℤ◌, ◌+ℤ◌, ◌�
 use Rattle.std.specs.Option.{option_map_or}
 use Rattle.std.proofs.lemmas.Bool.{eqb-true, lt-ltb}
 use Rattle.std.proofs.lemmas.Int.{ints, by_lt_z}
+use Rattle.std.proofs.lemmas.List.{append_assoc, append-nil}
 use Rattle.std.proofs.lemmas.List.Quantifiers.{position-Some}
 use Rattle.golog_tree.specs.declared.agent.Agent.{Agent}
 use Rattle.golog_tree.specs.declared.agent.SortItem.{SortItem}
@@ -34,6 +35,11 @@ some-same x y h = cc
 
 pub none-not : {A : Type 0} (x : A) → None ≡ Some x → ⊥
 none-not x h = cc
+
+-- what stands behind so many others
+pub get-middle : {A : Type 0} (front rest : List A) (x : A) → slice_get (front ++ x ∷ rest) (length front) ≡ Some x
+get-middle [] rest x = refl
+get-middle (y ∷ front) rest x = get-middle front rest x
 
 -- a sort that is no other is this one
 pub no-other : (own sort : ℕ) → is_other (Some own) sort ≡ false → own ≡ sort
@@ -153,10 +159,6 @@ module _ (agent : Agent) (names : Declared) (has : HasItems agent names) where
           let p = past (is_other (arg_sort names scope draft) sort) SORT_CLASH (arg_place draft) (arg_as names scope sort draft) a h in
           arg-as-fits sort draft a p.rest p.none
 
-      get-middle : (front rest : List ℕ) (sort : ℕ) → slice_get (front ++ sort ∷ rest) (length front) ≡ Some sort
-      get-middle [] rest sort = refl
-      get-middle (s ∷ front) rest sort = get-middle front rest sort
-
       fit-length : (front : List ℕ) (args : List Arg) → args_fit agent bound front args ≡ true → length args ≡ length front
       fit-length [] [] h = refl
       fit-length [] (a ∷ args) h = absurd (cc)
@@ -177,14 +179,6 @@ module _ (agent : Agent) (names : Declared) (has : HasItems agent names) where
           step true c d f e = f e
           step false c d f e = absurd (cc)
 
-      append-one : (front rest : List ℕ) (sort : ℕ) → (front ++ sort ∷ []) ++ rest ≡ front ++ sort ∷ rest
-      append-one [] rest sort = refl
-      append-one (s ∷ front) rest sort = ap (λ xs. s ∷ xs) (append-one front rest sort)
-
-      append-none : (front : List ℕ) → front ++ [] ≡ front
-      append-none [] = refl
-      append-none (s ∷ front) = ap (λ xs. s ∷ xs) (append-none front)
-
       next-fits : (front rest : List ℕ) (sort : ℕ) (done : List Arg) (draft : DraftArg) (a : Arg) → length done ≡ length front
           → (next_arg names scope (front ++ sort ∷ rest) done draft).outcome ≡ Ok a → arg_fits agent bound sort a ≡ true
       unfolding next_arg
@@ -197,15 +191,15 @@ module _ (agent : Agent) (names : Declared) (has : HasItems agent names) where
       each-fits : (drafts : List DraftArg) (front rest : List ℕ) (done result : List Arg) → length drafts ≡ length rest → args_fit agent bound front done ≡ true
           → (each (next_arg names scope (front ++ rest)) done drafts).outcome ≡ Ok result → args_fit agent bound (front ++ rest) result ≡ true
       each-fits [] front [] done result long h k =
-          subst (λ ss. args_fit agent bound ss result ≡ true) (sym (append-none front)) (subst (λ xs. args_fit agent bound front xs ≡ true) (ok-same done result k) h)
+          subst (λ ss. args_fit agent bound ss result ≡ true) (sym (append-nil front)) (subst (λ xs. args_fit agent bound front xs ≡ true) (ok-same done result k) h)
       each-fits [] front (s ∷ rest) done result long h k = absurd (cc)
       each-fits (d ∷ drafts) front [] done result long h k = absurd (cc)
       each-fits (d ∷ drafts) front (s ∷ rest) done result long h k =
           let b = both (next_arg names scope (front ++ s ∷ rest) done d) (λ x. each (next_arg names scope (front ++ s ∷ rest)) (done ++ x ∷ []) drafts) result k in
           let fit = next-fits front rest s done d b.value (fit-length front done h) b.one in
-          subst (λ ss. args_fit agent bound ss result ≡ true) (append-one front rest s)
+          subst (λ ss. args_fit agent bound ss result ≡ true) (append_assoc front (s ∷ []) rest)
           (each-fits drafts (front ++ s ∷ []) rest (done ++ b.value ∷ []) result (omega (arith, long)) (fit-more front done s b.value h fit)
-          (subst (λ ss. (each (next_arg names scope ss) (done ++ b.value ∷ []) drafts).outcome ≡ Ok result) (sym (append-one front rest s)) b.other))
+          (subst (λ ss. (each (next_arg names scope ss) (done ++ b.value ∷ []) drafts).outcome ≡ Ok result) (sym (append_assoc front (s ∷ []) rest)) b.other))
 
       pub args-fit-in : (sorts : List ℕ) (drafts : List DraftArg) → length drafts ≡ length sorts → (args : List Arg) → (args_in names scope sorts drafts).outcome ≡ Ok args → args_fit agent bound sorts args ≡ true
       args-fit-in sorts drafts long args h = each-fits drafts [] sorts [] args long refl h

@@ -20,7 +20,7 @@ use Rattle.golog_check.proofs.CondLaws.{conds-fit}
 pub few-sorts : (agent : Agent) → WellFormed agent → HasFewSorts agent.sorts
 few-sorts agent w = record { sorts = w.small.sorts; constants = w.countable.sorts }
 
-fluents-sorted : (agent : Agent) (items : List FluentItem) → list_all (fluent_item_fits agent) items ≡ true → list_all (λ (item : FluentItem). is_sort agent item.sort) items ≡ true
+pub fluents-sorted : (agent : Agent) (items : List FluentItem) → list_all (fluent_item_fits agent) items ≡ true → list_all (λ (item : FluentItem). is_sort agent item.sort) items ≡ true
 fluents-sorted agent [] h = h
 fluents-sorted agent (i ∷ items) h =
     let k = and_cases (fluent_item_fits agent i) (list_all (fluent_item_fits agent) items) h in

@@ -1,5 +1,5 @@
 -- Where nothing is refused of the blocks of a program, they keep their limits.
-use Rattle.std.proofs.Common.{◌≡◌, ℕ, Bool, true, false, not, ◌&&◌, ◌||◌, List, [], ◌∷◌, ◌++◌, map, refl, sym, ap, subst, ◌∙◌}
+use Rattle.std.proofs.Common.{◌≡◌, Bool, true, false, not, ◌&&◌, ◌||◌, List, [], ◌∷◌, ◌++◌, map, refl, sym, ap, subst, ◌∙◌}
 use Rattle.std.specs.Prelude.{⊤}
 use Rattle.std.specs.List.{list_all}
 use Rattle.golog_tree.specs.declared.draft.DraftProc.{DraftProc}
@@ -15,8 +15,8 @@ use Rattle.golog_tree.specs.Ground.{to_count}
 use Rattle.golog_semantics.specs.BlockFree.{block_at, has_block_by, has_block_step}
 use Rattle.golog_semantics.specs.ProgFits.{is_between, depth_limit, fuel_limit}
 use Rattle.golog_semantics.proofs.Tests.{and_both, and_cases, neither_first, neither_second}
-use Rattle.golog_check.specs.declared.programs.Join.{Join}
-use Rattle.golog_check.specs.declared.programs.Join.TheVariants.{Seq as InSeq, Choice as InChoice, Conc as InConc, Prio as InPrio}
+use Rattle.golog_tree.specs.declared.join.Join.{Join}
+use Rattle.golog_tree.specs.declared.join.Join.TheVariants.{Seq as InSeq, Choice as InChoice, Conc as InConc, Prio as InPrio}
 use Rattle.golog_rows.specs.Least.{CodeAt}
 use Rattle.golog_check.specs.Programs.{nested}
 use Rattle.golog_check.specs.ProgramLaws as keeping
@@ -50,9 +50,7 @@ module _ (bs : List Bool) where
 
   either : (join : Join) (x y : Bool) → join_step Bool (has_block_step bs) (λ w. false) join x y ≡ (x || y)
   either InSeq x y = refl
-  either InChoice x y = refl
-  either InConc x y = refl
-  either InPrio x y = refl
+  either _ x y = refl
 
   all-free : (join : Join) (xs : List Bool) → nest_by Bool (has_block_step bs) (λ w. false) join xs ≡ false → AllFree xs
   all-free join [] h = tt

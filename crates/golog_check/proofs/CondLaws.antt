@@ -21,7 +21,7 @@ use Rattle.golog_tree.specs.declared.draft_cond.DraftCond.TheFolds.{fold-roll-Dr
 use Rattle.golog_rows.specs.Reading.{Reading, gives, row, ◌>>=◌, found, each}
 use Rattle.golog_semantics.specs.Fits as fits
 use Rattle.golog_semantics.specs.Fits.{bool_sort, is_sort, is_range, cond_fits, term_fits}
-use Rattle.golog_semantics.specs.Written.{Wording, written_sides, written_cond_step, written_term_step, is_written_cond}
+use Rattle.golog_semantics.specs.Written.{Wording, written_sides, written_cond_step, is_written_cond}
 use Rattle.golog_draft.specs.Drafts.{fluent_keeps, term_keeps, binder_keeps, cond_keeps, cond_keeps_step}
 use Rattle.golog_semantics.proofs.Tests.{and_both, and_cases}
 use Rattle.golog_check.specs.declared.terms.Sides.{Sides}
@@ -35,7 +35,8 @@ use Rattle.golog_check.specs.Conditions.{InScope, conds_in, is_in, cond_step, co
 use Rattle.golog_check.specs.CheckLaws.{HasItems, Binds, signature_of, IsCondOf, CondsFit}
 use Rattle.golog_check.proofs.Readings.{both, past, found-it, ok-same}
 use Rattle.golog_check.proofs.ArgLaws.{some-same, none-not, same-number}
-use Rattle.golog_check.proofs.TermLaws.{wording, Good, takes, fluent-fits, same-range, not-false}
+use Rattle.golog_check.proofs.TermLaws.{Good, takes, fluent-fits, same-range, not-false}
+use Rattle.golog_check.proofs.Layers.{fits-cond, in-cond, keeps-cond, written-cond, wording}
 
 -- the sort that two terms show, which is no other than that of each
 record Common (one other : Option ℕ) (sort : ℕ) : Type 0 where
@@ -43,7 +44,7 @@ record Common (one other : Option ℕ) (sort : ℕ) : Type 0 where
   second : is_other other sort ≡ false
   shown : (is_some one ≡ true) ⊎ (is_some other ≡ true)
 
-own-no-other : (sort : ℕ) → is_other (Some sort) sort ≡ false
+pub own-no-other : (sort : ℕ) → is_other (Some sort) sort ≡ false
 own-no-other sort = ap not (same-number sort)
 
 common-one : (one other sort : ℕ) (b : Bool) → (one == other) ≡ b → (if b then Some one else None) ≡ Some sort → Common (Some one) (Some other) sort
@@ -60,18 +61,12 @@ common-is (Some one) None sort h = record { first = subst (λ s. is_other (Some 
 common-is (Some one) (Some other) sort h = common-one one other sort (one == other) refl h
 
 module _ (agent : Agent) where
-  fits-roll : (l : Cond-F Cond Term) → cond_fits agent (roll-Cond l) ≡ fits.cond_step agent (map-Cond Cond Term (fits.Scope → Bool) (fits.Scope → ℕ → Bool) (cond_fits agent) (term_fits agent) l)
-  fits-roll l = fold-roll-Cond (fits.Scope → Bool) (fits.Scope → ℕ → Bool) (fits.cond_step agent) (fits.term_step agent) l
-
-  written-roll : (l : Cond-F Cond Term) → is_written_cond agent (roll-Cond l) ≡ written_cond_step agent (map-Cond Cond Term (ℕ → Bool) Wording (is_written_cond agent) (wording agent) l)
-  written-roll l = fold-roll-Cond (ℕ → Bool) Wording (written_cond_step agent) (written_term_step agent) l
-
   -- a condition by its layer
   made : (l : Cond-F Cond Term) (c : Cond) → roll-Cond l ≡ c → (bound : fits.Scope) (n : ℕ)
       → fits.cond_step agent (map-Cond Cond Term (fits.Scope → Bool) (fits.Scope → ℕ → Bool) (cond_fits agent) (term_fits agent) l) bound ≡ true
       → written_cond_step agent (map-Cond Cond Term (ℕ → Bool) Wording (is_written_cond agent) (wording agent) l) n ≡ true
       → IsCondOf agent bound n c
-  made l c e bound n f w = subst (IsCondOf agent bound n) e (record { fits = ap (λ g. g bound) (fits-roll l) ∙ f; written = ap (λ g. g n) (written-roll l) ∙ w })
+  made l c e bound n f w = subst (IsCondOf agent bound n) e (record { fits = ap (λ g. g bound) (fits-cond agent l) ∙ f; written = ap (λ g. g n) (written-cond agent l) ∙ w })
 
   apart : (x y : ℕ) → x < y → (x == y) ≡ false
   apart x y h = go (x == y) refl
@@ -99,12 +94,6 @@ module _ (agent : Agent) (names : Declared) (has : HasItems agent names) where
 
   abbrev drafts_of : DraftCond-F Keep → DraftCond-F DraftCond
   drafts_of y = map-DraftCond Keep DraftCond (λ d. d.0) y
-
-  keeps-roll : (l : DraftCond-F DraftCond) → cond_keeps (signature_of names) (roll-DraftCond l) ≡ cond_keeps_step (signature_of names) (map-DraftCond DraftCond (ℕ → Bool) (cond_keeps (signature_of names)) l)
-  keeps-roll l = fold-roll-DraftCond (ℕ → Bool) (cond_keeps_step (signature_of names)) l
-
-  in-roll : (l : DraftCond-F DraftCond) → cond_in names (roll-DraftCond l) ≡ cond_step names (map-DraftCond DraftCond InScope (cond_in names) l)
-  in-roll l = fold-roll-DraftCond InScope (cond_step names) l
 
   declared-sort : (sort : ℕ) → nat_lt sort (length names.sorts) ≡ true → is_sort agent sort ≡ true
   declared-sort sort h = ap (λ (items : List SortItem). nat_lt sort (length items)) has.sorts ∙ h
@@ -302,8 +291,8 @@ module _ (agent : Agent) (names : Declared) (has : HasItems agent names) where
 
   kept-layer : (y : DraftCond-F Keep) → Kept (roll-DraftCond (drafts_of y))
   kept-layer y bound scope binds few keeps c h =
-      layer bound scope binds few y (sym (ap (λ g. g (length scope)) (keeps-roll (drafts_of y))) ∙ keeps) c
-      (ap (λ (f : InScope). (f scope).outcome) (sym (in-roll (drafts_of y))) ∙ h)
+      layer bound scope binds few y (sym (ap (λ g. g (length scope)) (keeps-cond (signature_of names) (drafts_of y))) ∙ keeps) c
+      (ap (λ (f : InScope). (f scope).outcome) (sym (in-cond names (drafts_of y))) ∙ h)
 
   pub kept : (d : DraftCond) → Kept d
   kept = ind-DraftCond Kept (λ x y is. subst (λ l. Kept (roll-DraftCond l)) is (kept-layer y))

@@ -19,9 +19,10 @@ use Rattle.golog_check.specs.Terms.{args_in, sides_in}
 use Rattle.golog_check.specs.Conditions.{InScope, conds_in, is_in, cond_step, cond_in}
 use Rattle.golog_draft.specs.DraftPlaces.{arg_places, term_places, joined, cond_places_step, cond_places}
 use Rattle.golog_draft.specs.DraftOrder.{Ascend}
-use Rattle.golog_rows.proofs.Chain.{key, chain-low, Spans, then-spans, gives-spans}
-use Rattle.golog_check.proofs.Halves.{halves, ascend-le}
+use Rattle.golog_rows.proofs.Chain.{key, chain-low, Spans, gives-spans}
+use Rattle.golog_check.proofs.Halves.{each-spans}
 use Rattle.golog_check.proofs.TermOrder.{args-spans, sides-spans}
+use Rattle.golog_check.proofs.Layers.{in-cond}
 
 module _ (names : Declared) where
   abbrev pub Stands : DraftCond → Type 0
@@ -35,9 +36,6 @@ module _ (names : Declared) where
 
   places-roll : (l : DraftCond-F DraftCond) → cond_places (roll-DraftCond l) ≡ cond_places_step (map-DraftCond DraftCond (List ℕ) cond_places l)
   places-roll l = fold-roll-DraftCond (List ℕ) cond_places_step l
-
-  in-roll : (l : DraftCond-F DraftCond) → cond_in names (roll-DraftCond l) ≡ cond_step names (map-DraftCond DraftCond InScope (cond_in names) l)
-  in-roll l = fold-roll-DraftCond InScope (cond_step names) l
 
   module _ (scope : Scope) where
     is-spans : (fluent at from : ℕ) (args : List DraftArg) (to : ℕ) → Ascend from (at ∷ arg_places args) to → Spans from to (is_in names scope fluent args at)
@@ -55,18 +53,9 @@ module _ (names : Declared) where
     compared is_order make from one other to c =
         gives-spans from to (sides_in names scope is_order one other) make (sides-spans names scope is_order from one other to c)
 
-    each-spans : (before : List Cond) (from : ℕ) (ds : List Standing) (to : ℕ) → Ascend from (joined (map cond_places (map (λ d. d.0) ds))) to
-        → Spans from to (each (λ (_ : List Cond) (c : InScope). c scope) before (map (cond_in names) (map (λ d. d.0) ds)))
-    each-spans before from [] to c = omega (arith, c)
-    each-spans before from (d ∷ ds) to c =
-        let h = halves from (cond_places d.0) (joined (map cond_places (map (λ d. d.0) ds))) to c in
-        then-spans from h.mid to (cond_in names d.0 scope) (λ x. each (λ (_ : List Cond) (c : InScope). c scope) (before ++ x ∷ []) (map (cond_in names) (map (λ d. d.0) ds)))
-        (ascend-le h.mid (joined (map cond_places (map (λ d. d.0) ds))) to h.other) (d.1 scope from h.mid h.one)
-        (λ x. each-spans (before ++ x ∷ []) h.mid ds to h.other)
-
     all : (make : List Cond → Cond) (from : ℕ) (ds : List Standing) (to : ℕ) → Ascend from (joined (map cond_places (map (λ d. d.0) ds))) to
         → Spans from to (conds_in scope (map (cond_in names) (map (λ d. d.0) ds)) >>= λ cs. gives (make cs))
-    all make from ds to c = gives-spans from to (conds_in scope (map (cond_in names) (map (λ d. d.0) ds))) make (each-spans [] from ds to c)
+    all make from ds to c = gives-spans from to (conds_in scope (map (cond_in names) (map (λ d. d.0) ds))) make (each-spans cond_places (cond_in names) scope [] from ds to c)
 
     layer : (y : DraftCond-F Standing) (from to : ℕ) → Ascend from (cond_places_step (map-DraftCond DraftCond (List ℕ) cond_places (drafts_of y))) to
         → Spans from to (cond_step names (map-DraftCond DraftCond InScope (cond_in names) (drafts_of y)) scope)
@@ -86,7 +75,7 @@ module _ (names : Declared) where
   stands-layer : (y : DraftCond-F Standing) → Stands (roll-DraftCond (drafts_of y))
   stands-layer y scope from to c =
       let l = drafts_of y in
-      subst (λ (f : InScope). Spans from to (f scope)) (sym (in-roll l)) (layer scope y from to (subst (λ places. Ascend from places to) (places-roll l) c))
+      subst (λ (f : InScope). Spans from to (f scope)) (sym (in-cond names l)) (layer scope y from to (subst (λ places. Ascend from places to) (places-roll l) c))
 
   pub cond-spans : (d : DraftCond) → Stands d
   cond-spans = ind-DraftCond Stands (λ x y is. subst (λ l. Stands (roll-DraftCond l)) is (stands-layer y))

@@ -1,5 +1,5 @@
 -- A theory whose sums are in their limits can number its ground things.
-use Rattle.std.proofs.Common.{◌≡◌, ℕ, zero, suc, ◌+◌, ◌*◌, ◌<◌, ◌≤◌, Bool, true, false, not, List, [], ◌∷◌, length, map, get_or, Ok, refl, sym, ap, subst, ◌∙◌, arith}
+use Rattle.std.proofs.Common.{◌≡◌, ℕ, zero, suc, ◌+◌, ◌*◌, ◌<◌, ◌≤◌, Bool, true, false, not, List, [], ◌∷◌, length, map, get_or, Some, Ok, refl, sym, ap, subst, ◌∙◌, arith}
 use Rattle.std.specs.Prelude.{All, nat_lt, nat_le, sum_by, ℤ, pos, negsuc, int_lt, ◌+ℤ◌, ◌-ℤ◌, slice_get}
 use Rattle.std.specs.List.{list_all}
 use Rattle.std.proofs.lemmas.Bool.{ltb-true, ltb-false}
@@ -8,7 +8,10 @@ use Rattle.std.proofs.lemmas.Int.{ints}
 use Rattle.std.specs.Option.{option_map_or}
 use Rattle.std.proofs.lemmas.List.{length-map, map-id}
 use Rattle.std.proofs.lemmas.List.Sums.{sum_by-cons}
+use Rattle.golog_tree.specs.declared.agent.Agent.{Agent}
 use Rattle.golog_tree.specs.declared.agent.SortItem.{SortItem}
+use Rattle.golog_tree.specs.declared.agent.FluentItem.{FluentItem}
+use Rattle.golog_tree.specs.declared.agent.ActionItem.{ActionItem}
 use Rattle.golog_tree.specs.declared.draft.DraftTheory.{DraftTheory}
 use Rattle.golog_tree.specs.declared.draft.DraftSort.{DraftSort}
 use Rattle.golog_tree.specs.declared.draft.DraftSort.TheVariants.{Range, Listed}
@@ -39,6 +42,12 @@ made q f p holds [] h = refl
 made q f p holds (x ∷ xs) h =
     let t = and_cases (p x) (list_all p xs) h in
     and_both (q (f x)) (list_all q (map f xs)) (holds x t.0) (made q f p holds xs t.1)
+
+-- what a test finds of each item is so of the one of a number
+pub all-get : {X : Type 0} (p : X → Bool) (xs : List X) → list_all p xs ≡ true → (n : ℕ) (x : X) → slice_get xs n ≡ Some x → p x ≡ true
+all-get p [] h n x e = absurd (cc)
+all-get p (y ∷ xs) h zero x e = let is : y ≡ x = cc in subst (λ z. p z ≡ true) is (and_cases (p y) (list_all p xs) h).0
+all-get p (y ∷ xs) h (suc n) x e = all-get p xs (and_cases (p y) (list_all p xs) h).1 n x e
 
 some-below : {X : Type 0} (xs : List X) (n : ℕ) (p : X → Bool) → option_map_or p (slice_get xs n) false ≡ true → n < length xs
 some-below [] n p h = absurd (cc)
@@ -85,6 +94,16 @@ times-some zero b h k = absurd (omega (arith, h))
 times-some (suc a) zero h k = absurd (omega (arith, k))
 times-some (suc a) (suc b) h k = omega arith
 
+-- how many ground things there are is the sum over the items
+pub all-counted : {X I : Type 0} (agent : Agent) (item : X → I) (args : I → List ℕ) (counted : X → Counted) → ((x : X) → args (item x) ≡ (counted x).0)
+    → (xs : List X) → ground_count agent (map args (map item xs)) ≡ sum_by (λ (c : Counted). count_in agent.sorts c.0) (map counted xs)
+all-counted agent item args counted same [] = refl
+all-counted agent item args counted same (x ∷ xs) =
+    sum_by-cons (λ sorts. product (sizes agent sorts)) (args (item x)) (map args (map item xs))
+    ∙ ap (λ n. count_in agent.sorts (args (item x)) + n) (all-counted agent item args counted same xs)
+    ∙ ap (λ sorts. count_in agent.sorts sorts + sum_by (λ (c : Counted). count_in agent.sorts c.0) (map counted xs)) (same x)
+    ∙ sym (sum_by-cons (λ (c : Counted). count_in agent.sorts c.0) (counted x) (map counted xs))
+
 module _ (theory : DraftTheory) (keeps : TheoryKeeps theory) where
   abbrev sorts : List SortItem
   sorts = map sort_item theory.sorts
@@ -104,7 +123,7 @@ module _ (theory : DraftTheory) (keeps : TheoryKeeps theory) where
       times-some (size_in (map sort_item theory.sorts) a) (count_in (map sort_item theory.sorts) args)
       (sort-some theory.sorts keeps.sorts a (ltb-true a (length theory.sorts) t.0)) (count-some args t.1)
 
-  few-of : (args : List ℕ) → draft_args_keep theory args ≡ true → length args ≤ 3
+  pub few-of : (args : List ℕ) → draft_args_keep theory args ≡ true → length args ≤ 3
   few-of args h =
       let t = (and_cases (nat_le (length args) 3) (list_all (λ sort. nat_lt sort (length theory.sorts)) args) h).0 in
       grind (arith, nat_tests)
@@ -113,10 +132,10 @@ module _ (theory : DraftTheory) (keeps : TheoryKeeps theory) where
   some-of args h =
       count-some args (and_cases (nat_le (length args) 3) (list_all (λ sort. nat_lt sort (length theory.sorts)) args) h).1
 
-  fluent-args : (item : DraftFluent) → draft_fluent_keeps theory item ≡ true → draft_args_keep theory item.args ≡ true
+  pub fluent-args : (item : DraftFluent) → draft_fluent_keeps theory item ≡ true → draft_args_keep theory item.args ≡ true
   fluent-args item h = (and_cases (draft_args_keep theory item.args) (nat_lt item.sort (length theory.sorts)) h).0
 
-  action-args : (item : DraftAction) → draft_action_keeps theory item ≡ true → draft_args_keep theory item.args ≡ true
+  pub action-args : (item : DraftAction) → draft_action_keeps theory item ≡ true → draft_args_keep theory item.args ≡ true
   action-args item h = (and_cases _ _ (and_cases _ _ (and_cases _ _ h).0).0).0
 
   pub few-fluents : HaveFewArgs (map fluent_counted theory.fluents)
@@ -149,29 +168,13 @@ module _ (theory : DraftTheory) (keeps : TheoryKeeps theory) where
       let cons = sum_by-cons (λ (i : Counted). count_in (map sort_item theory.sorts) i.0) item items in
       omega (arith, one, rest, cons)
 
-  fluents-agree : (items : List DraftFluent) → ground_count (bare theory) (map (λ item. item.args) (map fluent_item items))
-      ≡ sum_by (λ (item : Counted). count_in (map sort_item theory.sorts) item.0) (map fluent_counted items)
-  fluents-agree [] = refl
-  fluents-agree (item ∷ items) =
-      sum_by-cons (λ args. product (sizes (bare theory) args)) item.args (map (λ i. i.args) (map fluent_item items))
-      ∙ ap (λ n. count_in (map sort_item theory.sorts) item.args + n) (fluents-agree items)
-      ∙ sym (sum_by-cons (λ (i : Counted). count_in (map sort_item theory.sorts) i.0) (fluent_counted item) (map fluent_counted items))
-
-  actions-agree : (items : List DraftAction) → ground_count (bare theory) (map (λ item. item.args) (map action_item items))
-      ≡ sum_by (λ (item : Counted). count_in (map sort_item theory.sorts) item.0) (map action_counted items)
-  actions-agree [] = refl
-  actions-agree (item ∷ items) =
-      sum_by-cons (λ args. product (sizes (bare theory) args)) item.args (map (λ i. i.args) (map action_item items))
-      ∙ ap (λ n. count_in (map sort_item theory.sorts) item.args + n) (actions-agree items)
-      ∙ sym (sum_by-cons (λ (i : Counted). count_in (map sort_item theory.sorts) i.0) (action_counted item) (map action_counted items))
-
   -- where the sums are in their limits, ground things can be numbered
   pub countable : (fluent_sum theory).outcome ≡ Ok tt → (action_sum theory).outcome ≡ Ok tt → IsCountable (numbered (bare theory))
   countable f a =
       let fs = sum-within (map sort_item theory.sorts) 4096 0 (map fluent_counted theory.fluents) (omega arith) f in
       let acts = sum-within (map sort_item theory.sorts) 65536 0 (map action_counted theory.actions) (omega arith) a in
-      let fe = fluents-agree theory.fluents in
-      let ae = actions-agree theory.actions in
+      let fe = all-counted (bare theory) fluent_item (λ (i : FluentItem). i.args) fluent_counted (λ x. refl) theory.fluents in
+      let ae = all-counted (bare theory) action_item (λ (i : ActionItem). i.args) action_counted (λ x. refl) theory.actions in
       let fn = counted-some (map fluent_counted theory.fluents) (made (λ (i : Counted). draft_args_keep theory i.0) fluent_counted (draft_fluent_keeps theory) fluent-args theory.fluents keeps.fluents) in
       let an = counted-some (map action_counted theory.actions) (made (λ (i : Counted). draft_args_keep theory i.0) action_counted (draft_action_keeps theory) action-args theory.actions keeps.actions) in
       record {

@@ -1,7 +1,7 @@
 -- What is told of a draft itself is what is told of its shape.
 use Rattle.std.proofs.Common.{◌≡◌, ℕ, zero, suc, ◌+◌, Bool, true, false, ◌&&◌, ◌||◌, if◌then◌else◌, List, [], ◌∷◌, ◌++◌, map, Option, Some, None, refl, sym, ap, subst, ◌∙◌}
 use Rattle.std.specs.Prelude.{max, slice_get, unwrap_or}
-use Rattle.std.specs.List.{list_any, list_all}
+use Rattle.std.specs.List.{list_any}
 use Rattle.std.specs.Option.{option_map_or}
 use Rattle.std.proofs.lemmas.List.{append-nil}
 use Rattle.golog_tree.specs.declared.draft_prog.DraftProg.{DraftProg}
@@ -15,11 +15,11 @@ use Rattle.golog_tree.specs.declared.prog.Prog.TheFolds.{fold-Prog}
 use Rattle.golog_tree.specs.declared.prog.Prog.TheOpen.{Prog-F, Way-F, Nil, Act, Test, Seq, Choice, Pick, Star, If, While, Conc, Prio, Cstar, Call, Search}
 use Rattle.golog_tree.specs.Ground.{to_count}
 use Rattle.golog_tree.specs.Nest.{nest, nest_step}
-use Rattle.golog_semantics.specs.BlockFree.{block_at, has_block_by, has_block_step}
+use Rattle.golog_semantics.specs.BlockFree.{has_block_by, has_block_step}
 use Rattle.golog_semantics.specs.Guarded.{Front, front_at, no_front}
 use Rattle.golog_semantics.specs.FrontCalls.{Calling, calling, calling_step}
-use Rattle.golog_check.specs.declared.programs.Join.{Join}
-use Rattle.golog_check.specs.declared.programs.Join.TheVariants.{Seq as InSeq, Choice as InChoice, Conc as InConc, Prio as InPrio}
+use Rattle.golog_tree.specs.declared.join.Join.{Join}
+use Rattle.golog_tree.specs.declared.join.Join.TheVariants.{Seq as InSeq, Choice as InChoice, Conc as InConc, Prio as InPrio}
 use Rattle.golog_check.specs.DraftNest.{parts_nest, draft_nest_step, draft_nest}
 use Rattle.golog_check.specs.Programs.{nested}
 use Rattle.golog_check.specs.Shapes.{no_cond, shape, shape_step}
@@ -78,6 +78,15 @@ module _ (A : Type 0) (step : Prog-F A A → A) (way : Way-F A A → A) where
   abbrev of_shape : Prog → A
   of_shape = fold-Prog A A step way
 
+  -- what is told of parts that are joined, where it is told of one, and of one beside others
+  nest-told : {B : Type 0} (f : A → B) (told : List B → B) (join : Join) → f (step Nil) ≡ told [] → ((x : A) → f x ≡ told (f x ∷ []))
+      → ((x others : A) (y : B) (ys : List B) → f others ≡ told (y ∷ ys) → f (join_step A step way join x others) ≡ told (f x ∷ y ∷ ys))
+      → (xs : List A) → f (nest_by A step way join xs) ≡ told (map f xs)
+  nest-told f told join none one more [] = none
+  nest-told f told join none one more (x ∷ []) = one x
+  nest-told f told join none one more (x ∷ y ∷ xs) =
+      more x (nest_by A step way join (y ∷ xs)) (f y) (map f xs) (nest-told f told join none one more (y ∷ xs))
+
   abbrev pub shape_by : DraftProg-F A → A
   shape_by (draft.Nil at) = step Nil
   shape_by (draft.Act action args at) = step (Act action [])
@@ -128,19 +137,12 @@ and-all true = refl
 and-all false = refl
 
 -- the nest of a program
+nest-more : (join : Join) (n others m : ℕ) (ms : List ℕ) → others ≡ parts_nest (m ∷ ms) → join_step ℕ nest_step (λ w. 0) join n others ≡ parts_nest (n ∷ m ∷ ms)
+nest-more InSeq n others m ms e = ap (λ k. 1 + max n k) e
+nest-more _ n others m ms e = ap (λ k. 1 + max n k) e
+
 nest-parts : (join : Join) (ns : List ℕ) → nest_by ℕ nest_step (λ w. 0) join ns ≡ parts_nest (map (λ n. n) ns)
-nest-parts InSeq [] = refl
-nest-parts InChoice [] = refl
-nest-parts InConc [] = refl
-nest-parts InPrio [] = refl
-nest-parts InSeq (n ∷ []) = refl
-nest-parts InChoice (n ∷ []) = refl
-nest-parts InConc (n ∷ []) = refl
-nest-parts InPrio (n ∷ []) = refl
-nest-parts InSeq (n ∷ m ∷ ns) = ap (λ k. 1 + max n k) (nest-parts InSeq (m ∷ ns))
-nest-parts InChoice (n ∷ m ∷ ns) = ap (λ k. 1 + max n k) (nest-parts InChoice (m ∷ ns))
-nest-parts InConc (n ∷ m ∷ ns) = ap (λ k. 1 + max n k) (nest-parts InConc (m ∷ ns))
-nest-parts InPrio (n ∷ m ∷ ns) = ap (λ k. 1 + max n k) (nest-parts InPrio (m ∷ ns))
+nest-parts join = nest-told ℕ nest_step (λ w. 0) (λ n. n) parts_nest join refl (λ n. refl) (nest-more join)
 
 nest-layer : (l : DraftProg-F ℕ) → shape_by ℕ nest_step (λ w. 0) l ≡ draft_nest_step (map-DraftProg ℕ ℕ (λ n. n) l)
 nest-layer (draft.Nil at) = refl
@@ -162,24 +164,18 @@ pub nest-same : (d : DraftProg) → nest (shape d) ≡ draft_nest d
 nest-same = shape-told ℕ nest_step (λ w. 0) (λ n. n) draft_nest_step nest-layer
 
 -- whether a program has a block
-said-block : (o : Option Bool) → option_map_or (λ has. has) o false ≡ unwrap_or o false
+pub said-block : (o : Option Bool) → option_map_or (λ has. has) o false ≡ unwrap_or o false
 said-block None = refl
 said-block (Some has) = refl
 
 module _ (bs : List Bool) where
+  has-more : (join : Join) (x others y : Bool) (ys : List Bool) → others ≡ list_any (λ has. has) (y ∷ ys)
+      → join_step Bool (has_block_step bs) (λ w. false) join x others ≡ list_any (λ has. has) (x ∷ y ∷ ys)
+  has-more InSeq x others y ys e = ap (λ r. x || r) e
+  has-more _ x others y ys e = ap (λ r. x || r) e
+
   has-parts : (join : Join) (xs : List Bool) → nest_by Bool (has_block_step bs) (λ w. false) join xs ≡ list_any (λ has. has) (map (λ has. has) xs)
-  has-parts InSeq [] = refl
-  has-parts InChoice [] = refl
-  has-parts InConc [] = refl
-  has-parts InPrio [] = refl
-  has-parts InSeq (x ∷ []) = or-none x
-  has-parts InChoice (x ∷ []) = or-none x
-  has-parts InConc (x ∷ []) = or-none x
-  has-parts InPrio (x ∷ []) = or-none x
-  has-parts InSeq (x ∷ y ∷ xs) = ap (λ r. x || r) (has-parts InSeq (y ∷ xs))
-  has-parts InChoice (x ∷ y ∷ xs) = ap (λ r. x || r) (has-parts InChoice (y ∷ xs))
-  has-parts InConc (x ∷ y ∷ xs) = ap (λ r. x || r) (has-parts InConc (y ∷ xs))
-  has-parts InPrio (x ∷ y ∷ xs) = ap (λ r. x || r) (has-parts InPrio (y ∷ xs))
+  has-parts join = nest-told Bool (has_block_step bs) (λ w. false) (λ has. has) (list_any (λ has. has)) join refl or-none (has-more join)
 
   has-layer : (l : DraftProg-F Bool) → shape_by Bool (has_block_step bs) (λ w. false) l ≡ draft_has_step bs (map-DraftProg Bool Bool (λ has. has) l)
   has-layer (draft.Nil at) = refl
@@ -233,25 +229,20 @@ module _ (skips : List Bool) where
   no_way w = record { front = no_front; calls = [] }
 
   row-same : (cs : List Calling) → fore_of (nest_by Calling by no_way InSeq cs) ≡ in_row (map fore_of cs)
-  row-same [] = refl
-  row-same (c ∷ []) = row-one c.front.skip c.calls
-  row-same (c ∷ d ∷ cs) =
-      ap (λ (p : Fore). fore (c.front.skip && p.skip) (c.calls ++ (if c.front.skip then p.calls else []))) (row-same (d ∷ cs))
+  row-same = nest-told Calling by no_way fore_of in_row InSeq refl (λ c. row-one c.front.skip c.calls)
+      (λ c others d ds e. ap (λ (p : Fore). fore (c.front.skip && p.skip) (c.calls ++ (if c.front.skip then p.calls else []))) e)
 
   chosen-same : (cs : List Calling) → fore_of (nest_by Calling by no_way InChoice cs) ≡ chosen (map fore_of cs)
-  chosen-same [] = refl
-  chosen-same (c ∷ []) = any-one c.front.skip c.calls
-  chosen-same (c ∷ d ∷ cs) = ap (λ (p : Fore). fore (c.front.skip || p.skip) (c.calls ++ p.calls)) (chosen-same (d ∷ cs))
+  chosen-same = nest-told Calling by no_way fore_of chosen InChoice refl (λ c. any-one c.front.skip c.calls)
+      (λ c others d ds e. ap (λ (p : Fore). fore (c.front.skip || p.skip) (c.calls ++ p.calls)) e)
 
   conc-same : (cs : List Calling) → fore_of (nest_by Calling by no_way InConc cs) ≡ beside (map fore_of cs)
-  conc-same [] = refl
-  conc-same (c ∷ []) = all-one c.front.skip c.calls
-  conc-same (c ∷ d ∷ cs) = ap (λ (p : Fore). fore (c.front.skip && p.skip) (c.calls ++ p.calls)) (conc-same (d ∷ cs))
+  conc-same = nest-told Calling by no_way fore_of beside InConc refl (λ c. all-one c.front.skip c.calls)
+      (λ c others d ds e. ap (λ (p : Fore). fore (c.front.skip && p.skip) (c.calls ++ p.calls)) e)
 
   prio-same : (cs : List Calling) → fore_of (nest_by Calling by no_way InPrio cs) ≡ beside (map fore_of cs)
-  prio-same [] = refl
-  prio-same (c ∷ []) = all-one c.front.skip c.calls
-  prio-same (c ∷ d ∷ cs) = ap (λ (p : Fore). fore (c.front.skip && p.skip) (c.calls ++ p.calls)) (prio-same (d ∷ cs))
+  prio-same = nest-told Calling by no_way fore_of beside InPrio refl (λ c. all-one c.front.skip c.calls)
+      (λ c others d ds e. ap (λ (p : Fore). fore (c.front.skip && p.skip) (c.calls ++ p.calls)) e)
 
   fore-layer : (l : DraftProg-F Calling) → fore_of (shape_by Calling by no_way l) ≡ fore_step skips (map-DraftProg Calling Fore fore_of l)
   fore-layer (draft.Nil at) = refl

@@ -1,5 +1,5 @@
 -- Skipping by rounds, and that calls without a step are told by what is skipped alone.
-use Rattle.std.proofs.Common.{◌≡◌, ℕ, zero, suc, ◌+◌, ◌*◌, Bool, true, false, ◌&&◌, ◌||◌, if◌then◌else◌, List, [], ◌∷◌, ◌++◌, length, map, refl, sym, ap, ◌∙◌, arith}
+use Rattle.std.proofs.Common.{◌≡◌, ℕ, zero, suc, Bool, false, List, [], ◌∷◌, length, map, refl, sym, ap, ◌∙◌, replicate}
 use Rattle.golog_tree.specs.declared.agent.ProcItem.{ProcItem}
 use Rattle.golog_tree.specs.declared.draft.DraftProc.{DraftProc}
 use Rattle.golog_tree.specs.declared.prog.Prog.{Prog}
@@ -11,7 +11,7 @@ use Rattle.golog_semantics.proofs.SkipRounds.{fronts-skips, skipped-front}
 use Rattle.golog_semantics.proofs.GuardedReach.{all_skips}
 use Rattle.golog_semantics.proofs.FoldsRelated.{Leaf, free, Answers, WayAnswers, folds_related, ones, twos}
 use Rattle.golog_check.specs.Shapes.{shape, shape_of, shapes}
-use Rattle.golog_check.specs.Settled.{rounds_of, same_of}
+use Rattle.golog_check.specs.Settled.{rounds_of}
 use Rattle.std.specs.Prelude.{min}
 use Rattle.golog_check.specs.DraftNest.{draft_nest}
 use Rattle.golog_check.specs.Told.{nesting_by, nesting_in, nestings_in}
@@ -93,12 +93,12 @@ where-skips (skip ∷ skips) = ap (λ bs. skip ∷ bs) (where-skips skips)
 
 module _ (procs : List DraftProc) where
   abbrev said : ℕ → List Bool
-  said k = rounds_of (skip_round procs) k (same_of (length procs) false)
+  said k = rounds_of (skip_round procs) k (replicate (length procs) false)
 
-  skips-to : (k : ℕ) → map is_skip (fronts_to k (shapes procs)) ≡ rounds_of (skip_round procs) k (same_of (length procs) false)
+  skips-to : (k : ℕ) → map is_skip (fronts_to k (shapes procs)) ≡ rounds_of (skip_round procs) k (replicate (length procs) false)
   skips-to zero =
       map-two is_skip (λ (item : ProcItem). no_front) (map shape_of procs) ∙ map-same false (map shape_of procs)
-      ∙ ap (λ n. same_of n false) (map-long shape_of procs)
+      ∙ ap (λ n. replicate n false) (map-long shape_of procs)
   skips-to (suc k) =
       let fs = fronts_to k (shapes procs) in
       map-two is_skip (λ (item : ProcItem). front_by fs item.body) (map shape_of procs)
@@ -108,7 +108,7 @@ module _ (procs : List DraftProc) where
       ∙ ap (λ (p : Fore). p.skip) (fore-same (said k) item.body)) procs
 
   -- the procedures that may be skipped
-  pub skips-rounds : map is_skip (proc_fronts (shapes procs)) ≡ rounds_of (skip_round procs) (length procs) (same_of (length procs) false)
+  pub skips-rounds : map is_skip (proc_fronts (shapes procs)) ≡ rounds_of (skip_round procs) (length procs) (replicate (length procs) false)
   unfolding proc_skips
   skips-rounds =
       all_skips (shapes procs) ∙ ap (λ n. skips_to n (shapes procs)) (map-long shape_of procs)
@@ -116,9 +116,9 @@ module _ (procs : List DraftProc) where
 
   -- what a program calls without a step, by these
   pub calls-told : (d : DraftProg) → front_calls (shapes procs) (shape d)
-      ≡ (draft_fore (rounds_of (skip_round procs) (length procs) (same_of (length procs) false)) d).calls
+      ≡ (draft_fore (rounds_of (skip_round procs) (length procs) (replicate (length procs) false)) d).calls
   calls-told d =
-      let skips = rounds_of (skip_round procs) (length procs) (same_of (length procs) false) in
+      let skips = rounds_of (skip_round procs) (length procs) (replicate (length procs) false) in
       (like (proc_fronts (shapes procs)) (map front_where skips) (skips-rounds ∙ sym (where-skips skips)) (shape d)).calls
       ∙ ap (λ (p : Fore). p.calls) (fore-same skips d)
 
@@ -126,7 +126,7 @@ module _ (procs : List DraftProc) where
   told_by own calls = (own, calls)
 
   -- how deep each nests and what it calls, by these
-  pub nestings-told : (skips : List Bool) → skips ≡ rounds_of (skip_round procs) (length procs) (same_of (length procs) false)
+  pub nestings-told : (skips : List Bool) → skips ≡ rounds_of (skip_round procs) (length procs) (replicate (length procs) false)
       → map (λ (item : DraftProc). nesting_by skips item.body) procs ≡ nestings_in procs
   nestings-told skips e =
       map-alike (λ (item : DraftProc). nesting_by skips item.body) (nesting_in procs)

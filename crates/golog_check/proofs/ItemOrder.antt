@@ -33,6 +33,7 @@ use Rattle.golog_check.specs.Check.{main_in}
 use Rattle.golog_draft.specs.DraftPlaces.{arg_place, arg_places, term_places, cond_places, value_places, start_places, poss_places, cause_places, sense_places, proc_places, main_places}
 use Rattle.golog_draft.specs.DraftOrder.{Ascend, AreAscending, Rise}
 use Rattle.golog_rows.proofs.Chain.{key, Chain, chain-low, found-chain, if-chain, Spans, then-spans, gives-spans, wider}
+use Rattle.golog_check.proofs.CauseParts.{cause_of}
 use Rattle.golog_check.proofs.Halves.{halves, ascend-le}
 use Rattle.golog_check.proofs.TermOrder.{arg_in-spans, args-spans, term-spans}
 use Rattle.golog_check.proofs.CondOrder.{cond-spans}
@@ -110,16 +111,6 @@ module _ (names : Declared) where
       (wider from (arg_place arg) (arg_place arg + 1) (arg_place arg + 1) (head_after names head sort arg) c.0 (omega arith) (head_after-spans head sort arg))
       (λ head. head-spans head sorts (arg_place arg + 1) args to c.1)
 
-  abbrev of_heads : DraftCause → List Arg → List Arg → Term → Cond → CauseItem
-  of_heads item action_args fluent_args term cond = record {
-    action = item.action;
-    action_args = action_args;
-    fluent = item.fluent;
-    fluent_args = fluent_args;
-    term = term;
-    cond = cond;
-  }
-
   pub cause-spans : (item : DraftCause) (to : ℕ) → Ascend 0 (cause_places item) to → Spans 0 to (cause_in names item)
   unfolding cause_in
   cause-spans item to c =
@@ -131,16 +122,16 @@ module _ (names : Declared) where
       (λ (action : Head).
       head_from names (head_within action.scope) (fluent_sorts names item.fluent) item.fluent_args >>= λ (fluent : Head).
       term_in names fluent.scope sort item.term >>= λ term.
-      cond_in names item.cond fluent.scope >>= λ cond. gives (of_heads item action.args fluent.args term cond))
+      cond_in names item.cond fluent.scope >>= λ cond. gives (cause_of item action.args fluent.args term cond))
       (ascend-le h.mid (arg_places item.fluent_args ++ (term_places item.term ++ cond_places item.cond)) to h.other)
       (head-spans (head_within []) (action_sorts names item.action) 0 item.action_args h.mid h.one)
       (λ action. then-spans h.mid j.mid to (head_from names (head_within action.scope) (fluent_sorts names item.fluent) item.fluent_args)
-      (λ (fluent : Head). term_in names fluent.scope sort item.term >>= λ term. cond_in names item.cond fluent.scope >>= λ cond. gives (of_heads item action.args fluent.args term cond))
+      (λ (fluent : Head). term_in names fluent.scope sort item.term >>= λ term. cond_in names item.cond fluent.scope >>= λ cond. gives (cause_of item action.args fluent.args term cond))
       (ascend-le j.mid (term_places item.term ++ cond_places item.cond) to j.other)
       (head-spans (head_within action.scope) (fluent_sorts names item.fluent) h.mid item.fluent_args j.mid j.one)
-      (λ fluent. then-spans j.mid k.mid to (term_in names fluent.scope sort item.term) (λ term. cond_in names item.cond fluent.scope >>= λ cond. gives (of_heads item action.args fluent.args term cond))
+      (λ fluent. then-spans j.mid k.mid to (term_in names fluent.scope sort item.term) (λ term. cond_in names item.cond fluent.scope >>= λ cond. gives (cause_of item action.args fluent.args term cond))
       (ascend-le k.mid (cond_places item.cond) to k.other) (term-spans names fluent.scope sort j.mid item.term k.mid k.one)
-      (λ term. gives-spans k.mid to (cond_in names item.cond fluent.scope) (λ cond. of_heads item action.args fluent.args term cond) (cond-spans names item.cond fluent.scope k.mid to k.other))))
+      (λ term. gives-spans k.mid to (cond_in names item.cond fluent.scope) (λ cond. cause_of item action.args fluent.args term cond) (cond-spans names item.cond fluent.scope k.mid to k.other))))
 
   -- sensing
   sense-spans : (again : Bool) (item : DraftSense) (to : ℕ) → Ascend 0 (sense_places item) to → Spans 0 to (sense_by names again item)

@@ -4,7 +4,6 @@ pub mod CheckedLaws
 pub mod CondLaws
 pub mod Conds
 pub mod Each
-pub mod NestLaws
 pub mod Nested
 pub mod ProgLaws
 pub mod Progs
@@ -44,3 +43,6 @@ pub mod CondOrder
 pub mod ProgOrder
 pub mod ItemOrder
 pub mod LeastRow
+pub mod CauseParts
+pub mod Signatures
+pub mod Layers

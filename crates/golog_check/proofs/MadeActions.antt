@@ -4,8 +4,6 @@ use Rattle.std.specs.Prelude.{◌==◌, nat_eq, nat_lt, nat_le, slice_get, is_so
 use Rattle.std.specs.List.{list_all, IsDistinct}
 use Rattle.std.specs.Option.{option_map_or}
 use Rattle.std.proofs.lemmas.Bool.{eqb-true, eq-eqb, ne_eqb}
-use Rattle.std.proofs.lemmas.Bool.Decides.{nat_tests}
-use Rattle.std.proofs.lemmas.List.{length-map}
 use Rattle.std.proofs.lemmas.Option.{slice_get-map}
 use Rattle.golog_tree.specs.declared.agent.Agent.{Agent}
 use Rattle.golog_tree.specs.declared.agent.FluentItem.{FluentItem}
@@ -24,12 +22,12 @@ use Rattle.golog_rows.specs.Reading.{Reading, gives, ◌>>=◌}
 use Rattle.golog_semantics.specs.Text.{Text}
 use Rattle.golog_semantics.specs.Ways.{is_empty}
 use Rattle.golog_semantics.specs.Fits as fits
-use Rattle.golog_semantics.specs.Fits.{bound_from, is_sort, args_fit}
+use Rattle.golog_semantics.specs.Fits.{bound_from, is_sort}
 use Rattle.golog_draft.specs.Drafts.{TheoryKeeps, ProgramKeeps, signature, cond_keeps, fluent_keeps, draft_args_keep, draft_action_at, draft_fluent_keeps, draft_action_keeps, draft_poss_keeps, draft_sense_keeps}
 use Rattle.golog_semantics.specs.Written.{is_written_cond}
 use Rattle.golog_semantics.specs.WellFormed.{poss_fits, poss_fits_for, sense_fits, sense_fits_for}
 use Rattle.golog_semantics.proofs.Tests.{and_both, and_cases, neither_first, neither_second}
-use Rattle.golog_check.specs.DeclaredItems.{Declared, sort_item, fluent_item, action_item}
+use Rattle.golog_check.specs.DeclaredItems.{Declared, fluent_item, action_item}
 use Rattle.golog_check.specs.Sorts.{fluent_sorts, action_sorts}
 use Rattle.golog_check.specs.Scope.{Scope, within, scope_on, scope_of_vars}
 use Rattle.golog_check.specs.Terms.{args_in}
@@ -40,7 +38,8 @@ use Rattle.golog_check.specs.Check.{names_of, agent_of}
 use Rattle.golog_check.proofs.Readings.{both, past, ok-same}
 use Rattle.golog_check.proofs.ArgLaws.{args-fit}
 use Rattle.golog_check.proofs.CondLaws.{conds-fit}
-use Rattle.golog_check.proofs.Countable.{made}
+use Rattle.golog_check.proofs.Countable.{action-args, all-get, few-of, made}
+use Rattle.golog_check.proofs.Signatures.{declared-signature}
 use Rattle.golog_check.proofs.MadeItems.{args-in, sort-in}
 use Rattle.golog_check.proofs.Given.{given-all, given-once, senses-all, senses-once}
 
@@ -78,11 +77,6 @@ not-not : (b : Bool) → not b ≡ false → b ≡ true
 not-not true h = refl
 not-not false h = absurd (cc)
 
-arities-same : (items : List DraftFluent) → map (λ (i : FluentItem). length i.args) (map fluent_item items)
-    ≡ map (λ (item : DraftFluent). length item.args) items
-arities-same [] = refl
-arities-same (item ∷ items) = ap (λ arities. length item.args ∷ arities) (arities-same items)
-
 module _ (theory : DraftTheory) (program : DraftProgram) (keeps : TheoryKeeps theory) (also : ProgramKeeps theory program) where
   abbrev agent : Agent
   agent = agent_of theory program
@@ -91,10 +85,7 @@ module _ (theory : DraftTheory) (program : DraftProgram) (keeps : TheoryKeeps th
   names = names_of theory program
 
   pub same-signature : signature_of (names_of theory program) ≡ signature theory
-  same-signature =
-      ap (λ n. record { sorts = n; arities = map (λ (i : FluentItem). length i.args) (map fluent_item theory.fluents) })
-      (length-map theory.sorts sort_item)
-      ∙ ap (λ arities. record { sorts = length theory.sorts; arities = arities }) (arities-same theory.fluents)
+  same-signature = declared-signature theory program.procs
 
   pub has-items : HasItems (agent_of theory program) (names_of theory program)
   has-items = record {
@@ -118,22 +109,6 @@ module _ (theory : DraftTheory) (program : DraftProgram) (keeps : TheoryKeeps th
       → slice_get agent.actions action ≡ Some (action_item item)
   action-get action item e = slice_get-map action_item theory.actions action ∙ ap (λ o. option_map action_item o) e
 
-  pub action-kept : (items : List DraftAction) → list_all (draft_action_keeps theory) items ≡ true → (action : ℕ) (item : DraftAction)
-      → slice_get items action ≡ Some item → draft_args_keep theory item.args ≡ true
-  action-kept [] h action item e = absurd (cc)
-  action-kept (x ∷ xs) h zero item e =
-      let t = (and_cases (draft_action_keeps theory x) (list_all (draft_action_keeps theory) xs) h).0 in
-      let is : x ≡ item = cc in
-      ap (λ (i : DraftAction). draft_args_keep theory i.args) (sym is)
-      ∙ (and_cases _ _ (and_cases _ _ (and_cases _ _ t).0).0).0
-  action-kept (x ∷ xs) h (suc action) item e =
-      action-kept xs (and_cases (draft_action_keeps theory x) (list_all (draft_action_keeps theory) xs) h).1 action item e
-
-  pub args-few : (args : List ℕ) → draft_args_keep theory args ≡ true → length args ≤ 3
-  args-few args h =
-      let t = (and_cases (nat_le (length args) 3) (list_all (λ sort. nat_lt sort (length theory.sorts)) args) h).0 in
-      grind (arith, nat_tests)
-
   -- the precondition of an action
   poss-at : (item : DraftPoss) (action : DraftAction) (c : Cond) → slice_get theory.actions item.action ≡ Some action
       → (length action.args == length item.vars && is_empty action.posters) ≡ true → nat_le 2 item.action ≡ true
@@ -144,9 +119,9 @@ module _ (theory : DraftTheory) (program : DraftProgram) (keeps : TheoryKeeps th
       let t = and_cases (length action.args == length item.vars) (is_empty action.posters) h in
       let l : length action.args ≡ length item.vars = eqb-true (length action.args) (length item.vars) t.0 in
       let get = action-get item.action action e in
-      let kept = action-kept theory.actions keeps.actions item.action action e in
+      let kept = action-args theory keeps action (all-get (draft_action_keeps theory) theory.actions keeps.actions item.action action e) in
       let scope = action-scope action item.vars kept l in
-      let short : length action.args ≤ 3 = args-few action.args kept in
+      let short : length action.args ≤ 3 = few-of theory keeps action.args kept in
       let few : length (scope_of_vars item.vars action.args) ≤ 32 = omega (arith, scope.long, l, short) in
       let long : length (scope_of_vars item.vars action.args) ≡ length item.vars = omega (arith, scope.long) in
       let again : length (scope_of_vars item.vars action.args) ≡ length action.args = omega (arith, long, l) in
@@ -242,9 +217,9 @@ module _ (theory : DraftTheory) (program : DraftProgram) (keeps : TheoryKeeps th
   sense-at again item action fluent y e f l m s =
       let get = action-get item.action action e in
       let got = fluent-get item.fluent fluent f in
-      let kept = action-kept theory.actions keeps.actions item.action action e in
+      let kept = action-args theory keeps action (all-get (draft_action_keeps theory) theory.actions keeps.actions item.action action e) in
       let scope = action-scope action item.vars kept l in
-      let short : length action.args ≤ 3 = args-few action.args kept in
+      let short : length action.args ≤ 3 = few-of theory keeps action.args kept in
       let few : length (scope_of_vars item.vars action.args) ≤ 32 = omega (arith, scope.long, l, short) in
       let sorts : action_sorts names item.action ≡ action.args = ap (λ (o : Option ActionItem). option_map_or (λ (i : ActionItem). i.args) o []) get in
       let places : fluent_sorts names item.fluent ≡ fluent.args = ap (λ (o : Option FluentItem). option_map_or (λ (i : FluentItem). i.args) o []) got in

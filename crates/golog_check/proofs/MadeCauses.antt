@@ -4,7 +4,7 @@ use Rattle.std.specs.Prelude.{◌==◌, nat_lt, slice_get, if◌then◌else◌}
 use Rattle.std.specs.List.{list_all}
 use Rattle.std.specs.Option.{option_map_or}
 use Rattle.std.proofs.lemmas.Bool.{eq-eqb, ne_eqb}
-use Rattle.std.proofs.lemmas.List.{length-append, append-nil}
+use Rattle.std.proofs.lemmas.List.{append-nil}
 use Rattle.std.proofs.lemmas.Option.{slice_get_within}
 use Rattle.golog_tree.specs.declared.agent.Agent.{Agent}
 use Rattle.golog_tree.specs.declared.cond.Arg.{Arg}
@@ -28,18 +28,15 @@ use Rattle.golog_check.specs.Heads.{binds, binding, head_after, head_from}
 use Rattle.golog_check.specs.CheckLaws.{HasItems, Binds}
 use Rattle.golog_check.proofs.Readings.{both, ok-same}
 use Rattle.golog_check.proofs.ArgLaws.{arg-fits}
+use Rattle.golog_check.proofs.Vars.{outermost, outermost-long}
 use Rattle.golog_check.proofs.MadeActions.{bound-at}
 
 -- the sorts of variables in scope, the outermost first
 abbrev pub found_of : Scope → List ℕ
-found_of [] = []
-found_of (variable ∷ outer) = found_of outer ++ variable.sort ∷ []
+found_of = outermost (λ variable. variable.sort)
 
 pub found-long : (scope : Scope) → length (found_of scope) ≡ length scope
-found-long [] = refl
-found-long (variable ∷ outer) =
-    let more = length-append (found_of outer) (variable.sort ∷ []) in
-    let rest = found-long outer in omega (arith, more, rest)
+found-long = outermost-long (λ variable. variable.sort)
 
 -- what a variable is bound to is the sort at its number
 bound-get : (first : ℕ) (sorts : List ℕ) (i sort : ℕ) → bound_from first sorts (first + i) ≡ Some sort → slice_get sorts i ≡ Some sort

@@ -1,6 +1,6 @@
 -- The agent that a draft makes: its start values and its program.
 use Rattle.std.proofs.Common.{◌≡◌, ℕ, suc, ◌+◌, ◌≤◌, Bool, true, false, not, ◌&&◌, ◌||◌, List, [], ◌∷◌, ◌++◌, length, map, Option, Result, Ok, Err, Some, None, refl, sym, ap, subst, ◌∙◌, arith}
-use Rattle.std.specs.Prelude.{All, ◌==◌, nat_eq, nat_lt, nat_le, slice_get, if◌then◌else◌, option_map, option_and_then, unwrap_or}
+use Rattle.std.specs.Prelude.{◌==◌, nat_eq, nat_lt, nat_le, slice_get, if◌then◌else◌, option_map, option_and_then, unwrap_or}
 use Rattle.std.specs.List.{list_all, enumerate_from, flat_map}
 use Rattle.std.specs.Cmp.Lexicographic.{pointwise}
 use Rattle.std.proofs.lemmas.Bool.{eqb-true, eq-eqb}
@@ -51,7 +51,7 @@ use Rattle.golog_check.specs.ProgramLaws.{blocks_keep}
 use Rattle.golog_check.specs.Procs.{params_of, proc_in}
 use Rattle.golog_check.specs.Shapes.{shapes}
 use Rattle.golog_check.specs.DraftBlocks.{block_refusals}
-use Rattle.golog_check.proofs.PartLaws.{NoneRefused, none-before, none-behind, none-refused}
+use Rattle.golog_check.proofs.PartLaws.{none-before, none-behind, none-refused}
 use Rattle.golog_check.proofs.Nests.{nests-same}
 use Rattle.golog_check.proofs.BlockLaws.{blocks-kept}
 use Rattle.golog_check.proofs.Transfer.{AllAlike, same-blocks}
@@ -71,9 +71,14 @@ numbered-all p f first (x ∷ xs) holds =
     (numbered-all p f (first + 1) xs (λ i y e.
     ap (λ n. p (n, f y)) (let z : (first + 1) + i ≡ first + suc i = omega arith in z) ∙ holds (suc i) y e))
 
-all-true : {A : Type 0} (xs : List A) → list_all (λ _. true) xs ≡ true
+pub all-true : {A : Type 0} (xs : List A) → list_all (λ _. true) xs ≡ true
 all-true [] = refl
 all-true (x ∷ xs) = all-true xs
+
+pub const-in : (o : Result Arg CodeAt) (c : ℕ) → constant_in o ≡ Some c → o ≡ Ok (Const c)
+const-in (Ok (Const d)) c h = ap (λ n. Ok (Const n)) (some-same d c h)
+const-in (Ok (Var x)) c h = absurd (cc)
+const-in (Err refusal) c h = absurd (cc)
 
 ok-one : {A : Type 0} (o : Result A CodeAt) → refusal_of o ++ [] ≡ [] → (x : A) × (o ≡ Ok x)
 ok-one (Ok x) h = (x, refl)
@@ -103,11 +108,6 @@ module _ (theory : DraftTheory) (program : DraftProgram) (keeps : TheoryKeeps th
   abbrev start_ok : Start → Bool
   start_ok (start.Each fluent value) = is_ok fluent value
   start_ok (start.One fluent args value) = is_ok fluent value
-
-  const-in : (o : Result Arg CodeAt) (c : ℕ) → constant_in o ≡ Some c → o ≡ Ok (Const c)
-  const-in (Ok (Const d)) c h = ap (λ n. Ok (Const n)) (some-same d c h)
-  const-in (Ok (Var x)) c h = absurd (cc)
-  const-in (Err refusal) c h = absurd (cc)
 
   value-ok : (fluent : ℕ) (value : Option DraftArg) (c : ℕ) → (value_in names (own_sort names fluent) value).outcome ≡ Ok c → is_ok fluent c ≡ true
   unfolding value_in

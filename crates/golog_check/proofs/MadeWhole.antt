@@ -1,6 +1,6 @@
 -- The agent that a draft makes is well formed.
-use Rattle.std.proofs.Common.{◌≡◌, ℕ, zero, suc, ◌≤◌, true, false, ◌&&◌, List, [], ◌∷◌, ◌++◌, length, Option, Result, Ok, Err, Some, None, refl, sym, ap, subst, ◌∙◌, arith}
-use Rattle.std.specs.Prelude.{◌==◌, nat_lt, slice_get, unwrap_or, option_map, IfOk}
+use Rattle.std.proofs.Common.{◌≡◌, ℕ, ◌≤◌, true, false, ◌&&◌, List, [], ◌++◌, length, Option, Result, Ok, Err, Some, None, refl, sym, ap, subst, ◌∙◌, arith}
+use Rattle.std.specs.Prelude.{◌==◌, slice_get, unwrap_or, option_map, IfOk}
 use Rattle.std.specs.List.{list_all}
 use Rattle.std.specs.Option.{option_map_or}
 use Rattle.std.proofs.lemmas.Bool.{eqb-true}
@@ -16,22 +16,22 @@ use Rattle.golog_tree.specs.declared.draft.DraftProgram.{DraftProgram}
 use Rattle.golog_tree.specs.declared.draft.DraftFluent.{DraftFluent}
 use Rattle.golog_tree.specs.declared.draft.DraftAction.{DraftAction}
 use Rattle.golog_tree.specs.declared.draft.DraftCause.{DraftCause}
-use Rattle.golog_rows.specs.Reading.{Reading, gives, ◌>>=◌}
+use Rattle.golog_rows.specs.Reading.{Reading}
 use Rattle.golog_semantics.specs.Fits.{bound_from}
 use Rattle.golog_semantics.specs.Written.{is_written_cond}
-use Rattle.golog_draft.specs.Drafts.{TheoryKeeps, ProgramKeeps, signature, cond_keeps, term_keeps, fluent_keeps, draft_args_keep, draft_action_at, draft_fluent_keeps, draft_cause_keeps, cause_vars, vars_after}
+use Rattle.golog_draft.specs.Drafts.{TheoryKeeps, ProgramKeeps, signature, cond_keeps, term_keeps, fluent_keeps, draft_args_keep, draft_action_at, draft_action_keeps, draft_fluent_keeps, draft_cause_keeps, cause_vars, vars_after}
 use Rattle.golog_semantics.specs.WellFormed.{WellFormed, head_sorts, effect_fits, cause_fits_for, cause_fits}
 use Rattle.golog_semantics.proofs.Tests.{and_both, and_cases}
 use Rattle.golog_check.specs.declared.heads.Head.{Head}
 use Rattle.golog_check.specs.DeclaredItems.{Declared, action_item}
 use Rattle.golog_check.specs.Sorts.{fluent_sort, fluent_sorts, action_sorts}
 use Rattle.golog_check.specs.Terms.{term_in}
-use Rattle.golog_check.specs.Conditions.{cond_in}
 use Rattle.golog_check.specs.Heads.{head_from}
 use Rattle.golog_check.specs.Effects.{head_within, cause_in}
 use Rattle.golog_check.specs.declared.fault.CheckFault.{CheckFault}
 use Rattle.golog_check.specs.Check.{names_of, all_refusals, agent_of, Checks}
-use Rattle.golog_check.proofs.Readings.{both, ok-same}
+use Rattle.golog_check.proofs.CauseParts.{IsCause, cause-is}
+use Rattle.golog_check.proofs.Countable.{action-args, all-get, few-of, fluent-args}
 use Rattle.golog_check.proofs.TermLaws.{terms-fit}
 use Rattle.golog_check.proofs.CondLaws.{conds-fit}
 use Rattle.golog_check.proofs.PartLaws.{none-refused}
@@ -50,48 +50,13 @@ module _ (theory : DraftTheory) (program : DraftProgram) (keeps : TheoryKeeps th
   abbrev names : Declared
   names = names_of theory program
 
-  -- an effect that was not refused, part by part
-  record IsCause (item : DraftCause) (y : CauseItem) : Type 0 where
-    action : Head
-    fluent : Head
-    term : Term
-    cond : Cond
-    action_read : (head_from (names_of theory program) (head_within []) (action_sorts (names_of theory program) item.action) item.action_args).outcome ≡ Ok action
-    fluent_read : (head_from (names_of theory program) (head_within action.scope) (fluent_sorts (names_of theory program) item.fluent) item.fluent_args).outcome ≡ Ok fluent
-    term_read : (term_in (names_of theory program) fluent.scope (unwrap_or (fluent_sort (names_of theory program) item.fluent) 0) item.term).outcome ≡ Ok term
-    cond_read : (cond_in (names_of theory program) item.cond fluent.scope).outcome ≡ Ok cond
-    is : ◌≡◌ {A = CauseItem} (record { action = item.action; action_args = action.args; fluent = item.fluent; fluent_args = fluent.args; term = term; cond = cond }) y
-
-  cause-is : (item : DraftCause) (y : CauseItem) → (cause_in names item).outcome ≡ Ok y → IsCause item y
-  unfolding cause_in
-  cause-is item y h =
-      let made : Head → Head → Term → Cond → Reading CauseItem = λ a f t c. gives (record { action = item.action; action_args = a.args; fluent = item.fluent; fluent_args = f.args; term = t; cond = c }) in
-      let conds : Head → Head → Term → Reading CauseItem = λ a f t. cond_in names item.cond f.scope >>= λ c. made a f t c in
-      let terms : Head → Head → Reading CauseItem = λ a f. term_in names f.scope (unwrap_or (fluent_sort names item.fluent) 0) item.term >>= λ t. conds a f t in
-      let fluents : Head → Reading CauseItem = λ a. head_from names (head_within a.scope) (fluent_sorts names item.fluent) item.fluent_args >>= λ f. terms a f in
-      let a = both (head_from names (head_within []) (action_sorts names item.action) item.action_args) fluents y h in
-      let f = both (head_from names (head_within a.value.scope) (fluent_sorts names item.fluent) item.fluent_args) (terms a.value) y a.other in
-      let t = both (term_in names f.value.scope (unwrap_or (fluent_sort names item.fluent) 0) item.term) (conds a.value f.value) y f.other in
-      let c = both (cond_in names item.cond f.value.scope) (made a.value f.value t.value) y t.other in
-      record {
-        action = a.value;
-        fluent = f.value;
-        term = t.value;
-        cond = c.value;
-        action_read = a.one;
-        fluent_read = f.one;
-        term_read = t.one;
-        cond_read = c.one;
-        is = ok-same (record { action = item.action; action_args = a.value.args; fluent = item.fluent; fluent_args = f.value.args; term = t.value; cond = c.value }) y c.other;
-      }
-
   cause-at : (item : DraftCause) (action : DraftAction) (fluent : DraftFluent) (y : CauseItem)
       → slice_get theory.actions item.action ≡ Some action → slice_get theory.fluents item.fluent ≡ Some fluent
       → length action.args ≡ length item.action_args → length fluent.args ≡ length item.fluent_args
       → draft_args_keep theory action.args ≡ true → draft_args_keep theory fluent.args ≡ true
       → term_keeps (signature theory) item.term ≡ true
       → cond_keeps (signature theory) item.cond (length (cause_vars theory item)) ≡ true
-      → IsCause item y → cause_fits agent y ≡ true
+      → IsCause names item y → cause_fits agent y ≡ true
   cause-at item action fluent y e f l m akept fkept tkept ckept s =
       let has = acts.has-items theory program keeps also in
       let get = acts.action-get theory program keeps also item.action action e in
@@ -99,8 +64,8 @@ module _ (theory : DraftTheory) (program : DraftProgram) (keeps : TheoryKeeps th
       let asorts : action_sorts names item.action ≡ action.args = ap (λ (o : Option ActionItem). option_map_or (λ (i : ActionItem). i.args) o []) get in
       let fsorts : fluent_sorts names item.fluent ≡ fluent.args = ap (λ (o : Option FluentItem). option_map_or (λ (i : FluentItem). i.args) o []) got in
       let own : unwrap_or (fluent_sort names item.fluent) 0 ≡ fluent.sort = ap (λ (o : Option FluentItem). unwrap_or (option_map (λ (i : FluentItem). i.sort) o) 0) got in
-      let few-a = acts.args-few theory program keeps also action.args akept in
-      let few-f = acts.args-few theory program keeps also fluent.args fkept in
+      let few-a = few-of theory keeps action.args akept in
+      let few-f = few-of theory keeps fluent.args fkept in
       let read-a : (head_from names (head_within []) action.args item.action_args).outcome ≡ Ok s.action =
       subst (λ ss. (head_from names (head_within []) ss item.action_args).outcome ≡ Ok s.action) asorts s.action_read in
       let read-f : (head_from names (head_within s.action.scope) fluent.args item.fluent_args).outcome ≡ Ok s.fluent =
@@ -138,38 +103,27 @@ module _ (theory : DraftTheory) (program : DraftProgram) (keeps : TheoryKeeps th
       ∙ ap (λ (o : Option (List ℕ)). option_map_or (effect_fits agent made fluent.sort) o false) heads
       ∙ and_both _ _ (and_both _ _ (and_both _ _ term.fits cond.fits) term.written) written
 
-  fluent-kept : (xs : List DraftFluent) → list_all (draft_fluent_keeps theory) xs ≡ true → (n : ℕ) (item : DraftFluent)
-      → slice_get xs n ≡ Some item → draft_args_keep theory item.args ≡ true
-  fluent-kept [] h n item e = absurd (cc)
-  fluent-kept (x ∷ xs) h zero item e =
-      let t = (and_cases (draft_fluent_keeps theory x) (list_all (draft_fluent_keeps theory) xs) h).0 in
-      let is : x ≡ item = cc in
-      ap (λ (i : DraftFluent). draft_args_keep theory i.args) (sym is)
-      ∙ (and_cases (draft_args_keep theory x.args) (nat_lt x.sort (length theory.sorts)) t).0
-  fluent-kept (x ∷ xs) h (suc n) item e =
-      fluent-kept xs (and_cases (draft_fluent_keeps theory x) (list_all (draft_fluent_keeps theory) xs) h).1 n item e
-
   cause-by : (item : DraftCause) (y : CauseItem) (o : Option DraftAction) → slice_get theory.actions item.action ≡ o
       → option_map_or (λ (action : DraftAction). length action.args == length item.action_args && true) o false ≡ true
       → fluent_keeps (signature theory) item.fluent item.fluent_args ≡ true
       → term_keeps (signature theory) item.term ≡ true
       → cond_keeps (signature theory) item.cond (length (cause_vars theory item)) ≡ true
-      → IsCause item y → cause_fits agent y ≡ true
+      → IsCause names item y → cause_fits agent y ≡ true
   cause-by item y None e h k tk ck s = absurd (cc)
   cause-by item y (Some action) e h k tk ck s =
       let t = and_cases (length action.args == length item.action_args) true h in
       let f = acts.fluent-some theory program keeps also item.fluent (length item.fluent_args) (slice_get theory.fluents item.fluent) refl k in
       cause-at item action f.0 y e f.1 (eqb-true (length action.args) (length item.action_args) t.0)
       (acts.fluent-long theory program keeps also item.fluent f.0 (length item.fluent_args) f.1 k)
-      (acts.action-kept theory program keeps also theory.actions keeps.actions item.action action e)
-      (fluent-kept theory.fluents keeps.fluents item.fluent f.0 f.1) tk ck s
+      (action-args theory keeps action (all-get (draft_action_keeps theory) theory.actions keeps.actions item.action action e))
+      (fluent-args theory keeps f.0 (all-get (draft_fluent_keeps theory) theory.fluents keeps.fluents item.fluent f.0 f.1)) tk ck s
 
   causes : list_all (cause_fits agent) (agent_of theory program).causes ≡ true
   causes = given-all (cause_in names) (cause_fits agent) (draft_cause_keeps theory) (λ item h y e.
       let t = and_cases _ (cond_keeps (signature theory) item.cond (length (cause_vars theory item))) h in
       let u = and_cases _ (term_keeps (signature theory) item.term) t.0 in
       let v = and_cases (draft_action_at theory item.action (length item.action_args) (λ _. true)) (fluent_keeps (signature theory) item.fluent item.fluent_args) u.0 in
-      cause-by item y (slice_get theory.actions item.action) refl v.0 v.1 u.1 t.1 (cause-is item y e))
+      cause-by item y (slice_get theory.actions item.action) refl v.0 v.1 u.1 t.1 (cause-is names item y e))
       theory.causes keeps.causes
 
   pub whole : all_refusals theory program ≡ [] → WellFormed (agent_of theory program)

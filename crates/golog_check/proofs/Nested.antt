@@ -1,7 +1,7 @@
 -- Parts that nest to the right, taken from the last on.
 use Rattle.std.proofs.Common.{◌≡◌, List, [], ◌∷◌, ◌++◌, refl, ap, ◌∙◌}
 use Rattle.golog_tree.specs.declared.prog.Prog.{Prog}
-use Rattle.golog_check.specs.declared.programs.Join.{Join}
+use Rattle.golog_tree.specs.declared.join.Join.{Join}
 use Rattle.golog_check.specs.Programs.{joined, nested}
 
 -- the last two parts are joined first

@@ -13,8 +13,8 @@ use Rattle.golog_tree.specs.Ground.{to_count}
 use Rattle.golog_tree.specs.Nest.{nest}
 use Rattle.golog_rows.specs.Reading.{Reading, gives, ◌>>=◌, each}
 use Rattle.golog_semantics.proofs.Computed.{nest-Nil, nest-Act, nest-Test, nest-Seq, nest-Choice, nest-Pick, nest-Star, nest-If, nest-While, nest-Conc, nest-Prio, nest-Cstar, nest-Call, nest-Search}
-use Rattle.golog_check.specs.declared.programs.Join.{Join}
-use Rattle.golog_check.specs.declared.programs.Join.TheVariants.{Seq as InSeq, Choice as InChoice, Conc as InConc, Prio as InPrio}
+use Rattle.golog_tree.specs.declared.join.Join.{Join}
+use Rattle.golog_tree.specs.declared.join.Join.TheVariants.{Seq as InSeq, Choice as InChoice, Conc as InConc, Prio as InPrio}
 use Rattle.golog_check.specs.DeclaredItems.{Declared}
 use Rattle.golog_check.specs.Sorts.{action_sorts, param_sorts}
 use Rattle.golog_check.specs.Scope.{Scope, variable_no, within}

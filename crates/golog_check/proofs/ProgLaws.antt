@@ -36,23 +36,25 @@ use Rattle.golog_semantics.specs.BlockFree.{block_at, proc_blocks}
 use Rattle.golog_semantics.specs.Fits as fits
 use Rattle.golog_semantics.specs.Fits.{is_sort, args_fit, cond_fits}
 use Rattle.golog_semantics.specs.ProgFits as fitting
-use Rattle.golog_semantics.specs.ProgFits.{Position, is_between, depth_limit, fuel_limit, act_fits, call_fits, block_fits, prog_fits}
+use Rattle.golog_semantics.specs.ProgFits.{Position, is_between, depth_limit, fuel_limit, block_fits, prog_fits}
 use Rattle.golog_semantics.specs.Written.{written_prog_step, is_written_cond, is_written_prog}
-use Rattle.golog_draft.specs.Drafts.{Signature, signature, binder_keeps, cond_keeps, act_keeps, call_keeps, prog_keeps, prog_keeps_step}
+use Rattle.golog_draft.specs.Drafts.{signature, binder_keeps, cond_keeps, act_keeps, call_keeps, prog_keeps, prog_keeps_step}
 use Rattle.golog_semantics.proofs.Tests.{and_both, and_cases}
-use Rattle.golog_check.specs.declared.programs.Join.{Join}
-use Rattle.golog_check.specs.declared.programs.Join.TheVariants.{Seq as InSeq, Choice as InChoice, Conc as InConc, Prio as InPrio}
-use Rattle.golog_check.specs.DeclaredItems.{Declared, declared_by, sort_item, fluent_item, action_item, param_sorts}
+use Rattle.golog_tree.specs.declared.join.Join.{Join}
+use Rattle.golog_tree.specs.declared.join.Join.TheVariants.{Seq as InSeq, Choice as InChoice, Conc as InConc, Prio as InPrio}
+use Rattle.golog_check.specs.DeclaredItems.{Declared, declared_by, sort_item, action_item, param_sorts}
 use Rattle.golog_check.specs.Sorts as sorts
 use Rattle.golog_check.specs.Scope.{Scope, variable_no, within}
 use Rattle.golog_check.specs.Terms.{args_in}
 use Rattle.golog_check.specs.Conditions.{cond_in}
 use Rattle.golog_check.specs.Programs.{InScope, joined, nested, progs_in, parts_in, prog_step, prog_in}
-use Rattle.golog_check.specs.CheckLaws.{Binds, signature_of, IsCondOf}
+use Rattle.golog_check.specs.CheckLaws.{Binds, IsCondOf}
 use Rattle.golog_check.specs.ProgramLaws.{HasPrograms, blocks_step, blocks_keep, IsProgOf, position, ProgsFit}
 use Rattle.golog_check.proofs.Readings.{both, ok-same}
 use Rattle.golog_check.proofs.ArgLaws.{same-number, args-fit-in}
 use Rattle.golog_check.proofs.CondLaws.{kept, binds-more}
+use Rattle.golog_check.proofs.Signatures.{declared-signature}
+use Rattle.golog_check.proofs.Layers.{fits-prog, in-prog, written-prog}
 
 length-map : {A B : Type 0} (f : A → B) (xs : List A) → length (map f xs) ≡ length xs
 length-map f [] = refl
@@ -62,18 +64,12 @@ false-not : false ≡ true → ⊥
 false-not h = cc
 
 module _ (agent : Agent) where
-  fits-roll : (l : Prog-F Prog Way) → prog_fits agent (roll-Prog l) ≡ fitting.prog_step agent (map-Prog Prog Way (Position → Bool) (Position → Bool) (prog_fits agent) (fold-Way (Position → Bool) (Position → Bool) (fitting.prog_step agent) (fitting.way_step agent)) l)
-  fits-roll l = fold-roll-Prog (Position → Bool) (Position → Bool) (fitting.prog_step agent) (fitting.way_step agent) l
-
-  written-roll : (l : Prog-F Prog Way) → is_written_prog agent (roll-Prog l) ≡ written_prog_step agent (map-Prog Prog Way (ℕ → Bool) Bool (is_written_prog agent) (fold-Way (ℕ → Bool) Bool (written_prog_step agent) (λ w. false)) l)
-  written-roll l = fold-roll-Prog (ℕ → Bool) Bool (written_prog_step agent) (λ w. false) l
-
   -- a program by its layer
   made : (l : Prog-F Prog Way) (p : Prog) → roll-Prog l ≡ p → (at : Position) (n : ℕ)
       → fitting.prog_step agent (map-Prog Prog Way (Position → Bool) (Position → Bool) (prog_fits agent) (fold-Way (Position → Bool) (Position → Bool) (fitting.prog_step agent) (fitting.way_step agent)) l) at ≡ true
       → written_prog_step agent (map-Prog Prog Way (ℕ → Bool) Bool (is_written_prog agent) (fold-Way (ℕ → Bool) Bool (written_prog_step agent) (λ w. false)) l) n ≡ true
       → IsProgOf agent at n p
-  made l p e at n f w = subst (IsProgOf agent at n) e (record { fits = ap (λ g. g at) (fits-roll l) ∙ f; written = ap (λ g. g n) (written-roll l) ∙ w })
+  made l p e at n f w = subst (IsProgOf agent at n) e (record { fits = ap (λ g. g at) (fits-prog agent l) ∙ f; written = ap (λ g. g n) (written-prog agent l) ∙ w })
 
   module _ (at : Position) (n : ℕ) where
     two : (p q : Prog) → IsProgOf agent at n p → IsProgOf agent at n q → ((prog_fits agent p at && prog_fits agent q at) ≡ true) × ((is_written_prog agent p n && is_written_prog agent q n) ≡ true)
@@ -107,16 +103,6 @@ module _ (agent : Agent) (theory : DraftTheory) (procs : List DraftProc) (has : 
 
   abbrev has_block : ℕ → Bool
   has_block = block_at (proc_blocks agent)
-
-  abbrev of_parts : ℕ → List ℕ → Signature
-  of_parts n arities = record { sorts = n; arities = arities }
-
-  same-arities : (items : List DraftFluent) → map (λ (i : DraftFluent). length i.args) items ≡ map (λ (i : FluentItem). length i.args) (map fluent_item items)
-  same-arities [] = refl
-  same-arities (i ∷ items) = ap (λ ns. length i.args ∷ ns) (same-arities items)
-
-  same-signature : signature theory ≡ signature_of names
-  same-signature = ap (λ n. of_parts n (map (λ (i : DraftFluent). length i.args) theory.fluents)) (sym (length-map sort_item theory.sorts)) ∙ ap (of_parts (length (map sort_item theory.sorts))) (same-arities theory.fluents)
 
   declared-sort : (sort : ℕ) → nat_lt sort (length theory.sorts) ≡ true → is_sort agent sort ≡ true
   declared-sort sort h = ap (λ (items : List SortItem). nat_lt sort (length items)) has.items.sorts ∙ ap (nat_lt sort) (length-map sort_item theory.sorts) ∙ h
@@ -156,9 +142,6 @@ module _ (agent : Agent) (theory : DraftTheory) (procs : List DraftProc) (has : 
   blocks-roll : (l : DraftProg-F DraftProg) → blocks_keep has_block (roll-DraftProg l) ≡ blocks_step has_block (map-DraftProg DraftProg (Bool → Bool) (blocks_keep has_block) l)
   blocks-roll l = fold-roll-DraftProg (Bool → Bool) (blocks_step has_block) l
 
-  in-roll : (l : DraftProg-F DraftProg) → prog_in names (roll-DraftProg l) ≡ prog_step names (map-DraftProg DraftProg InScope (prog_in names) l)
-  in-roll l = fold-roll-DraftProg InScope (prog_step names) l
-
   module _ (inside : Bool) (bound : fits.Scope) (scope : Scope) (binds : Binds agent bound scope) (few : length scope ≤ 32) where
     abbrev here : Position
     here = position bound inside
@@ -167,7 +150,7 @@ module _ (agent : Agent) (theory : DraftTheory) (procs : List DraftProc) (has : 
     Is p = IsProgOf agent here (length scope) p
 
     cond-of : (d : DraftCond) (c : Cond) → cond_keeps (signature theory) d (length scope) ≡ true → (cond_in names d scope).outcome ≡ Ok c → IsCondOf agent bound (length scope) c
-    cond-of d c keeps h = kept agent names has.items d bound scope binds few (ap (λ s. cond_keeps s d (length scope)) (sym same-signature) ∙ keeps) c h
+    cond-of d c keeps h = kept agent names has.items d bound scope binds few (ap (λ s. cond_keeps s d (length scope)) (declared-signature theory procs) ∙ keeps) c h
 
     act-at : (action : ℕ) (drafts : List DraftArg) (args : List Arg) (o : Option ActionItem) → option_map_or (λ (i : ActionItem). length i.args == length drafts && is_empty i.posters) o false ≡ true
         → (args_in names scope (option_map_or (λ (i : ActionItem). i.args) o []) drafts).outcome ≡ Ok args
@@ -317,7 +300,7 @@ module _ (agent : Agent) (theory : DraftTheory) (procs : List DraftProc) (has : 
   kept-layer : (y : DraftProg-F Keep) → Kept (roll-DraftProg (drafts_of y))
   kept-layer y inside bound scope binds few keeps blocks p h =
       layer inside bound scope binds few y (sym (ap (λ g. g (length scope)) (keeps-roll (drafts_of y))) ∙ keeps) (sym (ap (λ g. g inside) (blocks-roll (drafts_of y))) ∙ blocks) p
-      (ap (λ (f : InScope). (f scope).outcome) (sym (in-roll (drafts_of y))) ∙ h)
+      (ap (λ (f : InScope). (f scope).outcome) (sym (in-prog names (drafts_of y))) ∙ h)
 
   pub prog-kept : (d : DraftProg) → Kept d
   prog-kept = ind-DraftProg Kept (λ x y is. subst (λ l. Kept (roll-DraftProg l)) is (kept-layer y))

@@ -1,5 +1,5 @@
 -- The rows of programs stand in order, where their places ascend.
-use Rattle.std.proofs.Common.{◌≡◌, ℕ, List, [], ◌∷◌, ◌++◌, map, sym, subst, arith}
+use Rattle.std.proofs.Common.{◌≡◌, ℕ, List, [], ◌++◌, map, sym, subst, arith}
 use Rattle.golog_tree.specs.declared.cond.Arg.{Arg}
 use Rattle.golog_tree.specs.declared.cond.Cond.{Cond}
 use Rattle.golog_tree.specs.declared.draft_cond.DraftArg.{DraftArg}
@@ -13,8 +13,8 @@ use Rattle.golog_tree.specs.declared.prog.Prog.{Prog}
 use Rattle.golog_tree.specs.declared.prog.Prog.TheVariants as prog
 use Rattle.golog_tree.specs.Ground.{to_count}
 use Rattle.golog_rows.specs.Reading.{Reading, gives, ◌>>=◌, each}
-use Rattle.golog_check.specs.declared.programs.Join.{Join}
-use Rattle.golog_check.specs.declared.programs.Join.TheVariants.{Seq as InSeq, Choice as InChoice, Conc as InConc, Prio as InPrio}
+use Rattle.golog_tree.specs.declared.join.Join.{Join}
+use Rattle.golog_tree.specs.declared.join.Join.TheVariants.{Seq as InSeq, Choice as InChoice, Conc as InConc, Prio as InPrio}
 use Rattle.golog_check.specs.DeclaredItems.{Declared}
 use Rattle.golog_check.specs.Sorts.{action_sorts, param_sorts}
 use Rattle.golog_check.specs.Scope.{Scope, variable_no, within}
@@ -24,9 +24,10 @@ use Rattle.golog_check.specs.Programs.{InScope, nested, progs_in, parts_in, with
 use Rattle.golog_draft.specs.DraftPlaces.{arg_places, joined, cond_places, prog_places_step, prog_places}
 use Rattle.golog_draft.specs.DraftOrder.{Ascend}
 use Rattle.golog_rows.proofs.Chain.{Spans, then-spans, gives-spans}
-use Rattle.golog_check.proofs.Halves.{halves, ascend-le}
+use Rattle.golog_check.proofs.Halves.{halves, ascend-le, each-spans}
 use Rattle.golog_check.proofs.TermOrder.{args-spans}
 use Rattle.golog_check.proofs.CondOrder.{cond-spans}
+use Rattle.golog_check.proofs.Layers.{in-prog}
 
 module _ (names : Declared) where
   abbrev pub Stands : DraftProg → Type 0
@@ -41,26 +42,14 @@ module _ (names : Declared) where
   places-roll : (l : DraftProg-F DraftProg) → prog_places (roll-DraftProg l) ≡ prog_places_step (map-DraftProg DraftProg (List ℕ) prog_places l)
   places-roll l = fold-roll-DraftProg (List ℕ) prog_places_step l
 
-  in-roll : (l : DraftProg-F DraftProg) → prog_in names (roll-DraftProg l) ≡ prog_step names (map-DraftProg DraftProg InScope (prog_in names) l)
-  in-roll l = fold-roll-DraftProg InScope (prog_step names) l
-
   module _ (scope : Scope) where
     called : (sorts : List ℕ) (make : List Arg → Prog) (from : ℕ) (args : List DraftArg) (to : ℕ) → Ascend from (arg_places args) to
         → Spans from to (args_in names scope sorts args >>= λ args. gives (make args))
     called sorts make from args to c = gives-spans from to (args_in names scope sorts args) make (args-spans names scope sorts from args to c)
 
-    each-spans : (before : List Prog) (from : ℕ) (ds : List Standing) (to : ℕ) → Ascend from (joined (map prog_places (map (λ d. d.0) ds))) to
-        → Spans from to (each (λ (_ : List Prog) (part : InScope). part scope) before (map (prog_in names) (map (λ d. d.0) ds)))
-    each-spans before from [] to c = omega (arith, c)
-    each-spans before from (d ∷ ds) to c =
-        let h = halves from (prog_places d.0) (joined (map prog_places (map (λ d. d.0) ds))) to c in
-        then-spans from h.mid to (prog_in names d.0 scope) (λ x. each (λ (_ : List Prog) (part : InScope). part scope) (before ++ x ∷ []) (map (prog_in names) (map (λ d. d.0) ds)))
-        (ascend-le h.mid (joined (map prog_places (map (λ d. d.0) ds))) to h.other) (d.1 scope from h.mid h.one)
-        (λ x. each-spans (before ++ x ∷ []) h.mid ds to h.other)
-
     parts : (join : Join) (from : ℕ) (ds : List Standing) (to : ℕ) → Ascend from (joined (map prog_places (map (λ d. d.0) ds))) to
         → Spans from to (parts_in join scope (map (prog_in names) (map (λ d. d.0) ds)))
-    parts join from ds to c = gives-spans from to (progs_in scope (map (prog_in names) (map (λ d. d.0) ds))) (nested join) (each-spans [] from ds to c)
+    parts join from ds to c = gives-spans from to (progs_in scope (map (prog_in names) (map (λ d. d.0) ds))) (nested join) (each-spans prog_places (prog_in names) scope [] from ds to c)
 
     -- a condition, and a program behind it
     guarded : (cond : DraftCond) (next : Cond → Reading Prog) (places : List ℕ) (from to : ℕ) → Ascend from (cond_places cond ++ places) to
@@ -102,7 +91,7 @@ module _ (names : Declared) where
   stands-layer : (y : DraftProg-F Standing) → Stands (roll-DraftProg (drafts_of y))
   stands-layer y scope from to c =
       let l = drafts_of y in
-      subst (λ (f : InScope). Spans from to (f scope)) (sym (in-roll l)) (layer scope y from to (subst (λ places. Ascend from places to) (places-roll l) c))
+      subst (λ (f : InScope). Spans from to (f scope)) (sym (in-prog names l)) (layer scope y from to (subst (λ places. Ascend from places to) (places-roll l) c))
 
   pub prog-spans : (d : DraftProg) → Stands d
   prog-spans = ind-DraftProg Stands (λ x y is. subst (λ l. Stands (roll-DraftProg l)) is (stands-layer y))

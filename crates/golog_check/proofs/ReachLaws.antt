@@ -1,14 +1,13 @@
 -- The rounds of reaching tell exactly which procedures reach one without a step.
-use Rattle.std.proofs.Common.{◌≡◌, ◌⊎◌, inl, inr, ℕ, zero, suc, Bool, true, false, ◌||◌, ◌==◌, List, [], ◌∷◌, length, map, Option, Some, None, refl, sym, ap, subst, ◌∙◌, arith}
-use Rattle.std.specs.Prelude.{Contains, slice_get}
+use Rattle.std.proofs.Common.{◌≡◌, inl, inr, ℕ, zero, suc, Bool, true, false, ◌||◌, ◌==◌, List, [], ◌∷◌, length, map, Option, Some, None, refl, sym, ap, subst, ◌∙◌, arith}
+use Rattle.std.specs.Prelude.{Contains, slice_get, unwrap_or}
 use Rattle.std.specs.List.{list_any}
 use Rattle.std.specs.Option.{option_map_or}
 use Rattle.std.proofs.lemmas.Bool.{eqb-true, eq-eqb}
-use Rattle.std.proofs.lemmas.List.{length-map}
 use Rattle.golog_tree.specs.declared.agent.Agent.{Agent}
 use Rattle.golog_tree.specs.declared.agent.ProcItem.{ProcItem}
 use Rattle.golog_semantics.specs.FrontCalls.{front_calls, body_calls, proc_calls, directly, through, Reaches}
-use Rattle.golog_semantics.proofs.Rounds.{Below, Rounds, below-map, last_round}
+use Rattle.golog_semantics.proofs.Rounds.{Below, below-at, last_round, tested-rounds}
 use Rattle.golog_semantics.proofs.Tests.{or_cases, or_first, or_second, or_more}
 use Rattle.golog_check.specs.Unguarded.{said, leads_to, reaching_to, reaching}
 
@@ -36,18 +35,11 @@ in-any f (y ∷ xs) e =
           record { one = found.one; there = further xs y found.one found.there; passes = found.passes }
     ]
 
-below-said : (bs cs : List Bool) → Below bs cs → (item : ℕ) → said bs item ≡ true → said cs item ≡ true
-below-said [] [] h item e = e
-below-said [] (c ∷ cs) h item e = absurd h
-below-said (b ∷ bs) [] h item e = absurd h
-below-said (b ∷ bs) (c ∷ cs) h zero e = h.0 e
-below-said (b ∷ bs) (c ∷ cs) h (suc item) e = below-said bs cs h.1 item e
-
 leads-more : (goal : ℕ) (bs cs : List Bool) → Below bs cs → (calls : List ℕ) → leads_to goal bs calls ≡ true → leads_to goal cs calls ≡ true
 leads-more goal bs cs h [] e = e
 leads-more goal bs cs h (item ∷ calls) e =
     or_more (item == goal || said bs item) (item == goal || said cs item) (leads_to goal bs calls) (leads_to goal cs calls)
-    (or_more (item == goal) (item == goal) (said bs item) (said cs item) (λ k. k) (below-said bs cs h item))
+    (or_more (item == goal) (item == goal) (said bs item) (said cs item) (λ k. k) (below-at (λ o. unwrap_or o false) (λ b. refl) bs cs h item))
     (leads-more goal bs cs h calls) e
 
 said-map : (f : ProcItem → Bool) (items : List ProcItem) (item : ℕ) → said (map f items) item ≡ option_map_or f (slice_get items item) false
@@ -64,23 +56,12 @@ module _ (agent : Agent) (goal : ℕ) where
   abbrev leads : List Bool → ProcItem → Bool
   leads reached item = leads_to goal reached (front_calls agent item.body)
 
-  rises : (k : ℕ) → Below (reaching_to agent k goal) (reaching_to agent (suc k) goal)
-  rises zero = below-map (λ item. false) (leads (reaching_to agent 0 goal)) (λ item e. cc) agent.procs
-  rises (suc k) =
-      below-map (leads (reaching_to agent k goal)) (leads (reaching_to agent (suc k) goal))
-      (λ item e. leads-more goal (reaching_to agent k goal) (reaching_to agent (suc k) goal) (rises k) (front_calls agent item.body) e) agent.procs
-
-  long : (k : ℕ) → length (reaching_to agent k goal) ≡ length agent.procs
-  long zero = length-map agent.procs (λ (item : ProcItem). false)
-  long (suc k) = length-map agent.procs (leads (reaching_to agent k goal))
-
-  rounds : Rounds (λ k. reaching_to agent k goal) (length agent.procs)
-  rounds = record { rises = rises; lengths = long; next = λ k j e. ap (λ bs. map (leads bs) agent.procs) e }
-
   -- one more round says the same
   pub settled : reaching agent goal ≡ map (leads (reaching agent goal)) agent.procs
   unfolding reaching
-  settled = last_round (λ k. reaching_to agent k goal) (length agent.procs) rounds
+  settled =
+      last_round (λ k. reaching_to agent k goal) (length agent.procs)
+      (tested-rounds agent.procs leads (λ k. reaching_to agent k goal) refl (λ k. refl) (λ bs cs h item. leads-more goal bs cs h (front_calls agent item.body)))
 
   pub said-at : (p : ℕ) → said (reaching agent goal) p ≡ option_map_or (leads (reaching agent goal)) (slice_get agent.procs p) false
   said-at p = ap (λ bs. said bs p) settled ∙ said-map (leads (reaching agent goal)) agent.procs p

@@ -1,5 +1,5 @@
 -- What is told of the procedures of a draft is what is said of their shapes.
-use Rattle.std.proofs.Common.{◌≡◌, ℕ, zero, suc, ◌+◌, ◌<◌, Bool, true, false, not, ◌&&◌, ◌||◌, List, [], ◌∷◌, ◌++◌, length, get_or, map, take, drop, Option, Some, refl, sym, ap, subst, ◌∙◌, arith}
+use Rattle.std.proofs.Common.{◌≡◌, ℕ, zero, suc, ◌+◌, ◌<◌, Bool, false, not, ◌&&◌, ◌||◌, List, [], ◌∷◌, ◌++◌, length, get_or, map, take, drop, Option, Some, refl, sym, ap, subst, ◌∙◌, arith, replicate}
 use Rattle.std.specs.Prelude.{min, max, nat_lt, slice_get, slice_index}
 use Rattle.std.specs.List.{list_any, flat_map, enumerate_from}
 use Rattle.std.specs.Option.{option_map_or}
@@ -14,7 +14,7 @@ use Rattle.golog_rows.specs.declared.least.Refusal.{Refusal}
 use Rattle.golog_check.specs.declared.fronts.Nesting.{Nesting}
 use Rattle.golog_check.specs.DraftNest.{draft_nest}
 use Rattle.golog_rows.specs.Least.{CodeAt, IsLeastOf}
-use Rattle.golog_check.specs.Settled.{rounds_of, same_of}
+use Rattle.golog_check.specs.Settled.{rounds_of}
 use Rattle.golog_check.specs.Shapes.{shape, shape_of, shapes}
 use Rattle.golog_check.specs.Unguarded.{said, reaching, is_unguarded, has_no_nest, is_deep, refused_where, front_refusals}
 use Rattle.golog_check.specs.Fronts.{reach_round, nest_of_calls, nest_round}
@@ -100,9 +100,9 @@ deep-cap : (n : ℕ) → nat_lt 1024 (min n 1025) ≡ nat_lt 1024 n
 deep-cap n = grind (arith, nat_tests)
 
 module _ (procs : List DraftProc) where
-  nests-to : (k : ℕ) → rounds_of (nest_round 1025 (nestings_in procs)) k (same_of (length procs) 0) ≡ map cap (nests_to k (shapes procs))
+  nests-to : (k : ℕ) → rounds_of (nest_round 1025 (nestings_in procs)) k (replicate (length procs) 0) ≡ map cap (nests_to k (shapes procs))
   nests-to zero =
-      sym (map-two cap (λ (item : ProcItem). 0) (map shape_of procs) ∙ map-same 0 (map shape_of procs) ∙ ap (λ n. same_of n 0) (map-long shape_of procs))
+      sym (map-two cap (λ (item : ProcItem). 0) (map shape_of procs) ∙ map-same 0 (map shape_of procs) ∙ ap (λ n. replicate n 0) (map-long shape_of procs))
   nests-to (suc k) =
       let ns = nests_to k (shapes procs) in
       let nest_in : ProcItem → ℕ = λ item. nest item.body + greatest (map (slice_index ns) (front_calls (shapes procs) item.body)) in
@@ -128,8 +128,8 @@ module _ (procs : List DraftProc) where
 
     reached-is : (goal : ℕ) → reached_by items goal ≡ reaching (shapes procs) goal
     reached-is goal =
-        ap (λ n. rounds_of (reach_round (calls_told items) goal) n (same_of n false)) (sym (map-long (λ (item : Nesting). item.calls) items))
-        ∙ ap (λ calls. rounds_of (reach_round calls goal) (length calls) (same_of (length calls) false)) calls-are
+        ap (λ n. rounds_of (reach_round (calls_told items) goal) n (replicate n false)) (sym (map-long (λ (item : Nesting). item.calls) items))
+        ∙ ap (λ calls. rounds_of (reach_round calls goal) (length calls) (replicate (length calls) false)) calls-are
         ∙ sym (reaching-rounds procs goal)
 
     each-reached : reached_each items ≡ map (λ (at : ℕ × DraftProc). reaching (shapes procs) at.0) (enumerate_from 0 procs)
@@ -145,13 +145,13 @@ module _ (procs : List DraftProc) where
     endless-told i = ap (λ rs. is_endless rs i) each-reached ∙ endless-numbered (reaching (shapes procs)) i 0 procs
 
     abbrev nests_told : List ℕ
-    nests_told = rounds_of (nest_round 1025 (map nesting items)) (length items) (same_of (length items) 0)
+    nests_told = rounds_of (nest_round 1025 (map nesting items)) (length items) (replicate (length items) 0)
 
     nests-told : nests_told ≡ map cap (front_nests (shapes procs))
     unfolding front_nests
     nests-told =
-        ap (λ own. rounds_of (nest_round 1025 own) (length items) (same_of (length items) 0)) told
-        ∙ ap (λ n. rounds_of (nest_round 1025 (nestings_in procs)) n (same_of n 0)) as-many
+        ap (λ own. rounds_of (nest_round 1025 own) (length items) (replicate (length items) 0)) told
+        ∙ ap (λ n. rounds_of (nest_round 1025 (nestings_in procs)) n (replicate n 0)) as-many
         ∙ nests-to (length procs) ∙ ap (λ n. map cap (nests_to n (shapes procs))) (sym (map-long shape_of procs))
 
     deep-told : (i : ℕ) → (not (is_endless (reached_each items) i) && nat_lt 1024 (slice_index nests_told i)) ≡ is_deep (shapes procs) i

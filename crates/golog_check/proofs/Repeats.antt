@@ -1,19 +1,12 @@
--- What is repeated once more, and rounds that change nothing more.
-use Rattle.std.proofs.Common.{◌≡◌, ℕ, zero, suc, ◌+◌, ◌-◌, ◌≤◌, Bool, true, List, [], ◌∷◌, ◌++◌, refl, sym, ap, ◌∙◌, arith, add-one}
+-- Rounds that change nothing more.
+use Rattle.std.proofs.Common.{◌≡◌, ℕ, zero, suc, ◌+◌, ◌-◌, ◌≤◌, Bool, true, List, sym, ap, ◌∙◌, arith, add-one}
 use Rattle.std.specs.Prelude.{nat_eq}
 use Rattle.std.specs.Cmp.{booleans_Decides}
 use Rattle.std.proofs.Math.Bool.{beq}
 use Rattle.std.specs.Cmp.Lexicographic.{pointwise}
 use Rattle.std.proofs.lemmas.Bool.Decides.{Decides-eqb}
 use Rattle.std.proofs.lemmas.Slice.Eq.{slice_eq-Decides}
-use Rattle.golog_check.specs.Settled.{rounds_of, same_of}
-
-more : {A : Type 0} (n : ℕ) (x : A) → same_of n x ++ x ∷ [] ≡ same_of (suc n) x
-more zero x = refl
-more (suc n) x = ap (λ xs. x ∷ xs) (more n x)
-
-pub same-more : {A : Type 0} (n : ℕ) (x : A) → same_of n x ++ x ∷ [] ≡ same_of (n + 1) x
-same-more n x = more n x ∙ ap (λ k. same_of k x) (sym (add-one n))
+use Rattle.golog_check.specs.Settled.{rounds_of}
 
 stays-more : {A : Type 0} (round : A → A) (k more : ℕ) (first : A) → round (rounds_of round k first) ≡ rounds_of round k first
     → rounds_of round (more + k) first ≡ rounds_of round k first

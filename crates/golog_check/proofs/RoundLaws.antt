@@ -1,5 +1,5 @@
 -- Rounds that change nothing more, and the definitions that are settled by rounds.
-use Rattle.std.proofs.Common.{◌≡◌, ℕ, zero, suc, ◌+◌, ◌<◌, Bool, false, List, [], ◌∷◌, ◌++◌, length, get_or, map, take, refl, sym, ap, ◌∙◌}
+use Rattle.std.proofs.Common.{◌≡◌, ℕ, zero, suc, ◌+◌, ◌<◌, Bool, false, List, [], ◌∷◌, ◌++◌, length, get_or, map, take, refl, sym, ap, ◌∙◌, replicate}
 use Rattle.std.proofs.lemmas.List.{map-append, take_more}
 use Rattle.golog_tree.specs.declared.agent.ProcItem.{ProcItem}
 use Rattle.golog_tree.specs.declared.draft.DraftProc.{DraftProc}
@@ -7,7 +7,7 @@ use Rattle.golog_semantics.specs.BlockFree.{has_block_by, proc_blocks, proc_bloc
 use Rattle.golog_semantics.specs.FrontCalls.{front_calls}
 use Rattle.golog_check.specs.Shapes.{shape, shape_of, shapes}
 use Rattle.golog_check.specs.Unguarded.{leads_to, reaching, reaching_to}
-use Rattle.golog_check.specs.Settled.{rounds_of, same_of}
+use Rattle.golog_check.specs.Settled.{rounds_of}
 use Rattle.golog_check.specs.Fronts.{draft_has, block_round, reach_round}
 use Rattle.golog_check.proofs.Fores.{has-same}
 
@@ -15,7 +15,7 @@ use Rattle.golog_check.proofs.Fores.{has-same}
 abbrev pub calls_in : List DraftProc → List (List ℕ)
 calls_in procs = map (λ (item : DraftProc). front_calls (shapes procs) (shape item.body)) procs
 
-pub map-same : {A B : Type 0} (b : B) (xs : List A) → map (λ x. b) xs ≡ same_of (length xs) b
+pub map-same : {A B : Type 0} (b : B) (xs : List A) → map (λ x. b) xs ≡ replicate (length xs) b
 map-same b [] = refl
 map-same b (x ∷ xs) = ap (λ bs. b ∷ bs) (map-same b xs)
 
@@ -39,10 +39,10 @@ map-pushed f g all after x xs i p e h k lt is =
     ∙ sym (ap (map g) (take_more xs i p lt ∙ ap (λ q. take i xs ++ q ∷ []) (sym is)) ∙ map-append g (take i xs) (p ∷ []))
 
 module _ (procs : List DraftProc) where
-  none-said : {B : Type 0} (b : B) → map (λ (item : ProcItem). b) (map shape_of procs) ≡ same_of (length procs) b
-  none-said b = map-same b (map shape_of procs) ∙ ap (λ n. same_of n b) (map-long shape_of procs)
+  none-said : {B : Type 0} (b : B) → map (λ (item : ProcItem). b) (map shape_of procs) ≡ replicate (length procs) b
+  none-said b = map-same b (map shape_of procs) ∙ ap (λ n. replicate n b) (map-long shape_of procs)
 
-  blocks-to : (k : ℕ) → proc_blocks_to k (shapes procs) ≡ rounds_of (block_round procs) k (same_of (length procs) false)
+  blocks-to : (k : ℕ) → proc_blocks_to k (shapes procs) ≡ rounds_of (block_round procs) k (replicate (length procs) false)
   blocks-to zero = none-said false
   blocks-to (suc k) =
       map-two (λ (item : ProcItem). has_block_by (proc_blocks_to k (shapes procs)) item.body) shape_of procs
@@ -51,7 +51,7 @@ module _ (procs : List DraftProc) where
       ∙ ap (block_round procs) (blocks-to k)
 
   -- the procedures that have a block
-  pub blocks-rounds : proc_blocks (shapes procs) ≡ rounds_of (block_round procs) (length procs) (same_of (length procs) false)
+  pub blocks-rounds : proc_blocks (shapes procs) ≡ rounds_of (block_round procs) (length procs) (replicate (length procs) false)
   unfolding proc_blocks
   blocks-rounds =
       ap (λ n. proc_blocks_to n (shapes procs)) (map-long shape_of procs) ∙ blocks-to (length procs)
@@ -62,15 +62,15 @@ module _ (procs : List DraftProc) where
         map-two (λ (item : ProcItem). leads_to goal said (front_calls (shapes procs) item.body)) shape_of procs
         ∙ sym (map-two (leads_to goal said) (λ (item : DraftProc). front_calls (shapes procs) (shape item.body)) procs)
 
-    reaching-rounds-to : (k : ℕ) → reaching_to (shapes procs) k goal ≡ rounds_of (reach_round (calls_in procs) goal) k (same_of (length procs) false)
+    reaching-rounds-to : (k : ℕ) → reaching_to (shapes procs) k goal ≡ rounds_of (reach_round (calls_in procs) goal) k (replicate (length procs) false)
     reaching-rounds-to zero = none-said false
     reaching-rounds-to (suc k) = reach-next (reaching_to (shapes procs) k goal) ∙ ap (reach_round (calls_in procs) goal) (reaching-rounds-to k)
 
     -- the procedures that reach one
-    pub reaching-rounds : reaching (shapes procs) goal ≡ rounds_of (reach_round (calls_in procs) goal) (length (calls_in procs)) (same_of (length (calls_in procs)) false)
+    pub reaching-rounds : reaching (shapes procs) goal ≡ rounds_of (reach_round (calls_in procs) goal) (length (calls_in procs)) (replicate (length (calls_in procs)) false)
     unfolding reaching
     reaching-rounds =
         let n = map-long shape_of procs in
         let m = map-long (λ (item : DraftProc). front_calls (shapes procs) (shape item.body)) procs in
         ap (λ k. reaching_to (shapes procs) k goal) n ∙ reaching-rounds-to (length procs)
-        ∙ sym (ap (λ k. rounds_of (reach_round (calls_in procs) goal) k (same_of k false)) m)
+        ∙ sym (ap (λ k. rounds_of (reach_round (calls_in procs) goal) k (replicate k false)) m)

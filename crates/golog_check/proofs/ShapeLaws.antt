@@ -20,44 +20,16 @@ use Rattle.golog_check.proofs.Shaped.{IsBlind, shaped}
 use Rattle.golog_check.proofs.Transfer.{Alike, AllAlike}
 
 blind-nest : IsBlind ℕ nest_step (λ _. 0)
-blind-nest = record {
-  act = λ action args. refl;
-  test = λ c. refl;
-  pick = λ x sort p. refl;
-  if_of = λ c p q. refl;
-  while_of = λ c p. refl;
-  call = λ item args. refl;
-}
+blind-nest = record { act = λ a b. refl; test = λ c. refl; pick = λ x s p. refl; if_of = λ c p q. refl; while_of = λ c p. refl; call = λ i b. refl }
 
 blind-front : (fs : List Front) → IsBlind Front (front_step fs) (λ w. no_front)
-blind-front fs = record {
-  act = λ action args. refl;
-  test = λ c. refl;
-  pick = λ x sort p. refl;
-  if_of = λ c p q. refl;
-  while_of = λ c p. refl;
-  call = λ item args. refl;
-}
+blind-front fs = record { act = λ a b. refl; test = λ c. refl; pick = λ x s p. refl; if_of = λ c p q. refl; while_of = λ c p. refl; call = λ i b. refl }
 
 blind-calls : (fs : List Front) → IsBlind Calling (calling_step fs) (λ w. record { front = no_front; calls = [] })
-blind-calls fs = record {
-  act = λ action args. refl;
-  test = λ c. refl;
-  pick = λ x sort p. refl;
-  if_of = λ c p q. refl;
-  while_of = λ c p. refl;
-  call = λ item args. refl;
-}
+blind-calls fs = record { act = λ a b. refl; test = λ c. refl; pick = λ x s p. refl; if_of = λ c p q. refl; while_of = λ c p. refl; call = λ i b. refl }
 
 blind-blocks : (bs : List Bool) → IsBlind Bool (has_block_step bs) (λ w. false)
-blind-blocks bs = record {
-  act = λ action args. refl;
-  test = λ c. refl;
-  pick = λ x sort p. refl;
-  if_of = λ c p q. refl;
-  while_of = λ c p. refl;
-  call = λ item args. refl;
-}
+blind-blocks bs = record { act = λ a b. refl; test = λ c. refl; pick = λ x s p. refl; if_of = λ c p q. refl; while_of = λ c p. refl; call = λ i b. refl }
 
 -- a procedure, and the body that is read
 pub record IsProc (names : Declared) (item : DraftProc) (made : ProcItem) : Type 0 where

@@ -14,9 +14,8 @@ use Rattle.golog_tree.specs.declared.cond.Arg.TheVariants.{Const, Var}
 use Rattle.golog_tree.specs.declared.cond.Term.{Term}
 use Rattle.golog_tree.specs.declared.cond.Cond.{Cond}
 use Rattle.golog_tree.specs.declared.cond.Term.TheVariants as term
-use Rattle.golog_tree.specs.declared.cond.Cond.TheOpen.{Term-F, Arg as ArgOf, Fluent as FluentOf, Shift as ShiftOf}
-use Rattle.golog_tree.specs.declared.cond.Cond.TheViews.{roll-Term}
-use Rattle.golog_tree.specs.declared.cond.Cond.TheFolds.{fold-Term, fold-roll-Term, map-Term}
+use Rattle.golog_tree.specs.declared.cond.Cond.TheOpen.{Arg as ArgOf, Fluent as FluentOf, Shift as ShiftOf}
+use Rattle.golog_tree.specs.declared.cond.Cond.TheFolds.{fold-Term, fold-roll-Term}
 use Rattle.golog_tree.specs.declared.draft_cond.DraftArg.{DraftArg}
 use Rattle.golog_tree.specs.declared.draft_cond.DraftArg.TheVariants.{Word, Number}
 use Rattle.golog_tree.specs.declared.draft_cond.DraftTerm.{DraftTerm}
@@ -32,12 +31,13 @@ use Rattle.golog_check.specs.declared.scope.Meant.{Meant}
 use Rattle.golog_check.specs.Codes.{SORT_CLASH, UNBOUND}
 use Rattle.golog_check.specs.DeclaredItems.{Declared}
 use Rattle.golog_check.specs.Sorts as sorts
-use Rattle.golog_check.specs.Sorts.{same, place_of_word, listing, constant_of, constant, number_in, fluent_sort, fluent_sorts}
+use Rattle.golog_check.specs.Sorts.{same, place_of_word, listing, constant_of, constant, fluent_sort, fluent_sorts}
 use Rattle.golog_check.specs.Scope.{Scope, variable_no, innermost, or_else, meaning}
 use Rattle.golog_check.specs.Terms.{is_other, arg_sort, arg_as, args_in, term_place, term_sort, sort_step, term_as, as_step, term_in}
 use Rattle.golog_check.specs.CheckLaws.{HasItems, Binds, signature_of, IsTermOf, TermsFit}
 use Rattle.golog_check.proofs.Readings.{both, past, found-it, ok-same}
 use Rattle.golog_check.proofs.ArgLaws.{some-same, no-other, below, same-number, arg-as-fits, args-fit-in}
+use Rattle.golog_check.proofs.Layers.{as-term, fits-term, keeps-term, sort-term, wording}
 
 and-cases : (a b : Bool) → (a && b) ≡ true → (a ≡ true) × (b ≡ true)
 and-cases true b e = (refl, e)
@@ -49,10 +49,6 @@ and-both a b e h = subst (λ c. (c && b) ≡ true) (sym e) h
 pub not-false : (a : Bool) → not a ≡ false → a ≡ true
 not-false true e = refl
 not-false false e = absurd (cc)
-
--- how the agent's file says a term
-abbrev pub wording : Agent → Term → Wording
-wording agent = fold-Term (ℕ → Bool) Wording (written_cond_step agent) (written_term_step agent)
 
 -- A term of the sort. Where its draft shows a sort it does too, or the sort is a listed one.
 pub record Good (agent : Agent) (bound : fits.Scope) (sort : ℕ) (shown : Option ℕ) (t : Term) : Type 0 where
@@ -144,18 +140,15 @@ module _ (agent : Agent) (names : Declared) (has : HasItems agent names) where
   arg-written (Const c) = refl
 
   -- the layers of a term
-  fits-roll : (l : Term-F Cond Term) → term_fits agent (roll-Term l) ≡ fits.term_step agent (map-Term Cond Term (fits.Scope → Bool) (fits.Scope → ℕ → Bool) (fits.cond_fits agent) (term_fits agent) l)
-  fits-roll l = fold-roll-Term (fits.Scope → Bool) (fits.Scope → ℕ → Bool) (fits.cond_step agent) (fits.term_step agent) l
-
   module _ (bound : fits.Scope) (sort : ℕ) where
     fits-arg : (a : Arg) → term_fits agent (term.Arg a) bound sort ≡ arg_fits agent bound sort a
-    fits-arg a = ap (λ t. term_fits agent t bound sort) (sym (term.rolls-Arg a)) ∙ ap (λ f. f bound sort) (fits-roll (ArgOf a))
+    fits-arg a = ap (λ t. term_fits agent t bound sort) (sym (term.rolls-Arg a)) ∙ ap (λ f. f bound sort) (fits-term agent (ArgOf a))
 
     fits-fluent : (fluent : ℕ) (args : List Arg) → term_fits agent (term.Fluent fluent args) bound sort ≡ fits.fluent_fits agent bound sort fluent args
-    fits-fluent fluent args = ap (λ t. term_fits agent t bound sort) (sym (term.rolls-Fluent fluent args)) ∙ ap (λ f. f bound sort) (fits-roll (FluentOf fluent args))
+    fits-fluent fluent args = ap (λ t. term_fits agent t bound sort) (sym (term.rolls-Fluent fluent args)) ∙ ap (λ f. f bound sort) (fits-term agent (FluentOf fluent args))
 
     fits-shift : (own : ℕ) (t : Term) (by : ℤ) → term_fits agent (term.Shift own t by) bound sort ≡ (own == sort && is_range agent sort && term_fits agent t bound sort)
-    fits-shift own t by = ap (λ t. term_fits agent t bound sort) (sym (term.rolls-Shift own t by)) ∙ ap (λ f. f bound sort) (fits-roll (ShiftOf own t by))
+    fits-shift own t by = ap (λ t. term_fits agent t bound sort) (sym (term.rolls-Shift own t by)) ∙ ap (λ f. f bound sort) (fits-term agent (ShiftOf own t by))
 
   wording-arg : (a : Arg) → wording agent (term.Arg a) ≡ written_arg a
   wording-arg a = ap (wording agent) (sym (term.rolls-Arg a)) ∙ fold-roll-Term (ℕ → Bool) Wording (written_cond_step agent) (written_term_step agent) (ArgOf a)
@@ -204,15 +197,6 @@ module _ (agent : Agent) (names : Declared) (has : HasItems agent names) where
 
     abbrev drafts_of : DraftTerm-F Taken → DraftTerm-F DraftTerm
     drafts_of y = map-DraftTerm Taken DraftTerm (λ d. d.0) y
-
-    keeps-roll : (l : DraftTerm-F DraftTerm) → term_keeps (signature_of names) (roll-DraftTerm l) ≡ term_keeps_step (signature_of names) (map-DraftTerm DraftTerm Bool (term_keeps (signature_of names)) l)
-    keeps-roll l = fold-roll-DraftTerm Bool (term_keeps_step (signature_of names)) l
-
-    sort-roll : (l : DraftTerm-F DraftTerm) → term_sort names scope (roll-DraftTerm l) ≡ sort_step names scope (map-DraftTerm DraftTerm (Option ℕ) (term_sort names scope) l)
-    sort-roll l = fold-roll-DraftTerm (Option ℕ) (sort_step names scope) l
-
-    as-roll : (l : DraftTerm-F DraftTerm) → term_as names scope (roll-DraftTerm l) ≡ as_step names scope (map-DraftTerm DraftTerm (ℕ → Reading Term) (term_as names scope) l)
-    as-roll l = fold-roll-DraftTerm (ℕ → Reading Term) (as_step names scope) l
 
     arg-good : (sort : ℕ) (arg : DraftArg) (t : Term) → is_other (arg_sort names scope arg) sort ≡ false → (arg_as names scope sort arg >>= λ a. gives (term.Arg a)).outcome ≡ Ok t
         → Good agent bound sort (arg_sort names scope arg) t
@@ -265,9 +249,9 @@ module _ (agent : Agent) (names : Declared) (has : HasItems agent names) where
     takes-layer : (y : DraftTerm-F Taken) → Takes (roll-DraftTerm (drafts_of y))
     takes-layer y sort t keeps other h =
         let l = drafts_of y in
-        subst (λ shown. Good agent bound sort shown t) (sym (sort-roll l))
-        (layer y sort t (sym (keeps-roll l) ∙ keeps) (ap (λ shown. is_other shown sort) (sym (sort-roll l)) ∙ other)
-        (ap (λ (f : ℕ → Reading Term). (f sort).outcome) (sym (as-roll l)) ∙ h))
+        subst (λ shown. Good agent bound sort shown t) (sym (sort-term names scope l))
+        (layer y sort t (sym (keeps-term (signature_of names) l) ∙ keeps) (ap (λ shown. is_other shown sort) (sym (sort-term names scope l)) ∙ other)
+        (ap (λ (f : ℕ → Reading Term). (f sort).outcome) (sym (as-term names scope l)) ∙ h))
 
     pub takes : (d : DraftTerm) → Takes d
     takes = ind-DraftTerm Takes (λ x y is. subst (λ l. Takes (roll-DraftTerm l)) is (takes-layer y))

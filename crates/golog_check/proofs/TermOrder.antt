@@ -22,6 +22,7 @@ use Rattle.golog_draft.specs.DraftPlaces.{arg_place, arg_places, term_places_ste
 use Rattle.golog_draft.specs.DraftOrder.{Ascend}
 use Rattle.golog_rows.proofs.Chain.{key, Chain, chain-low, chain-high, chain-le, then-chain, gives-chain, found-chain, Spans, then-spans, wider}
 use Rattle.golog_check.proofs.Halves.{halves, ascend-le}
+use Rattle.golog_check.proofs.Layers.{as-term}
 
 module _ (names : Declared) (scope : Scope) where
   arg_as-chain : (sort : ℕ) (arg : DraftArg) → Chain (key (arg_place arg) 30) (64 * (arg_place arg + 1)) (arg_as names scope sort arg).rows
@@ -75,9 +76,6 @@ module _ (names : Declared) (scope : Scope) where
   places-roll : (l : DraftTerm-F DraftTerm) → term_places (roll-DraftTerm l) ≡ term_places_step (map-DraftTerm DraftTerm (List ℕ) term_places l)
   places-roll l = fold-roll-DraftTerm (List ℕ) term_places_step l
 
-  as-roll : (l : DraftTerm-F DraftTerm) → term_as names scope (roll-DraftTerm l) ≡ as_step names scope (map-DraftTerm DraftTerm (ℕ → Reading Term) (term_as names scope) l)
-  as-roll l = fold-roll-DraftTerm (ℕ → Reading Term) (as_step names scope) l
-
   -- a layer of a term
   record Layer (y : DraftTerm-F Standing) (from to : ℕ) : Type 0 where
     behind : from ≤ place_step (map-DraftTerm DraftTerm ℕ term_place (drafts_of y))
@@ -115,7 +113,7 @@ module _ (names : Declared) (scope : Scope) where
       record {
         behind = subst (λ at. from ≤ at) (sym (place-roll l)) b.behind;
         rows = λ sort. subst (λ at. Chain (key at 30) (64 * to) (term_as names scope (roll-DraftTerm l) sort).rows) (sym (place-roll l))
-            (subst (λ (f : ℕ → Reading Term). Chain (key (place_step (map-DraftTerm DraftTerm ℕ term_place l)) 30) (64 * to) (f sort).rows) (sym (as-roll l)) (b.rows sort));
+            (subst (λ (f : ℕ → Reading Term). Chain (key (place_step (map-DraftTerm DraftTerm ℕ term_place l)) 30) (64 * to) (f sort).rows) (sym (as-term names scope l)) (b.rows sort));
       }
 
   stands : (d : DraftTerm) → AlwaysStands d

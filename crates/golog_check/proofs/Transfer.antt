@@ -1,5 +1,5 @@
 -- Two agents whose procedures are alike call, reach, nest and search alike.
-use Rattle.std.proofs.Common.{◌≡◌, ℕ, zero, suc, ◌+◌, ◌*◌, Bool, false, List, [], ◌∷◌, length, map, Option, Some, None, refl, ap, subst, ◌∙◌}
+use Rattle.std.proofs.Common.{◌≡◌, ℕ, zero, suc, ◌+◌, ◌*◌, Bool, false, List, [], ◌∷◌, length, map, refl, sym, ap, subst, ◌∙◌}
 use Rattle.std.specs.Prelude.{⊤, Contains, slice_get, slice_index}
 use Rattle.golog_tree.specs.declared.agent.Agent.{Agent}
 use Rattle.golog_tree.specs.declared.agent.ProcItem.{ProcItem}
@@ -37,11 +37,18 @@ module _ (agent other : Agent) (alike : AllAlike agent.procs other.procs) where
   same-long : length agent.procs ≡ length other.procs
   same-long = long agent.procs other.procs alike
 
+  -- what rounds find of each procedure, from what they found before
+  rounds-same : {B : Type 0} (none : B) (by : Agent → List B → ProcItem → B) (to : ℕ → Agent → List B)
+      → ((of : Agent) → to zero of ≡ map (λ item. none) of.procs) → ((k : ℕ) (of : Agent) → to (suc k) of ≡ map (by of (to k of)) of.procs)
+      → ((bs : List B) (x y : ProcItem) → Alike x y → by agent bs x ≡ by other bs y) → (k : ℕ) → to k agent ≡ to k other
+  rounds-same none by to first next same zero =
+      first agent ∙ map-alike (λ item. none) (λ item. none) (λ x y a. refl) agent.procs other.procs alike ∙ sym (first other)
+  rounds-same none by to first next same (suc k) =
+      next k agent ∙ ap (λ bs. map (by agent bs) agent.procs) (rounds-same none by to first next same k)
+      ∙ map-alike (by agent (to k other)) (by other (to k other)) (same (to k other)) agent.procs other.procs alike ∙ sym (next k other)
+
   fronts-same : (k : ℕ) → fronts_to k agent ≡ fronts_to k other
-  fronts-same zero = map-alike (λ item. no_front) (λ item. no_front) (λ x y a. refl) agent.procs other.procs alike
-  fronts-same (suc k) =
-      map-alike (λ item. front_by (fronts_to k agent) item.body) (λ item. front_by (fronts_to k other) item.body)
-      (λ x y a. ap (λ fs. front_by fs x.body) (fronts-same k) ∙ a.fronts (fronts_to k other)) agent.procs other.procs alike
+  fronts-same = rounds-same no_front (λ of fs item. front_by fs item.body) (λ k of. fronts_to k of) (λ of. refl) (λ k of. refl) (λ fs x y a. a.fronts fs)
 
   pub same-fronts : proc_fronts agent ≡ proc_fronts other
   unfolding proc_fronts
@@ -55,23 +62,16 @@ module _ (agent other : Agent) (alike : AllAlike agent.procs other.procs) where
   nest_in of nests item = nest item.body + greatest (map (slice_index nests) (front_calls of item.body))
 
   nests-same : (k : ℕ) → nests_to k agent ≡ nests_to k other
-  nests-same zero = map-alike (λ item. 0) (λ item. 0) (λ x y a. refl) agent.procs other.procs alike
-  nests-same (suc k) =
-      map-alike (nest_in agent (nests_to k agent)) (nest_in other (nests_to k other)) (λ x y a.
-      ap (λ n. n + greatest (map (slice_index (nests_to k agent)) (front_calls agent x.body))) a.nests
-      ∙ ap (λ ns. nest y.body + greatest (map (slice_index ns) (front_calls agent x.body))) (nests-same k)
-      ∙ ap (λ cs. nest y.body + greatest (map (slice_index (nests_to k other)) cs)) (same-calls x y a))
-      agent.procs other.procs alike
+  nests-same = rounds-same 0 nest_in (λ k of. nests_to k of) (λ of. refl) (λ k of. refl) (λ nests x y a.
+      ap (λ n. n + greatest (map (slice_index nests) (front_calls agent x.body))) a.nests
+      ∙ ap (λ cs. nest y.body + greatest (map (slice_index nests) cs)) (same-calls x y a))
 
   pub same-nests : front_nests agent ≡ front_nests other
   unfolding front_nests
   same-nests = ap (λ n. nests_to n agent) same-long ∙ nests-same (length other.procs)
 
   blocks-same : (k : ℕ) → proc_blocks_to k agent ≡ proc_blocks_to k other
-  blocks-same zero = map-alike (λ item. false) (λ item. false) (λ x y a. refl) agent.procs other.procs alike
-  blocks-same (suc k) =
-      map-alike (λ item. has_block_by (proc_blocks_to k agent) item.body) (λ item. has_block_by (proc_blocks_to k other) item.body)
-      (λ x y a. ap (λ bs. has_block_by bs x.body) (blocks-same k) ∙ a.blocks (proc_blocks_to k other)) agent.procs other.procs alike
+  blocks-same = rounds-same false (λ of bs item. has_block_by bs item.body) (λ k of. proc_blocks_to k of) (λ of. refl) (λ k of. refl) (λ bs x y a. a.blocks bs)
 
   pub same-blocks : proc_blocks agent ≡ proc_blocks other
   unfolding proc_blocks

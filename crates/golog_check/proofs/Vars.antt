@@ -37,16 +37,23 @@ use Rattle.golog_check.specs.Check.{names_of}
 use Rattle.golog_check.proofs.Readings.{both, ok-same}
 use Rattle.golog_check.proofs.ArgLaws.{some-same}
 
--- the words of variables in scope, the outermost first
+-- what variables in scope have, the outermost first
+abbrev pub outermost : {A : Type 0} → (Variable → A) → Scope → List A
+outermost f [] = []
+outermost f (variable ∷ outer) = outermost f outer ++ f variable ∷ []
+
+pub outermost-long : {A : Type 0} (f : Variable → A) (scope : Scope) → length (outermost f scope) ≡ length scope
+outermost-long f [] = refl
+outermost-long f (variable ∷ outer) =
+    let more = length-append (outermost f outer) (f variable ∷ []) in
+    let rest = outermost-long f outer in omega (arith, more, rest)
+
+-- their words
 abbrev pub words_of : Scope → List Text
-words_of [] = []
-words_of (variable ∷ outer) = words_of outer ++ variable.word ∷ []
+words_of = outermost (λ variable. variable.word)
 
 pub words-long : (scope : Scope) → length (words_of scope) ≡ length scope
-words-long [] = refl
-words-long (variable ∷ outer) =
-    let more = length-append (words_of outer) (variable.word ∷ []) in
-    let rest = words-long outer in omega (arith, more, rest)
+words-long = outermost-long (λ variable. variable.word)
 
 or-none : (b : Bool) → (b || (false || false)) ≡ b
 or-none true = refl

@@ -9,6 +9,7 @@ use Rattle.golog_tree.specs.declared.draft.DraftDevice.{DraftDevice}
 use Rattle.golog_tree.specs.declared.draft.DraftMain.{DraftMain}
 use Rattle.golog_tree.specs.Ground.{ground_fluents, numbered}
 use Rattle.golog_rows.specs.Reading.{Reading, row}
+use Rattle.golog_semantics.specs.NoAgent.{no_agent}
 use Rattle.golog_check.specs.declared.fault.CheckFault.{CheckFault}
 use Rattle.golog_check.specs.declared.fault.CheckFault.TheVariants.{Refused, Memory}
 use Rattle.golog_check.specs.Codes.{FRONT_DEEP}
@@ -35,18 +36,11 @@ main_in names main =
 module _ (theory : DraftTheory) where
   -- what a theory declares, with nothing said of it yet
   abbrev pub bare : Agent
-  bare = record {
+  bare = record no_agent {
     sorts = map sort_item theory.sorts;
     fluents = map fluent_item theory.fluents;
     actions = map action_item theory.actions;
-    firsts = record { fluents = []; actions = [] };
     devices = map (λ (device : DraftDevice). device.name) theory.devices;
-    poss = [];
-    causes = [];
-    senses = [];
-    starts = [];
-    procs = [];
-    main = prog.Nil;
   }
 
   -- the start values that items give

@@ -1,4 +1,5 @@
 -- What a program of a draft is.
+pub use Rattle.golog_tree.specs.Joined.{joined}
 use Rattle.std.specs.Prelude.{List, [], ◌∷◌}
 use Rattle.golog_tree.specs.declared.cond.Cond.{Cond}
 use Rattle.golog_tree.specs.declared.prog.Prog.{Prog}
@@ -8,8 +9,8 @@ use Rattle.golog_tree.specs.declared.draft_prog.DraftProg.TheOpen.{DraftProg-F, 
 use Rattle.golog_tree.specs.declared.draft_prog.DraftProg.TheFolds.{fold-DraftProg}
 use Rattle.golog_tree.specs.Ground.{to_count}
 use Rattle.golog_rows.specs.Reading.{Reading, gives, ◌>>=◌, each}
-use Rattle.golog_check.specs.declared.programs.Join.{Join}
-use Rattle.golog_check.specs.declared.programs.Join.TheVariants.{Seq as InSeq, Choice as InChoice, Conc as InConc, Prio as InPrio}
+use Rattle.golog_tree.specs.declared.join.Join.{Join}
+use Rattle.golog_tree.specs.declared.join.Join.TheVariants.{Seq as InSeq, Choice as InChoice, Conc as InConc, Prio as InPrio}
 use Rattle.golog_check.specs.DeclaredItems.{Declared}
 use Rattle.golog_check.specs.Sorts.{action_sorts, param_sorts}
 use Rattle.golog_check.specs.Scope.{Scope, variable_no, within}
@@ -19,12 +20,6 @@ use Rattle.golog_check.specs.Conditions.{cond_in}
 -- what a program is, in any scope
 abbrev pub InScope : Type 0
 InScope = Scope → Reading Prog
-
-abbrev pub joined : Join → Prog → Prog → Prog
-joined InSeq first second = prog.Seq first second
-joined InChoice first second = prog.Choice first second
-joined InConc first second = prog.Conc first second
-joined InPrio first second = prog.Prio first second
 
 -- More than two parts nest to the right; one part stands for itself, and none is `nil`.
 abbrev pub nested : Join → List Prog → Prog

@@ -1,10 +1,5 @@
 -- What is said round by round.
-use Rattle.std.specs.Prelude.{ℕ, zero, suc, List, [], ◌∷◌}
-
--- the same, so many times
-abbrev pub same_of : {A : Type 0} → ℕ → A → List A
-same_of zero x = []
-same_of (suc count) x = x ∷ same_of count x
+use Rattle.std.specs.Prelude.{ℕ, zero, suc}
 
 -- after so many rounds
 abbrev pub rounds_of : {A : Type 0} → (A → A) → ℕ → A → A

@@ -12,7 +12,8 @@ use Rattle.golog_tree.specs.declared.draft_prog.DraftProg.TheFolds.{fold-DraftPr
 use Rattle.golog_tree.specs.declared.prog.Prog.{Prog}
 use Rattle.golog_tree.specs.declared.prog.Prog.TheVariants as prog
 use Rattle.golog_tree.specs.Ground.{to_count}
-use Rattle.golog_check.specs.declared.programs.Join.TheVariants.{Seq as InSeq, Choice as InChoice, Conc as InConc, Prio as InPrio}
+use Rattle.golog_semantics.specs.NoAgent.{no_agent}
+use Rattle.golog_tree.specs.declared.join.Join.TheVariants.{Seq as InSeq, Choice as InChoice, Conc as InConc, Prio as InPrio}
 use Rattle.golog_check.specs.DeclaredItems.{param_sorts}
 use Rattle.golog_check.specs.Programs.{nested}
 
@@ -44,19 +45,7 @@ shape_of item = record { name = item.name; params = param_sorts item; body = sha
 
 -- an agent of these procedures and of nothing else
 abbrev pub with_procs : List ProcItem → Agent
-with_procs procs = record {
-  sorts = [];
-  fluents = [];
-  actions = [];
-  firsts = record { fluents = []; actions = [] };
-  devices = [];
-  poss = [];
-  causes = [];
-  senses = [];
-  starts = [];
-  procs = procs;
-  main = prog.Nil;
-}
+with_procs procs = record no_agent { procs = procs }
 
 abbrev pub shapes : List DraftProc → Agent
 shapes procs = with_procs (map shape_of procs)

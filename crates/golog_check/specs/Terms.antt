@@ -38,10 +38,6 @@ common None other = other
 common (Some one) None = Some one
 common (Some one) (Some other) = if one == other then Some one else None
 
--- the two sides of a comparison by the second
-abbrev pub sides_with : ℕ → Term → Reading Term → Reading Sides
-sides_with sort one other = other >>= λ other. gives (record { sort = sort; one = one; other = other })
-
 module _ (names : Declared) (scope : Scope) where
   -- the sort that an argument shows: that of a variable or a listed constant
   abbrev pub arg_sort : DraftArg → Option ℕ

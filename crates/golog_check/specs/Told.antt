@@ -1,6 +1,6 @@
 -- What is told of the procedures of a draft: how deep each nests by itself, what it calls without a step, and which
 -- reach which in that way.
-use Rattle.std.specs.Prelude.{ℕ, Bool, false, ◌&&◌, List, length, map, min, slice_get}
+use Rattle.std.specs.Prelude.{ℕ, Bool, false, ◌&&◌, List, length, map, min, slice_get, replicate}
 use Rattle.std.specs.List.{list_any, enumerate_from}
 use Rattle.std.specs.Option.{option_map_or}
 use Rattle.golog_tree.specs.declared.draft.DraftProc.{DraftProc}
@@ -10,7 +10,7 @@ use Rattle.golog_check.specs.declared.fronts.Nesting.{Nesting}
 use Rattle.golog_check.specs.DraftNest.{draft_nest}
 use Rattle.golog_check.specs.Shapes.{shape, shapes}
 use Rattle.golog_check.specs.Unguarded.{said}
-use Rattle.golog_check.specs.Settled.{rounds_of, same_of}
+use Rattle.golog_check.specs.Settled.{rounds_of}
 use Rattle.golog_check.specs.Fronts.{draft_fore, reach_round}
 
 -- how deep a procedure nests by itself, and what it calls
@@ -33,7 +33,7 @@ nesting_by skips prog = (min (draft_nest prog) 1025, (draft_fore skips prog).cal
 
 -- which procedures reach one
 abbrev pub reached_by : List Nesting → ℕ → List Bool
-reached_by items goal = rounds_of (reach_round (calls_told items) goal) (length items) (same_of (length items) false)
+reached_by items goal = rounds_of (reach_round (calls_told items) goal) (length items) (replicate (length items) false)
 
 -- the same for each that is reached
 abbrev pub reached_each : List Nesting → List (List Bool)

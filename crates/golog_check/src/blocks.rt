@@ -1,7 +1,7 @@
 ghost use Rattle.std.specs.Prelude.{◌≡◌, List, ◌++◌, map, IfOk};
 ghost use Rattle.std.specs.List.{list_any};
 ghost use Rattle.golog_rows.specs.Least.{CodeAt, IsLeastOf};
-ghost use Rattle.golog_check.specs.Fronts.{draft_has, block_round};
+ghost use Rattle.golog_check.specs.Fronts.{draft_has};
 ghost use Rattle.golog_check.specs.Unguarded.{refused_where, said as spec_said};
 ghost use Rattle.golog_check.specs.DraftBlocks.{numbers_fit as spec_numbers_fit, blocks_of, of_each, block_refusals, all_block_refusals};
 
@@ -103,19 +103,6 @@ fn blocks_in_each(said: &[bool], parts: &[DraftProg], least: &mut Option<Refusal
     has
 }
 
-/// Which procedures have a block or call one of which it was said in the round before.
-fn blocks_after(alloc: Global, procs: &[DraftProc], before: &[bool]) -> Result<List<bool>, NoMemory>
-    ensures { IfOk result (λ after. after ≡ block_round procs.now before.now) }
-{
-    let mut after = List::new(alloc);
-    for item in procs {
-        let mut least = None;
-        let has = blocks_in(before, &item.body, &mut least);
-        after.push(has)?;
-    }
-    Ok(after)
-}
-
 /// Which procedures have a block or call one that has one, round by round.
 #[derive(Clone, Copy)]
 struct Blocks<'a> {
@@ -135,7 +122,13 @@ impl<'a> Round for Blocks<'a> {
     }
 
     fn next(&self, alloc: Global, before: &[bool]) -> Result<List<bool>, NoMemory> {
-        blocks_after(alloc, self.procs, before)
+        let mut after = List::new(alloc);
+        for item in self.procs {
+            let mut least = None;
+            let has = blocks_in(before, &item.body, &mut least);
+            after.push(has)?;
+        }
+        Ok(after)
     }
 }
 

@@ -25,7 +25,7 @@ use crate::copies::{copy_actions, copy_devices, copy_fluents, copy_sorts, sort_p
 use crate::effects::{cause_items_in, poss_items_in};
 use crate::fault::{CheckFault, FRONT_DEEP, refuse_where};
 use crate::names::Names;
-use crate::nesting::{MAIN_NEST, nests_within};
+use crate::nesting::is_too_deep;
 use crate::numbering::numbered;
 use crate::procs::{params_of_each, proc_items_in};
 use crate::programs::prog_in;
@@ -46,10 +46,12 @@ use std::alloc::Global;
 fn bare(alloc: Global, theory: &DraftTheory) -> Result<Agent, NoMemory>
     ensures { IfOk result (λ agent. agent ≡ spec_bare theory.now) }
 {
-    let sorts = copy_sorts(alloc, theory.sorts.as_slice())?;
-    let fluents = copy_fluents(alloc, theory.fluents.as_slice())?;
-    let actions = copy_actions(alloc, theory.actions.as_slice())?;
-    let devices = copy_devices(alloc, theory.devices.as_slice())?;
+    let sorts = copy_sorts(alloc, theory.sorts.as_slice());
+    let fluents = copy_fluents(alloc, theory.fluents.as_slice());
+    let actions = copy_actions(alloc, theory.actions.as_slice());
+    let devices = copy_devices(alloc, theory.devices.as_slice());
+    let first = both(sorts, fluents);
+    let ((sorts, fluents), (actions, devices)) = both(first, both(actions, devices))?;
     Ok(Agent {
         sorts,
         fluents,
@@ -73,8 +75,7 @@ fn bare(alloc: Global, theory: &DraftTheory) -> Result<Agent, NoMemory>
 fn main_in(alloc: Global, names: &Names<'_>, main: &DraftMain) -> Result<Prog, CheckFault>
     ensures { Answers result (spec_main_in names.now main.now) }
 {
-    let is_deep = !nests_within(&main.body, MAIN_NEST);
-    refuse_where(is_deep, FRONT_DEEP, main.at)?;
+    refuse_where(is_too_deep(&main.body), FRONT_DEEP, main.at)?;
     prog_in(alloc, names, &[], &main.body)
 }
 

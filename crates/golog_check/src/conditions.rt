@@ -15,7 +15,7 @@ use crate::args::{args_in, is_other};
 use crate::fault::{CheckFault, SORT_CLASH, refuse_where};
 use crate::names::Names;
 use crate::scope::{Variable, variable_no, within};
-use crate::terms::{Sides, sides_in};
+use crate::terms::sides_in;
 use golog_base::{Boxed, List, Word};
 use golog_tree::{Agent, Arg, Cond, DraftArg, DraftCond, Place};
 use std::alloc::Global;
@@ -124,57 +124,65 @@ pub fn cond_in(
     match draft {
         DraftCond::Truth { truth, .. } => Ok(Cond::Truth(*truth)),
         DraftCond::Is { fluent, args, at } => {
-            let args = is_in(alloc, names, scope, *fluent, args.as_slice(), *at)?;
-            Ok(Cond::Is {
+            is_in(alloc, names, scope, *fluent, args.as_slice(), *at).map(|args| Cond::Is {
                 fluent: *fluent,
                 args,
             })
         }
-        DraftCond::Equal { one, other, .. } => {
-            let Sides { sort, one, other } = sides_in(alloc, names, scope, false, one, other)?;
-            Ok(Cond::Equal { sort, one, other })
+        DraftCond::Equal { one, other, .. } => sides_in(alloc, names, scope, false, one, other).map(
+            |sides| Cond::Equal {
+                sort: sides.sort,
+                one: sides.one,
+                other: sides.other,
+            },
+        ),
+        DraftCond::Less { one, other, .. } => sides_in(alloc, names, scope, true, one, other).map(
+            |sides| Cond::Less {
+                sort: sides.sort,
+                one: sides.one,
+                other: sides.other,
+            },
+        ),
+        DraftCond::AtMost { one, other, .. } => sides_in(alloc, names, scope, true, one, other).map(
+            |sides| Cond::AtMost {
+                sort: sides.sort,
+                one: sides.one,
+                other: sides.other,
+            },
+        ),
+        DraftCond::Not { cond, .. } => boxed_in(alloc, names, scope, cond.get()).map(Cond::Not),
+        DraftCond::And { conds, .. } => {
+            conds_in(alloc, names, scope, conds.as_slice()).map(Cond::And)
         }
-        DraftCond::Less { one, other, .. } => {
-            let Sides { sort, one, other } = sides_in(alloc, names, scope, true, one, other)?;
-            Ok(Cond::Less { sort, one, other })
+        DraftCond::Or { conds, .. } => {
+            conds_in(alloc, names, scope, conds.as_slice()).map(Cond::Or)
         }
-        DraftCond::AtMost { one, other, .. } => {
-            let Sides { sort, one, other } = sides_in(alloc, names, scope, true, one, other)?;
-            Ok(Cond::AtMost { sort, one, other })
-        }
-        DraftCond::Not { cond, .. } => Ok(Cond::Not(boxed_in(alloc, names, scope, cond.get())?)),
-        DraftCond::And { conds, .. } => Ok(Cond::And(conds_in(
-            alloc,
-            names,
-            scope,
-            conds.as_slice(),
-        )?)),
-        DraftCond::Or { conds, .. } => Ok(Cond::Or(conds_in(
-            alloc,
-            names,
-            scope,
-            conds.as_slice(),
-        )?)),
         DraftCond::ForSome {
-            var,
+            var: word,
             sort,
             body,
             ..
-        } => Ok(Cond::ForSome {
-            var: variable_no(scope),
-            sort: *sort,
-            body: body_in(alloc, names, scope, var, *sort, body.get())?,
-        }),
+        } => {
+            let var = variable_no(scope);
+            body_in(alloc, names, scope, word, *sort, body.get()).map(|body| Cond::ForSome {
+                var,
+                sort: *sort,
+                body,
+            })
+        }
         DraftCond::ForAll {
-            var,
+            var: word,
             sort,
             body,
             ..
-        } => Ok(Cond::ForAll {
-            var: variable_no(scope),
-            sort: *sort,
-            body: body_in(alloc, names, scope, var, *sort, body.get())?,
-        }),
+        } => {
+            let var = variable_no(scope);
+            body_in(alloc, names, scope, word, *sort, body.get()).map(|body| Cond::ForAll {
+                var,
+                sort: *sort,
+                body,
+            })
+        }
     }
 }
 

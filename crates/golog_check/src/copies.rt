@@ -1,7 +1,7 @@
 ghost use Rattle.std.specs.Prelude.{◌≡◌, map, IfOk};
 ghost use Rattle.golog_check.specs.DeclaredItems.{sort_item, sort_place as spec_sort_place, fluent_item, action_item};
 
-use golog_base::{List, NoMemory, Word};
+use golog_base::{List, NoMemory, Word, both};
 use golog_tree::{
     ActionItem, DraftAction, DraftDevice, DraftFluent, DraftSort, FluentItem, Place, SortItem,
 };
@@ -86,11 +86,13 @@ pub fn copy_fluents(alloc: Global, fluents: &[DraftFluent]) -> Result<List<Fluen
 fn copy_action(alloc: Global, action: &DraftAction) -> Result<ActionItem, NoMemory>
     ensures { IfOk result (λ item. item ≡ action_item action.now) }
 {
+    let args = List::copy_of(alloc, action.args.as_slice());
+    let (args, posters) = both(args, List::copy_of(alloc, action.posters.as_slice()))?;
     Ok(ActionItem {
         name: action.name,
-        args: List::copy_of(alloc, action.args.as_slice())?,
+        args,
         device: action.device,
-        posters: List::copy_of(alloc, action.posters.as_slice())?,
+        posters,
     })
 }
 

@@ -1,9 +1,8 @@
 ghost use Rattle.std.specs.Prelude.{◌≡◌, [], map, IfOk};
 ghost use Rattle.golog_check.specs.Faults.{Answers};
 ghost use Rattle.golog_check.specs.Checked.{IsChecked};
-ghost use Rattle.golog_check.specs.Conditions.{cond_in};
 ghost use Rattle.golog_check.specs.Effects.{poss_in as spec_poss_in, cause_in as spec_cause_in, head_within as spec_head_within};
-ghost use Rattle.golog_check.specs.Effects.{effect_in, effect_with};
+ghost use Rattle.golog_check.specs.Effects.{effect_in};
 
 use crate::checked::Checked;
 use crate::conditions::cond_in;
@@ -12,8 +11,8 @@ use crate::heads::{Head, head_from, scope_of};
 use crate::names::Names;
 use crate::scope::Variable;
 use crate::terms::term_in;
-use golog_base::{List, NoMemory};
-use golog_tree::{Arg, CauseItem, DraftCause, DraftPoss, PossItem, Term};
+use golog_base::{List, NoMemory, both};
+use golog_tree::{Arg, CauseItem, DraftCause, DraftPoss, PossItem};
 use std::alloc::Global;
 
 /// The precondition of an action, whose arguments are its variables.
@@ -23,10 +22,11 @@ fn poss_in(alloc: Global, names: &Names<'_>, item: &DraftPoss) -> Result<PossIte
 {
     let sorts = names.action_sorts(item.action);
     let scope = scope_of(alloc, item.vars.as_slice(), sorts)?;
-    let cond = cond_in(alloc, names, scope.as_slice(), &item.cond)?;
+    let cond = cond_in(alloc, names, scope.as_slice(), &item.cond);
+    drop(scope);
     Ok(PossItem {
         action: item.action,
-        cond,
+        cond: cond?,
     })
 }
 
@@ -55,37 +55,6 @@ fn head_within(alloc: Global, scope: List<Variable>) -> Head
     }
 }
 
-/// An effect whose condition is still a draft, in view of these variables.
-fn effect_with(
-    alloc: Global,
-    names: &Names<'_>,
-    scope: &[Variable],
-    item: &DraftCause,
-    action_args: List<Arg>,
-    fluent_args: List<Arg>,
-    term: Term,
-) -> Result<CauseItem, CheckFault>
-    ensures { Answers result
-        (effect_with item.now action_args fluent_args term (cond_in names.now item.now.cond scope.now)) }
-{
-    match cond_in(alloc, names, scope, &item.cond) {
-        Ok(cond) => Ok(CauseItem {
-            action: item.action,
-            action_args,
-            fluent: item.fluent,
-            fluent_args,
-            term,
-            cond,
-        }),
-        Err(fault) => {
-            drop(term);
-            drop(fluent_args);
-            drop(action_args);
-            Err(fault)
-        }
-    }
-}
-
 /// An effect behind its heads, in view of these variables.
 fn effect_in(
     alloc: Global,
@@ -98,8 +67,16 @@ fn effect_in(
     ensures { Answers result (effect_in names.now item.now action_args fluent_args scope.now) }
 {
     let sort = names.fluent_sort(item.fluent).unwrap_or(0);
-    match term_in(alloc, names, scope, sort, &item.term) {
-        Ok(term) => effect_with(alloc, names, scope, item, action_args, fluent_args, term),
+    let term = term_in(alloc, names, scope, sort, &item.term);
+    match both(term, cond_in(alloc, names, scope, &item.cond)) {
+        Ok((term, cond)) => Ok(CauseItem {
+            action: item.action,
+            action_args,
+            fluent: item.fluent,
+            fluent_args,
+            term,
+            cond,
+        }),
         Err(fault) => {
             drop(fluent_args);
             drop(action_args);

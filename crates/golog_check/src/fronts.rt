@@ -1,6 +1,6 @@
 ghost use Rattle.std.specs.Prelude.{◌≡◌, map, IfOk};
 ghost use Rattle.golog_check.specs.Told.{nesting, nesting_by, nestings_in};
-ghost use Rattle.golog_check.specs.Fronts.{IsFront, skip_at, in_row, chosen, beside, draft_fore, skip_round};
+ghost use Rattle.golog_check.specs.Fronts.{IsFront, skip_at, in_row, chosen, beside, draft_fore};
 
 use crate::nesting::{PROC_NEST, nest_to};
 use crate::rounds::{Round, rounds_of};
@@ -111,19 +111,6 @@ fn front_of_all(
     Ok(skip)
 }
 
-/// Which procedures may be final without a step, by which may be in the round before.
-fn skips_after(alloc: Global, procs: &[DraftProc], before: &[bool]) -> Result<List<bool>, NoMemory>
-    ensures { IfOk result (λ after. after ≡ skip_round procs.now before.now) }
-{
-    let mut after = List::new(alloc);
-    for item in procs {
-        let mut calls = List::new(alloc);
-        let skip = front_of(before, &item.body, &mut calls)?;
-        after.push(skip)?;
-    }
-    Ok(after)
-}
-
 /// Which procedures may be final without a step, round by round.
 #[derive(Clone, Copy)]
 struct Skips<'a> {
@@ -143,7 +130,13 @@ impl<'a> Round for Skips<'a> {
     }
 
     fn next(&self, alloc: Global, before: &[bool]) -> Result<List<bool>, NoMemory> {
-        skips_after(alloc, self.procs, before)
+        let mut after = List::new(alloc);
+        for item in self.procs {
+            let mut calls = List::new(alloc);
+            let skip = front_of(before, &item.body, &mut calls)?;
+            after.push(skip)?;
+        }
+        Ok(after)
     }
 }
 

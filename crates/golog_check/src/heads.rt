@@ -1,4 +1,4 @@
-ghost use Rattle.std.specs.Prelude.{◌≡◌, [], IfOk};
+ghost use Rattle.std.specs.Prelude.{◌≡◌, [], ◌∷◌, ◌++◌, IfOk};
 ghost use Rattle.golog_check.specs.Faults.{Answers};
 ghost use Rattle.golog_check.specs.Scope.{scope_on as spec_scope_on, scope_of_vars};
 ghost use Rattle.golog_check.specs.Heads.{binds as spec_binds, binding, head_after as spec_head_after, head_from as spec_head_from};
@@ -7,7 +7,7 @@ use crate::args::arg_in;
 use crate::fault::CheckFault;
 use crate::names::Names;
 use crate::scope::{Variable, meaning, variable_no, within};
-use golog_base::{List, NoMemory, Word};
+use golog_base::{List, NoMemory, Word, both};
 use golog_tree::{Arg, DraftArg};
 use std::alloc::Global;
 
@@ -28,8 +28,9 @@ fn scope_on(
 {
     match (sorts.split_first(), words.split_first()) {
         (Some((sort, sorts)), Some((word, words))) => {
-            let scope = within(alloc, *word, *sort, outer.as_slice())?;
-            scope_on(alloc, scope, sorts, words)
+            let scope = within(alloc, *word, *sort, outer.as_slice());
+            drop(outer);
+            scope_on(alloc, scope?, sorts, words)
         }
         _ => Ok(outer),
     }
@@ -52,18 +53,34 @@ fn binds(names: &Names<'_>, scope: &[Variable], arg: &DraftArg) -> bool
     }
 }
 
+/// The head with one more argument.
+fn with_arg(head: Head, arg: Arg) -> Result<Head, NoMemory>
+    ensures { IfOk result (λ after. after ≡ record head { args = head.args ++ arg ∷ [] }) }
+{
+    let mut head = head;
+    match head.args.push(arg) {
+        Ok(()) => Ok(head),
+        Err(NoMemory) => {
+            drop(head);
+            Err(NoMemory)
+        }
+    }
+}
+
 /// The head with one more variable, of the sort of the place.
 fn bind(alloc: Global, head: Head, sort: u32, arg: &DraftArg) -> Result<Head, NoMemory>
     ensures { IfOk result (λ after. after ≡ binding head sort arg.now) }
 {
-    let Head { mut args, scope } = head;
     match arg {
         DraftArg::Word { word, .. } => {
-            args.push(Arg::Var(variable_no(scope.as_slice())))?;
-            let scope = within(alloc, *word, sort, scope.as_slice())?;
+            let number = variable_no(head.scope.as_slice());
+            let scope = within(alloc, *word, sort, head.scope.as_slice());
+            let (head, scope) = both(with_arg(head, Arg::Var(number)), scope)?;
+            let Head { args, scope: outer } = head;
+            drop(outer);
             Ok(Head { args, scope })
         }
-        DraftArg::Number { .. } => Ok(Head { args, scope }),
+        DraftArg::Number { .. } => Ok(head),
     }
 }
 
@@ -81,10 +98,13 @@ fn head_after(
     if binds(names, head.scope.as_slice(), arg) {
         return Ok(bind(alloc, head, sort, arg)?);
     }
-    let Head { mut args, scope } = head;
-    let arg = arg_in(names, scope.as_slice(), sort, arg)?;
-    args.push(arg)?;
-    Ok(Head { args, scope })
+    match arg_in(names, head.scope.as_slice(), sort, arg) {
+        Ok(arg) => Ok(with_arg(head, arg)?),
+        Err(fault) => {
+            drop(head);
+            Err(fault)
+        }
+    }
 }
 
 /// The head with more arguments, in places of these sorts. A word that is no constant is a variable, which

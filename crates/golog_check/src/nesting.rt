@@ -1,5 +1,6 @@
-ghost use Rattle.std.specs.Prelude.{◌≡◌, ◌≤◌, nat_le, min, map};
+ghost use Rattle.std.specs.Prelude.{◌≡◌, ◌≤◌, nat_le, not, min, map};
 ghost use Rattle.golog_check.specs.DraftNest.{parts_nest, draft_nest};
+ghost use Rattle.golog_check.specs.Limits.{MAIN_NEST as spec_main_nest};
 
 use golog_tree::DraftProg;
 
@@ -7,56 +8,7 @@ use golog_tree::DraftProg;
 pub const PROC_NEST: u32 = 1024;
 
 /// The deepest nest of the program of `main`.
-pub const MAIN_NEST: u32 = 3072;
-
-/// Whether the program of a draft nests no deeper than the limit.
-#[cycle(nesting)]
-pub fn nests_within(prog: &DraftProg, limit: u32) -> bool
-    ensures { result ≡ nat_le (draft_nest prog.now) limit }
-{
-    match prog {
-        DraftProg::Nil { .. }
-        | DraftProg::Act { .. }
-        | DraftProg::Test { .. }
-        | DraftProg::Call { .. } => limit > 0,
-        DraftProg::Seq { parts, .. }
-        | DraftProg::Choice { parts, .. }
-        | DraftProg::Conc { parts, .. }
-        | DraftProg::Prio { parts, .. } => parts_within(parts.as_slice(), limit),
-        DraftProg::Pick { body, .. }
-        | DraftProg::Star { body, .. }
-        | DraftProg::While { body, .. }
-        | DraftProg::Cstar { body, .. }
-        | DraftProg::Search { body, .. } => limit > 0 && nests_within(body.get(), limit - 1),
-        DraftProg::If { yes, no, .. } => {
-            limit > 0 && nests_within(yes.get(), limit - 1) && nests_within(no.get(), limit - 1)
-        }
-    }
-}
-
-/// Whether parts nest no deeper than the limit, nested to the right.
-#[cycle(nesting)]
-#[tactic(auto, using(crate::proofs::NestLaws::laws))]
-fn parts_within(parts: &[DraftProg], limit: u32) -> bool
-    ensures { result ≡ nat_le (parts_nest (map draft_nest parts.now)) limit }
-{
-    if parts.is_empty() {
-        return limit > 0;
-    }
-    let mut left = limit;
-    for (index, part) in parts.iter().enumerate() {
-        if index + 1 < parts.len() {
-            if left == 0 {
-                return false;
-            }
-            left -= 1;
-        }
-        if !nests_within(part, left) {
-            return false;
-        }
-    }
-    true
-}
+const MAIN_NEST: u32 = 3072;
 
 /// How deep the program of a draft nests, or the limit where it is deeper.
 #[cycle(depth)]
@@ -103,4 +55,11 @@ fn parts_nest_to(parts: &[DraftProg], limit: u32) -> u32
         deepest = limit.min(above + nest_to(part, limit)).max(deepest);
     }
     deepest
+}
+
+/// Whether the program of `main` nests deeper than it may.
+pub fn is_too_deep(main: &DraftProg) -> bool
+    ensures { result ≡ not (nat_le (draft_nest main.now) spec_main_nest) }
+{
+    nest_to(main, MAIN_NEST + 1) > MAIN_NEST
 }

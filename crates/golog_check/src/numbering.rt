@@ -3,7 +3,7 @@ ghost use Rattle.golog_tree.specs.Ground.{IsCountable, action_args, firsts_of as
 ghost use Rattle.golog_check.specs.Sums.{AreSmall};
 
 use crate::sums::count_in;
-use golog_base::{List, NoMemory};
+use golog_base::{List, NoMemory, both};
 use golog_tree::{Agent, Firsts, HasArgs};
 use std::alloc::Global;
 
@@ -28,8 +28,9 @@ fn firsts_in(alloc: Global, agent: &Agent) -> Result<Firsts, NoMemory>
     requires { IsCountable (spec_numbered agent.now) }
     ensures { IfOk result (λ firsts. firsts ≡ (spec_numbered agent.now).firsts) }
 {
-    let fluents = firsts_of(alloc, agent, agent.fluents.as_slice())?;
-    let actions = firsts_of(alloc, agent, agent.actions.as_slice())?;
+    let fluents = firsts_of(alloc, agent, agent.fluents.as_slice());
+    let actions = firsts_of(alloc, agent, agent.actions.as_slice());
+    let (fluents, actions) = both(fluents, actions)?;
     Ok(Firsts { fluents, actions })
 }
 

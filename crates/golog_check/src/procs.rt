@@ -4,13 +4,15 @@ ghost use Rattle.golog_check.specs.DeclaredItems.{param_sorts as spec_param_sort
 ghost use Rattle.golog_check.specs.Faults.{Answers};
 ghost use Rattle.golog_check.specs.Checked.{IsChecked};
 ghost use Rattle.golog_check.specs.Procs.{proc_in as spec_proc_in};
+ghost use Rattle.golog_check.specs.Scope.{scope_of_vars};
 
 use crate::checked::Checked;
 use crate::fault::CheckFault;
 use crate::heads::scope_of;
 use crate::names::Names;
 use crate::programs::prog_in;
-use golog_base::{List, NoMemory, Word};
+use crate::scope::Variable;
+use golog_base::{List, NoMemory, Word, both};
 use golog_tree::{DraftProc, ProcItem};
 use std::alloc::Global;
 
@@ -47,15 +49,26 @@ pub fn params_of_each(alloc: Global, items: &[DraftProc]) -> Result<List<List<u3
     Ok(params)
 }
 
+/// The sorts of a procedure's parameters, and the parameters in scope.
+fn params_of(alloc: Global, item: &DraftProc) -> Result<(List<u32>, List<Variable>), NoMemory>
+    ensures { IfOk result (λ params. (params.0 ≡ spec_param_sorts item.now)
+        × (params.1 ≡ scope_of_vars (spec_param_words item.now) (spec_param_sorts item.now))) }
+{
+    let (words, sorts) = both(param_words(alloc, item), param_sorts(alloc, item))?;
+    let scope = scope_of(alloc, words.as_slice(), sorts.as_slice());
+    drop(words);
+    both(Ok(sorts), scope)
+}
+
 /// A procedure, whose parameters are the variables of its body.
 #[tactic(auto, unfolding(crate::specs::Procs::proc_in))]
 fn proc_in(alloc: Global, names: &Names<'_>, item: &DraftProc) -> Result<ProcItem, CheckFault>
     ensures { Answers result (spec_proc_in names.now item.now) }
 {
-    let params = param_sorts(alloc, item)?;
-    let words = param_words(alloc, item)?;
-    let scope = scope_of(alloc, words.as_slice(), params.as_slice())?;
-    let body = prog_in(alloc, names, scope.as_slice(), &item.body)?;
+    let (params, scope) = params_of(alloc, item)?;
+    let body = prog_in(alloc, names, scope.as_slice(), &item.body);
+    drop(scope);
+    let (params, body) = both(Ok(params), body)?;
     Ok(ProcItem {
         name: item.name,
         params,

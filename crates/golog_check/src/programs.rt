@@ -1,11 +1,8 @@
-ghost use Rattle.std.specs.Prelude.{◌≡◌, ◌++◌, [], ◌∷◌, map, Err, IfOk};
+ghost use Rattle.std.specs.Prelude.{◌≡◌, [], ◌∷◌, ◌++◌, map, IfOk};
 ghost use Rattle.golog_tree.specs.Ground.{to_count};
-ghost use Rattle.golog_tree.specs.declared.draft_prog.DraftProg.TheOpen.{Act, Call, Test, Pick, Star};
-ghost use Rattle.golog_tree.specs.declared.draft_prog.DraftProg.TheOpen.{While, Cstar, Search};
 ghost use Rattle.golog_check.specs.Faults.{Answers, Leaves};
 ghost use Rattle.golog_check.specs.Scope.{within};
-ghost use Rattle.golog_check.specs.Programs.{prog_step, prog_in, progs_after, progs_in, parts_in};
-ghost use Rattle.golog_check.specs.Programs.{nested, joined, with_no, with_body};
+ghost use Rattle.golog_check.specs.Programs.{prog_in, progs_after, progs_in, parts_in, nested};
 
 use crate::args::args_in;
 use crate::conditions::cond_in;
@@ -13,50 +10,42 @@ use crate::fault::CheckFault;
 use crate::names::Names;
 use crate::scope::{Variable, variable_no, within};
 use golog_base::{Boxed, List, NoMemory, Word, both};
-use golog_tree::{Cond, DraftArg, DraftCond, DraftProg, Prog};
+use golog_tree::{DraftProg, Join, Prog, join_two};
 use std::alloc::Global;
 
-/// What joins two parts of a program.
-#[derive(Clone, Copy)]
-pub enum Join {
-    Seq,
-    Choice,
-    Conc,
-    Prio,
-}
-
-fn joined(join: Join, first: Boxed<Prog>, second: Boxed<Prog>) -> Prog
-    ensures { result ≡ joined join first second }
+/// The last part behind the others, nested to the right.
+#[tactic(auto, using(crate::proofs::Nested::laws))]
+fn nested_behind(
+    alloc: Global,
+    join: Join,
+    others: &mut List<Prog>,
+    last: Prog,
+) -> Result<Prog, NoMemory>
+    ensures { IfOk result (λ prog. prog ≡ nested join (others.old ++ last ∷ [])) }
 {
-    match join {
-        Join::Seq => Prog::Seq(first, second),
-        Join::Choice => Prog::Choice(first, second),
-        Join::Conc => Prog::Conc(first, second),
-        Join::Prio => Prog::Prio(first, second),
+    let mut prog = last;
+    while let Some(part) = others.pop() {
+        prog = join_two(alloc, join, part, prog)?;
     }
-}
-
-/// Both programs, one behind the other.
-fn join_two(alloc: Global, join: Join, first: Prog, second: Prog) -> Result<Prog, NoMemory>
-    ensures { IfOk result (λ prog. prog ≡ joined join first second) }
-{
-    let (first, second) = both(Boxed::new(alloc, first), Boxed::new(alloc, second))?;
-    Ok(joined(join, first, second))
+    Ok(prog)
 }
 
 /// The parts, nested to the right: `nil` for none, and one for itself.
-#[tactic(auto, using(crate::proofs::Nested::laws))]
 fn nested(alloc: Global, join: Join, parts: List<Prog>) -> Result<Prog, NoMemory>
     ensures { IfOk result (λ prog. prog ≡ nested join parts) }
 {
     let mut parts = parts;
-    let Some(mut prog) = parts.pop() else {
-        return Ok(Prog::Nil);
-    };
-    while let Some(part) = parts.pop() {
-        prog = join_two(alloc, join, part, prog)?;
+    match parts.pop() {
+        Some(last) => {
+            let prog = nested_behind(alloc, join, &mut parts, last);
+            drop(parts);
+            prog
+        }
+        None => {
+            drop(parts);
+            Ok(Prog::Nil)
+        }
     }
-    Ok(prog)
 }
 
 /// A depth or a fuel, where one below 0 counts as none.
@@ -151,175 +140,6 @@ fn body_in(
     body
 }
 
-fn act_in(
-    alloc: Global,
-    names: &Names<'_>,
-    scope: &[Variable],
-    action: u32,
-    args: &[DraftArg],
-) -> Result<Prog, CheckFault>
-    ensures { Answers result (prog_step names.now (Act action args.now 0) scope.now) }
-{
-    let sorts = names.action_sorts(action);
-    let args = args_in(alloc, names, scope, sorts, args)?;
-    Ok(Prog::Act { action, args })
-}
-
-fn call_in(
-    alloc: Global,
-    names: &Names<'_>,
-    scope: &[Variable],
-    item: u32,
-    args: &[DraftArg],
-) -> Result<Prog, CheckFault>
-    ensures { Answers result (prog_step names.now (Call item args.now 0) scope.now) }
-{
-    let sorts = names.param_sorts(item);
-    let args = args_in(alloc, names, scope, sorts, args)?;
-    Ok(Prog::Call { item, args })
-}
-
-fn test_in(
-    alloc: Global,
-    names: &Names<'_>,
-    scope: &[Variable],
-    cond: &DraftCond,
-) -> Result<Prog, CheckFault>
-    ensures { Answers result (prog_step names.now (Test cond.now 0) scope.now) }
-{
-    let cond = cond_in(alloc, names, scope, cond)?;
-    Ok(Prog::Test(cond))
-}
-
-#[cycle(programs)]
-fn pick_in(
-    alloc: Global,
-    names: &Names<'_>,
-    scope: &[Variable],
-    word: &Word,
-    sort: u32,
-    draft: &DraftProg,
-) -> Result<Prog, CheckFault>
-    ensures { Answers result (prog_step names.now (Pick word.now sort (prog_in names.now draft.now) 0) scope.now) }
-{
-    let body = body_in(alloc, names, scope, word, sort, draft)?;
-    Ok(Prog::Pick {
-        var: variable_no(scope),
-        sort,
-        body,
-    })
-}
-
-#[cycle(programs)]
-fn star_in(
-    alloc: Global,
-    names: &Names<'_>,
-    scope: &[Variable],
-    draft: &DraftProg,
-) -> Result<Prog, CheckFault>
-    ensures { Answers result (prog_step names.now (Star (prog_in names.now draft.now) 0) scope.now) }
-{
-    let body = boxed_in(alloc, names, scope, draft)?;
-    Ok(Prog::Star(body))
-}
-
-#[cycle(programs)]
-fn cstar_in(
-    alloc: Global,
-    names: &Names<'_>,
-    scope: &[Variable],
-    draft: &DraftProg,
-) -> Result<Prog, CheckFault>
-    ensures { Answers result (prog_step names.now (Cstar (prog_in names.now draft.now) 0) scope.now) }
-{
-    let body = boxed_in(alloc, names, scope, draft)?;
-    Ok(Prog::Cstar(body))
-}
-
-/// The fault of a program whose condition was read.
-fn without(cond: Cond, fault: CheckFault) -> Result<Prog, CheckFault>
-    ensures { result ≡ Err fault }
-{
-    drop(cond);
-    Err(fault)
-}
-
-/// An `if` whose second program is still a draft.
-#[cycle(programs)]
-fn if_in(
-    alloc: Global,
-    names: &Names<'_>,
-    scope: &[Variable],
-    draft: &DraftProg,
-    cond: Cond,
-    yes: Boxed<Prog>,
-) -> Result<Prog, CheckFault>
-    ensures { Answers result (with_no cond yes (prog_in names.now draft.now scope.now)) }
-{
-    match boxed_in(alloc, names, scope, draft) {
-        Ok(no) => Ok(Prog::If { cond, yes, no }),
-        Err(fault) => {
-            drop(yes);
-            drop(cond);
-            Err(fault)
-        }
-    }
-}
-
-/// A `while` whose program is still a draft.
-#[cycle(programs)]
-fn while_with(
-    alloc: Global,
-    names: &Names<'_>,
-    scope: &[Variable],
-    draft: &DraftProg,
-    cond: Cond,
-) -> Result<Prog, CheckFault>
-    ensures { Answers result (with_body cond (prog_in names.now draft.now scope.now)) }
-{
-    match boxed_in(alloc, names, scope, draft) {
-        Ok(body) => Ok(Prog::While { cond, body }),
-        Err(fault) => {
-            drop(cond);
-            Err(fault)
-        }
-    }
-}
-
-/// A `while` whose condition is still a draft too.
-#[cycle(programs)]
-fn while_in(
-    alloc: Global,
-    names: &Names<'_>,
-    scope: &[Variable],
-    draft: &DraftProg,
-    cond: &DraftCond,
-) -> Result<Prog, CheckFault>
-    ensures { Answers result (prog_step names.now (While cond.now (prog_in names.now draft.now) 0) scope.now) }
-{
-    let cond = cond_in(alloc, names, scope, cond)?;
-    while_with(alloc, names, scope, draft, cond)
-}
-
-#[cycle(programs)]
-fn search_in(
-    alloc: Global,
-    names: &Names<'_>,
-    scope: &[Variable],
-    depth: i32,
-    fuel: i32,
-    draft: &DraftProg,
-) -> Result<Prog, CheckFault>
-    ensures { Answers result (prog_step names.now (Search depth fuel (prog_in names.now draft.now) 0) scope.now) }
-{
-    let body = boxed_in(alloc, names, scope, draft)?;
-    Ok(Prog::Search {
-        depth: count_of(depth),
-        fuel: count_of(fuel),
-        body,
-    })
-}
-
 /// What a program of a draft is in a scope, or the first term that is no term of its sort, or word that is unbound.
 #[cycle(programs)]
 #[tactic(auto, using(crate::proofs::Progs::laws))]
@@ -334,9 +154,13 @@ pub fn prog_in(
     match draft {
         DraftProg::Nil { .. } => Ok(Prog::Nil),
         DraftProg::Act { action, args, .. } => {
-            act_in(alloc, names, scope, *action, args.as_slice())
+            let sorts = names.action_sorts(*action);
+            args_in(alloc, names, scope, sorts, args.as_slice()).map(|args| Prog::Act {
+                action: *action,
+                args,
+            })
         }
-        DraftProg::Test { cond, .. } => test_in(alloc, names, scope, cond),
+        DraftProg::Test { cond, .. } => cond_in(alloc, names, scope, cond).map(Prog::Test),
         DraftProg::Seq { parts, .. } => {
             parts_in(alloc, names, scope, Join::Seq, parts.as_slice())
         }
@@ -344,35 +168,52 @@ pub fn prog_in(
             parts_in(alloc, names, scope, Join::Choice, parts.as_slice())
         }
         DraftProg::Pick {
-            var,
+            var: word,
             sort,
             body,
             ..
-        } => pick_in(alloc, names, scope, var, *sort, body.get()),
-        DraftProg::Star { body, .. } => star_in(alloc, names, scope, body.get()),
-        DraftProg::If { cond, yes, no, .. } => {
-            let cond = cond_in(alloc, names, scope, cond)?;
-            match boxed_in(alloc, names, scope, yes.get()) {
-                Ok(yes) => if_in(alloc, names, scope, no.get(), cond, yes),
-                Err(fault) => without(cond, fault),
-            }
+        } => {
+            let var = variable_no(scope);
+            body_in(alloc, names, scope, word, *sort, body.get()).map(|body| Prog::Pick {
+                var,
+                sort: *sort,
+                body,
+            })
         }
-        DraftProg::While { cond, body, .. } => while_in(alloc, names, scope, body.get(), cond),
+        DraftProg::Star { body, .. } => boxed_in(alloc, names, scope, body.get()).map(Prog::Star),
+        DraftProg::If { cond, yes, no, .. } => {
+            let cond = cond_in(alloc, names, scope, cond);
+            let yes = boxed_in(alloc, names, scope, yes.get());
+            let no = boxed_in(alloc, names, scope, no.get());
+            both(cond, both(yes, no)).map(|(cond, (yes, no))| Prog::If { cond, yes, no })
+        }
+        DraftProg::While { cond, body, .. } => {
+            let cond = cond_in(alloc, names, scope, cond);
+            let body = boxed_in(alloc, names, scope, body.get());
+            both(cond, body).map(|(cond, body)| Prog::While { cond, body })
+        }
         DraftProg::Conc { parts, .. } => {
             parts_in(alloc, names, scope, Join::Conc, parts.as_slice())
         }
         DraftProg::Prio { parts, .. } => {
             parts_in(alloc, names, scope, Join::Prio, parts.as_slice())
         }
-        DraftProg::Cstar { body, .. } => cstar_in(alloc, names, scope, body.get()),
+        DraftProg::Cstar { body, .. } => boxed_in(alloc, names, scope, body.get()).map(Prog::Cstar),
         DraftProg::Call { item, args, .. } => {
-            call_in(alloc, names, scope, *item, args.as_slice())
+            let sorts = names.param_sorts(*item);
+            args_in(alloc, names, scope, sorts, args.as_slice()).map(|args| Prog::Call {
+                item: *item,
+                args,
+            })
         }
         DraftProg::Search {
             depth,
             fuel,
             body,
             ..
-        } => search_in(alloc, names, scope, *depth, *fuel, body.get()),
+        } => {
+            let (depth, fuel) = (count_of(*depth), count_of(*fuel));
+            boxed_in(alloc, names, scope, body.get()).map(|body| Prog::Search { depth, fuel, body })
+        }
     }
 }

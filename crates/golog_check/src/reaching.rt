@@ -1,16 +1,16 @@
-ghost use Rattle.std.specs.Prelude.{◌≡◌, ◌==◌, ◌++◌, nat_lt, not, ◌&&◌, ◌||◌, List, map, length, slice_index, IfOk};
+ghost use Rattle.std.specs.Prelude.{◌≡◌, ◌==◌, ◌++◌, nat_lt, not, ◌&&◌, ◌||◌, List, map, length, replicate, slice_index, IfOk};
 ghost use Rattle.golog_semantics.specs.FrontCalls.{greatest};
 ghost use Rattle.golog_rows.specs.Least.{CodeAt, IsLeastOf};
-ghost use Rattle.golog_check.specs.Settled.{same_of, rounds_of};
-ghost use Rattle.golog_check.specs.Fronts.{nest_of_calls, nest_round, reach_round};
-ghost use Rattle.golog_check.specs.Told.{nesting, calls_told, reached_each, is_endless as spec_is_endless, reaches_itself as spec_reaches_itself};
+ghost use Rattle.golog_check.specs.Settled.{rounds_of};
+ghost use Rattle.golog_check.specs.Fronts.{nest_of_calls, nest_round};
+ghost use Rattle.golog_check.specs.Told.{nesting, reached_each, is_endless as spec_is_endless, reaches_itself as spec_reaches_itself};
 ghost use Rattle.golog_check.specs.Unguarded.{leads_to as spec_leads_to, refused_where, said as spec_said, all_front_refusals};
 
 use crate::blocks::{is_said, lesser_where};
 use crate::fault::{FRONT_DEEP, UNGUARDED};
 use crate::fronts::{Nesting, TOO_DEEP, nestings_of};
 use crate::nesting::PROC_NEST;
-use crate::rounds::{Round, rounds_of, same_of};
+use crate::rounds::{Round, rounds_of};
 use golog_base::{List, NoMemory};
 use golog_rows::Refusal;
 use golog_tree::{DraftProc, Place};
@@ -36,23 +36,6 @@ fn leads_to(goal: usize, said: &[bool], calls: &[u32]) -> bool
     false
 }
 
-/// Which procedures reach one without a step, by which do in the round before.
-fn reached_after(
-    alloc: Global,
-    items: &[Nesting],
-    goal: usize,
-    before: &[bool],
-) -> Result<List<bool>, NoMemory>
-    ensures { IfOk result (λ after. after ≡ reach_round (calls_told items.now) goal before.now) }
-{
-    let mut after = List::new(alloc);
-    for item in items {
-        let leads = leads_to(goal, before, item.calls.as_slice());
-        after.push(leads)?;
-    }
-    Ok(after)
-}
-
 /// Which procedures reach one without a step, round by round.
 #[derive(Clone, Copy)]
 struct Reaching<'a> {
@@ -74,7 +57,12 @@ impl<'a> Round for Reaching<'a> {
     }
 
     fn next(&self, alloc: Global, before: &[bool]) -> Result<List<bool>, NoMemory> {
-        reached_after(alloc, self.items, self.goal, before)
+        let mut after = List::new(alloc);
+        for item in self.items {
+            let leads = leads_to(self.goal, before, item.calls.as_slice());
+            after.push(leads)?;
+        }
+        Ok(after)
     }
 }
 
@@ -166,10 +154,10 @@ fn nests_after(alloc: Global, items: &[Nesting], before: &[u32]) -> Result<List<
 /// changes nothing.
 fn nests_of(alloc: Global, items: &[Nesting]) -> Result<List<u32>, NoMemory>
     ensures { IfOk result (λ nests. nests
-        ≡ rounds_of (nest_round 1025 (map nesting items.now)) (length items.now) (same_of (length items.now) 0)) }
+        ≡ rounds_of (nest_round 1025 (map nesting items.now)) (length items.now) (replicate (length items.now) 0)) }
 {
     let count = items.len();
-    let mut nests = same_of(alloc, count, 0)?;
+    let mut nests = List::from_vec(vec![in alloc; 0; count]?);
     for _ in 0..count {
         let next = nests_after(alloc, items, nests.as_slice())?;
         if next.as_slice() == nests.as_slice() {

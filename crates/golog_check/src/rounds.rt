@@ -1,5 +1,5 @@
-ghost use Rattle.std.specs.Prelude.{◌≡◌, false, length, IfOk};
-ghost use Rattle.golog_check.specs.Settled.{same_of, rounds_of};
+ghost use Rattle.std.specs.Prelude.{◌≡◌, false, replicate, IfOk};
+ghost use Rattle.golog_check.specs.Settled.{rounds_of};
 
 use golog_base::{List, NoMemory};
 use std::alloc::Global;
@@ -21,25 +21,14 @@ pub trait Round {
         ensures { IfOk result (λ after. after ≡ round self.now before.now) };
 }
 
-/// The same of each.
-pub fn same_of<T: Copy + Drop>(alloc: Global, count: usize, first: T) -> Result<List<T>, NoMemory>
-    ensures { IfOk result (λ all. all ≡ same_of count first) }
-{
-    let mut all = List::new(alloc);
-    for _ in 0..count {
-        all.push(first)?;
-    }
-    Ok(all)
-}
-
 /// What is said after as many rounds as there are procedures, where it is said of none first. It ends with the
 /// first round that changes nothing.
 pub fn rounds_of<R: Round>(alloc: Global, by: &R) -> Result<List<bool>, NoMemory>
     ensures { IfOk result
-        (λ said. said ≡ rounds_of (R.round by.now) (R.count by.now) (same_of (R.count by.now) false)) }
+        (λ said. said ≡ rounds_of (R.round by.now) (R.count by.now) (replicate (R.count by.now) false)) }
 {
     let count = by.count();
-    let mut said = same_of(alloc, count, false)?;
+    let mut said = List::from_vec(vec![in alloc; false; count]?);
     for _ in 0..count {
         let next = by.next(alloc, said.as_slice())?;
         if next.as_slice() == said.as_slice() {

@@ -61,11 +61,12 @@ fn sense_by(
     let sorts = names.action_sorts(item.action);
     let scope = scope_of(alloc, item.vars.as_slice(), sorts)?;
     let sorts = names.fluent_sorts(item.fluent);
-    let args = args_in(alloc, names, scope.as_slice(), sorts, item.args.as_slice())?;
+    let args = args_in(alloc, names, scope.as_slice(), sorts, item.args.as_slice());
+    drop(scope);
     Ok(SenseItem {
         action: item.action,
         fluent: item.fluent,
-        args,
+        args: args?,
     })
 }
 

@@ -1,4 +1,4 @@
-ghost use Rattle.std.specs.Prelude.{◌≡◌, ◌<◌, ℕ, map, length, slice_index, slice_get, replicate, IfOk, MatchOption, IsTrue, ◌↔◌, Some};
+ghost use Rattle.std.specs.Prelude.{◌≡◌, ◌<◌, ℕ, map, length, slice_index, slice_get, IfOk, MatchOption, IsTrue, ◌↔◌, Some};
 ghost use Rattle.golog_tree.specs.Ground.{AreWithin, IsCountable, sizes, args_at, fluent_args, ground_fluents};
 ghost use Rattle.golog_semantics.specs.Truth.{unknown};
 ghost use Rattle.golog_check.specs.Starts.{Ground, own_after, own_value, one_after, start_value};
@@ -8,17 +8,6 @@ use crate::sums::count_in;
 use golog_base::{List, NoMemory};
 use golog_tree::{Agent, fluent_no, fluent_of, sort_size};
 use std::alloc::Global;
-
-/// Every fluent unknown.
-fn all_unknown(alloc: Global, fluents: usize) -> Result<Vec<u8>, NoMemory>
-    ensures { IfOk result (λ own. own.items ≡ replicate fluents unknown) }
-{
-    let mut own = Vec::new(alloc);
-    for _ in 0..fluents {
-        own.push(UNKNOWN)?;
-    }
-    Ok(own)
-}
 
 /// Puts the start value of a fluent's own item to those of the items before it.
 fn put_own(own: &mut Vec<u8>, start: &Start)
@@ -40,7 +29,7 @@ fn own_values(alloc: Global, fluents: usize, starts: &[Start]) -> Result<Vec<u8>
         slice_index own.items fluent ≡ own_value unknown starts.now fluent) }
     ensures all { IfOk result (λ own. length own.items ≡ fluents) }
 {
-    let mut own = all_unknown(alloc, fluents)?;
+    let mut own = vec![in alloc; UNKNOWN; fluents]?;
     for start in starts {
         put_own(&mut own, start);
     }

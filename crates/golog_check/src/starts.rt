@@ -7,7 +7,7 @@ use crate::args::{arg_in, arg_place, args_in};
 use crate::checked::Checked;
 use crate::fault::{BAD_START, CheckFault};
 use crate::names::Names;
-use golog_base::{List, NoMemory};
+use golog_base::{List, NoMemory, both};
 use golog_tree::{Arg, DraftArg, DraftStart, Place};
 use std::alloc::Global;
 
@@ -96,12 +96,13 @@ fn one_in(
 ) -> Result<Start, CheckFault>
     ensures { Answers result (spec_one_in names.now fluent args.now value.now) }
 {
-    let args = args_in(alloc, names, &[], names.fluent_sorts(fluent), args)?;
-    let value = value_in(names, own_sort(names, fluent), value)?;
-    let args = constants(alloc, args.as_slice())?;
+    let args = args_in(alloc, names, &[], names.fluent_sorts(fluent), args);
+    let (args, value) = both(args, value_in(names, own_sort(names, fluent), value))?;
+    let values = constants(alloc, args.as_slice());
+    drop(args);
     Ok(Start::One {
         fluent,
-        args,
+        args: values?,
         value,
     })
 }

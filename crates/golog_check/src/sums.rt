@@ -1,10 +1,9 @@
 ghost use Rattle.std.specs.Prelude.{◌≡◌, ◌≤◌, length, map, MatchOption, Ok, Err};
-ghost use Rattle.golog_tree.specs.Ground.{item_size as spec_item_size};
 ghost use Rattle.golog_check.specs.Sums.{size_in as spec_size_in, count_in as spec_count_in, sum_from as spec_sum_from, AreSmall, HaveFewArgs};
 
 use crate::fault::GROUND_TOO_MANY;
 use golog_rows::Refusal;
-use golog_tree::{DraftAction, DraftFluent, Place, SortItem};
+use golog_tree::{DraftAction, DraftFluent, Place, SortItem, item_size};
 
 /// The most ground fluents.
 pub const GROUND_FLUENTS: u32 = 4096;
@@ -50,19 +49,6 @@ impl Counted for DraftAction {
 
     fn place(&self) -> Place {
         self.at
-    }
-}
-
-fn item_size(item: &SortItem) -> u32
-    requires { spec_item_size item.now ≤ 255 }
-    ensures { result ≡ spec_item_size item.now }
-{
-    match item {
-        SortItem::Range { low, high, .. } => {
-            let size = i64::from(*high) - i64::from(*low) + 1;
-            if size < 0 { 0 } else { size as u32 }
-        }
-        SortItem::Listed { constants, .. } => constants.len() as u32,
     }
 }
 

@@ -1,12 +1,12 @@
 ghost use Rattle.std.specs.Prelude.{◌≡◌};
 ghost use Rattle.golog_check.specs.Faults.{Answers};
-ghost use Rattle.golog_check.specs.Terms.{term_place, term_sort, term_as, term_in, common, sides_with, sides_in};
+ghost use Rattle.golog_check.specs.Terms.{term_place, term_sort, term_as, term_in, common, sides_in};
 
 use crate::args::{arg_as, arg_place, arg_sort, args_in, is_other};
 use crate::fault::{CheckFault, SORT_CLASH, refuse_where};
 use crate::names::Names;
 use crate::scope::Variable;
-use golog_base::Boxed;
+use golog_base::{Boxed, both};
 use golog_tree::{DraftTerm, Place, Term};
 use std::alloc::Global;
 
@@ -42,14 +42,10 @@ pub fn term_as(
     ensures { Answers result (term_as names.now scope.now term.now sort) }
 {
     match term {
-        DraftTerm::Arg(arg) => {
-            let arg = arg_as(names, scope, sort, arg)?;
-            Ok(Term::Arg(arg))
-        }
+        DraftTerm::Arg(arg) => arg_as(names, scope, sort, arg).map(Term::Arg),
         DraftTerm::Fluent { fluent, args, .. } => {
             let sorts = names.fluent_sorts(*fluent);
-            let args = args_in(alloc, names, scope, sorts, args.as_slice())?;
-            Ok(Term::Fluent {
+            args_in(alloc, names, scope, sorts, args.as_slice()).map(|args| Term::Fluent {
                 fluent: *fluent,
                 args,
             })
@@ -104,26 +100,6 @@ fn common(one: Option<u32>, other: Option<u32>) -> Option<u32>
     }
 }
 
-/// The two sides of a comparison, of which the second is still a draft.
-fn sides_with(
-    alloc: Global,
-    names: &Names<'_>,
-    scope: &[Variable],
-    sort: u32,
-    one: Term,
-    other: &DraftTerm,
-) -> Result<Sides, CheckFault>
-    ensures { Answers result (sides_with sort one (term_as names.now scope.now other.now sort)) }
-{
-    match term_as(alloc, names, scope, sort, other) {
-        Ok(other) => Ok(Sides { sort, one, other }),
-        Err(fault) => {
-            drop(one);
-            Err(fault)
-        }
-    }
-}
-
 /// The two sides of a comparison, which is of their sort. An order is one of whole numbers.
 #[tactic(auto, unfolding(crate::specs::Terms::sides_in))]
 pub fn sides_in(
@@ -145,6 +121,7 @@ pub fn sides_in(
         });
     };
     refuse_where(is_order && !names.is_range(sort), SORT_CLASH, at)?;
-    let one = term_as(alloc, names, scope, sort, one)?;
-    sides_with(alloc, names, scope, sort, one, other)
+    let one = term_as(alloc, names, scope, sort, one);
+    let (one, other) = both(one, term_as(alloc, names, scope, sort, other))?;
+    Ok(Sides { sort, one, other })
 }

@@ -1,5 +1,5 @@
 -- The ends of the sorts of whole numbers of a file that was read are in the range of their type.
-use Rattle.std.proofs.Common.{◌≡◌, ℕ, zero, suc, ◌<◌, ◌≤◌, ◌-◌, ◌^◌, Bool, true, false, not, ◌||◌, List, [], ◌∷◌, ◌++◌, length, map, Option, Some, None, refl, sym, ap, subst, ◌∙◌, arith, ℤ, pos, negsuc}
+use Rattle.std.proofs.Common.{◌≡◌, ℕ, zero, suc, ◌<◌, ◌≤◌, ◌-◌, ◌^◌, Bool, true, false, not, ◌||◌, List, [], ◌∷◌, ◌++◌, length, map, Option, Some, None, Result, refl, sym, ap, subst, ◌∙◌, arith, ℤ, pos, negsuc}
 use Rattle.std.specs.Prelude.{if◌then◌else◌, codes, nat_eq, nat_le, nat_lt, slice_get, FitsSigned, ⊤}
 use Rattle.std.specs.Int.{w32}
 use Rattle.golog_base.specs.Numbers.{is_number, has_sign, without_sign, amount, minus, below_zero, value}
@@ -11,7 +11,7 @@ use Rattle.golog_tree.specs.declared.draft.DraftTheory.{DraftTheory}
 use Rattle.golog_tree.specs.declared.draft.DraftSort.{DraftSort}
 use Rattle.golog_tree.specs.declared.draft.DraftSort.TheVariants.{Range, Listed}
 use Rattle.golog_semantics.specs.Text.{Text}
-use Rattle.golog_theory.specs.Reading.{gives, refused, each}
+use Rattle.golog_theory.specs.Reading.{gives, refused, outcome_behind, each}
 use Rattle.golog_theory.specs.Names.{same}
 use Rattle.golog_theory.specs.Heads.{head_word, arguments}
 use Rattle.golog_theory.specs.Parts.{word, new_name, number_of}
@@ -23,7 +23,7 @@ use Rattle.golog_theory.specs.Keywords.{item_keyword}
 use Rattle.golog_theory.specs.declared.keyword.ItemKeyword.{ItemKeyword}
 use Rattle.golog_theory.specs.declared.keyword.ItemKeyword.TheVariants as keyword
 use Rattle.golog_theory.specs.Items.{built_in, sort_read, device_read, fluent_read, start_read, action_read, exo_read, poss_read, causes_read, senses_read, read_as, read_by, item_read, items_read, theory_of}
-use Rattle.golog_theory.proofs.Yields.{Yields, gives-yields, refused-yields, row-yields, found-yields, if-yields, then-yields}
+use Rattle.golog_theory.proofs.Yields.{Yields, On, gives-yields, refused-yields, row-yields, found-yields, if-yields, then-yields}
 use Rattle.golog_check.specs.DeclaredItems.{sort_item as made_sort}
 use Rattle.golog_file.specs.Laws.{RangesOfAgentsFit}
 
@@ -122,34 +122,22 @@ module _ (theory : DraftTheory) where
 abbrev HasRanges : DraftTheory → Type 0
 HasRanges theory = AreInRange theory.sorts
 
--- an item that declares no sort leaves the sorts
 module _ (theory : DraftTheory) (have : HasRanges theory) where
-  read_as-yields : (at : ℕ) (keyword : ItemKeyword) (fs : List Form) → Yields HasRanges (read_as theory at keyword fs)
+  -- an item that declares no sort leaves the sorts
+  other-yields : {A : Type 0} (outcome : Result A (ℕ × ℕ)) (next : A → DraftTheory) → ((item : A) → HasRanges (next item)) → On HasRanges (outcome_behind outcome (λ item. gives (next item)))
+  other-yields outcome next have' = then-yields (λ _. Unit {0}) HasRanges outcome (λ item. gives (next item)) (λ x e. tt) (λ item _. gives-yields HasRanges (next item) (have' item))
+
+  read_as-yields : (at : ℕ) (own : ItemKeyword) (fs : List Form) → Yields HasRanges (read_as theory at own fs)
   unfolding read_as sort_read device_read fluent_read start_read action_read exo_read poss_read causes_read senses_read
   read_as-yields at keyword.Sort fs =
       then-yields InRange _ (sort_item theory at fs).outcome _ (sort-yields theory at fs) (λ item fits. gives-yields HasRanges _ (pushed theory.sorts item have fits))
-  read_as-yields at keyword.Device fs =
-      then-yields (λ _. Unit {0}) _ (device_item theory at fs).outcome _ (λ x e. tt) (λ item _. gives-yields HasRanges _ have)
-  read_as-yields at keyword.Fluent fs =
-      then-yields (λ _. Unit {0}) _ (fluent_item theory at fs).outcome _ (λ x e. tt) (λ item _. gives-yields HasRanges _ have)
-  read_as-yields at keyword.Start fs =
-      then-yields (λ _. Unit {0}) _ (start_item theory at fs).outcome _ (λ x e. tt) (λ item _. gives-yields HasRanges _ have)
-  read_as-yields at keyword.Action fs =
-      then-yields (λ _. Unit {0}) _ (action_item theory at fs).outcome _ (λ x e. tt) (λ item _. gives-yields HasRanges _ have)
-  read_as-yields at keyword.Exo fs =
-      then-yields (λ _. Unit {0}) _ (exo_item theory at fs).outcome _ (λ x e. tt) (λ item _. gives-yields HasRanges _ have)
-  read_as-yields at keyword.Poss fs =
-      then-yields (λ _. Unit {0}) _ (poss_item theory at fs).outcome _ (λ x e. tt) (λ item _. gives-yields HasRanges _ have)
-  read_as-yields at keyword.Causes fs =
-      then-yields (λ _. Unit {0}) _ (causes_item theory at fs).outcome _ (λ x e. tt) (λ item _. gives-yields HasRanges _ have)
-  read_as-yields at keyword.Senses fs =
-      then-yields (λ _. Unit {0}) _ (senses_item theory at fs).outcome _ (λ x e. tt) (λ item _. gives-yields HasRanges _ have)
   read_as-yields at keyword.Proc fs = gives-yields HasRanges theory have
   read_as-yields at keyword.Main fs = gives-yields HasRanges theory have
+  read_as-yields at own fs = other-yields _ _ (λ item. have)
 
-  read_by-yields : (at : ℕ) (keyword : Option ItemKeyword) (fs : List Form) → Yields HasRanges (read_by theory at keyword fs)
+  read_by-yields : (at : ℕ) (own : Option ItemKeyword) (fs : List Form) → Yields HasRanges (read_by theory at own fs)
   read_by-yields at None fs = refused-yields HasRanges 20 at
-  read_by-yields at (Some keyword) fs = read_as-yields at keyword fs
+  read_by-yields at (Some own) fs = read_as-yields at own fs
 
 items-yield : (theory : DraftTheory) → HasRanges theory → (fs : List Form) → Yields HasRanges (items_read theory fs)
 items-yield theory have [] = gives-yields HasRanges theory have

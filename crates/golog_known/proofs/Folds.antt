@@ -30,15 +30,10 @@ module _ (agent : Agent) (values : Values) (cs : List Cond) (env : Env) where
       ∙ ap or_of (map-map (truth_of agent values) (λ c. c env) cs)
 
 both_assoc : (a b c : Truth) → both (both a b) c ≡ both a (both b c)
-both_assoc Yes b c = refl
-both_assoc No b c = refl
-both_assoc Unknown Yes c = refl
-both_assoc Unknown No c = refl
 both_assoc Unknown Unknown Yes = refl
-both_assoc Unknown Unknown No = refl
-both_assoc Unknown Unknown Unknown = refl
+both_assoc _ _ _ = refl
 
-both-Yes : (t : Truth) → both t Yes ≡ t
+pub both-Yes : (t : Truth) → both t Yes ≡ t
 both-Yes Yes = refl
 both-Yes No = refl
 both-Yes Unknown = refl
@@ -49,23 +44,13 @@ either-No No = refl
 either-No Unknown = refl
 
 either_assoc : (a b c : Truth) → either (either a b) c ≡ either a (either b c)
-either_assoc Yes b c = refl
-either_assoc No Yes c = refl
 either_assoc No No Yes = refl
-either_assoc No No No = refl
-either_assoc No No Unknown = refl
 either_assoc No Unknown Yes = refl
-either_assoc No Unknown No = refl
-either_assoc No Unknown Unknown = refl
-either_assoc Unknown Yes c = refl
 either_assoc Unknown No Yes = refl
-either_assoc Unknown No No = refl
-either_assoc Unknown No Unknown = refl
 either_assoc Unknown Unknown Yes = refl
-either_assoc Unknown Unknown No = refl
-either_assoc Unknown Unknown Unknown = refl
+either_assoc _ _ _ = refl
 
-and_of-push : (ts : List Truth) (t : Truth) → and_of (ts ++ t ∷ []) ≡ both (and_of ts) t
+pub and_of-push : (ts : List Truth) (t : Truth) → and_of (ts ++ t ∷ []) ≡ both (and_of ts) t
 and_of-push [] t = both-Yes t
 and_of-push (u ∷ ts) t = ap (both u) (and_of-push ts t) ∙ sym (both_assoc u (and_of ts) t)
 

@@ -10,6 +10,7 @@ use Rattle.golog_tree.specs.declared.draft_cond.DraftCond.{DraftCond}
 use Rattle.golog_tree.specs.declared.draft_cond.DraftCond.TheVariants as cond
 use Rattle.golog_tree.specs.declared.draft_cond.DraftCond.TheOpen as draft_cond
 use Rattle.golog_tree.specs.declared.draft_cond.DraftCond.TheFolds.{fold-roll-DraftCond}
+use Rattle.golog_tree.specs.declared.draft_cond.DraftArg.{DraftArg}
 use Rattle.golog_tree.specs.declared.draft_prog.DraftProg.{DraftProg}
 use Rattle.golog_tree.specs.declared.draft_prog.DraftProg.TheVariants as prog
 use Rattle.golog_tree.specs.declared.draft_prog.DraftProg.TheOpen as draft
@@ -24,7 +25,7 @@ use Rattle.golog_theory.specs.Parts.{word, parts, number_of}
 use Rattle.golog_theory.specs.Heads.{arguments, args_of}
 use Rattle.golog_theory.specs.Conditions.{binder_of, cond_of}
 use Rattle.golog_theory.specs.Recursion.{Part}
-use Rattle.golog_theory.proofs.Inside.{Each, by_parts, end_of, Between, Stands, stands, arguments-between}
+use Rattle.golog_theory.proofs.Inside.{Each, by_parts, end_of, Between, stands, arguments-between}
 use Rattle.golog_theory.proofs.Ascend.{ascend-low, ascend-high, ascend-append}
 use Rattle.golog_theory.proofs.PlacesOfTerms.{args_of-ascend}
 use Rattle.golog_theory.proofs.PlacesOfConds.{cond_of-ascend}
@@ -90,6 +91,10 @@ module _ (theory : DraftTheory) (procs : List Declared) where
       → Ascend from (prog_places_step (map-DraftProg DraftProg (List ℕ) prog_places l)) to → Placed from to d
   by-layer from to l d e a = subst (λ places. Ascend from places to) (sym (prog-layer l d e)) a
 
+  made : (from to : ℕ) (l : DraftProg-F DraftProg) (d : DraftProg) → roll-DraftProg l ≡ d
+      → Ascend from (prog_places_step (map-DraftProg DraftProg (List ℕ) prog_places l)) to → Yields (Placed from to) (gives d)
+  made from to l d e a = gives-yields (Placed from to) d (by-layer from to l d e a)
+
   none : (from to at : ℕ) → Yields (Placed from to) (refused {A = DraftProg} 20 at)
   none from to at = refused-yields (Placed from to) 20 at
 
@@ -103,36 +108,39 @@ module _ (theory : DraftTheory) (procs : List Declared) where
       if-yields (Placed at to) (same (word f) (codes "nil")) (gives (prog.Nil at)) (refused 20 at)
       (λ _. gives-yields (Placed at to) (prog.Nil at) (nil-ascend at to at (omega (arith, size)))) (λ _. none at to at)
 
+  -- what is named, and arguments behind its name
+  named-ascend : (at : ℕ) (name : Form) (args : List Form) (to : ℕ) (item : Reading ℕ) (layer : ℕ → List DraftArg → DraftProg-F DraftProg) (make : ℕ → List DraftArg → DraftProg)
+      → ((n : ℕ) (given : List DraftArg) → roll-DraftProg (layer n given) ≡ make n given)
+      → ((n : ℕ) (given : List DraftArg) → prog_places_step (map-DraftProg DraftProg (List ℕ) prog_places (layer n given)) ≡ arg_places given)
+      → Between (at + 1) (name ∷ args) to → Yields (Placed at to) (item >>= λ n. args_of args >>= λ given. gives (make n given))
+  named-ascend at name args to item layer make rolls places b =
+      let size = (stands name b.1).size in
+      then-yields (λ _. Unit {0}) _ item.outcome _ (λ _ _. tt) (λ n _.
+      then-yields _ _ (args_of args).outcome _ (args_of-ascend (end_of name) args to b.2) (λ given a.
+      made at to (layer n given) (make n given) (rolls n given)
+      (subst (λ places. Ascend at places to) (sym (places n given)) (ascend-low at (end_of name) to (arg_places given) (omega (arith, b.0, size)) a))))
+
   act_of-ascend : (at : ℕ) (fs : List Form) (to : ℕ) → Between (at + 1) fs to → Yields (Placed at to) (act_of theory at fs)
   unfolding act_of
   act_of-ascend at [] to b = none at to at
   act_of-ascend at (name ∷ args) to b =
-      let size = (stands name b.1).size in
-      then-yields (λ _. Unit {0}) _ (named at name args (action_named theory (word name))).outcome _ (λ _ _. tt) (λ action _.
-      then-yields _ _ (args_of args).outcome _ (args_of-ascend (end_of name) args to b.2) (λ given a.
-      gives-yields (Placed at to) (prog.Act action given at)
-      (by-layer at to (draft.Act action given at) (prog.Act action given at) (prog.rolls-Act action given at)
-      (ascend-low at (end_of name) to (arg_places given) (omega (arith, b.0, size)) a))))
+      named-ascend at name args to (named at name args (action_named theory (word name))) (λ n given. draft.Act n given at) (λ n given. prog.Act n given at)
+      (λ n given. prog.rolls-Act n given at) (λ n given. refl) b
 
   call_of-ascend : (at : ℕ) (fs : List Form) (to : ℕ) → Between (at + 1) fs to → Yields (Placed at to) (call_of procs at fs)
   unfolding call_of
   call_of-ascend at [] to b = none at to at
   call_of-ascend at (name ∷ args) to b =
-      let size = (stands name b.1).size in
-      then-yields (λ _. Unit {0}) _ (named at name args (proc_named procs (word name))).outcome _ (λ _ _. tt) (λ item _.
-      then-yields _ _ (args_of args).outcome _ (args_of-ascend (end_of name) args to b.2) (λ given a.
-      gives-yields (Placed at to) (prog.Call item given at)
-      (by-layer at to (draft.Call item given at) (prog.Call item given at) (prog.rolls-Call item given at)
-      (ascend-low at (end_of name) to (arg_places given) (omega (arith, b.0, size)) a))))
+      named-ascend at name args to (named at name args (proc_named procs (word name))) (λ n given. draft.Call n given at) (λ n given. prog.Call n given at)
+      (λ n given. prog.rolls-Call n given at) (λ n given. refl) b
 
   test_of-ascend : (scope at : ℕ) (fs : List Form) (from to : ℕ) → at < from → Between from fs to → Yields (Placed at to) (test_of theory scope at (as_parts fs))
   unfolding test_of
   test_of-ascend scope at [] from to lt b = none at to at
   test_of-ascend scope at (c ∷ []) from to lt b =
       then-yields _ _ (cond_of theory c scope).outcome _ (cond_of-ascend theory c b.1 scope) (λ d a.
-      gives-yields (Placed at to) (prog.Test d at)
-      (by-layer at to (draft.Test d at) (prog.Test d at) (prog.rolls-Test d at)
-      (wider at (place_of c) (end_of c) to (cond_places d) (omega (arith, b.0)) b.2 a)))
+      made at to (draft.Test d at) (prog.Test d at) (prog.rolls-Test d at)
+      (wider at (place_of c) (end_of c) to (cond_places d) (omega (arith, b.0)) b.2 a))
   test_of-ascend scope at (c ∷ other ∷ fs) from to lt b = none at to at
 
   -- programs that stand one after another
@@ -177,8 +185,7 @@ module _ (theory : DraftTheory) (procs : List Declared) where
       then-yields (λ _. Unit {0}) _ (binder_of theory binder).outcome _ (λ _ _. tt) (λ binder' _.
       then-yields _ _ (prog_of theory procs body (scope + 1)).outcome _
       (part-ascend (scope + 1) at body to (omega (arith, b.0, b.2.0, size)) b.2.2 b.2.1 e.1.0) (λ d a.
-      gives-yields (Placed at to) (prog.Pick binder'.var binder'.sort d at)
-      (by-layer at to (draft.Pick binder'.var binder'.sort d at) (prog.Pick binder'.var binder'.sort d at) (prog.rolls-Pick binder'.var binder'.sort d at) a))))
+      made at to (draft.Pick binder'.var binder'.sort d at) (prog.Pick binder'.var binder'.sort d at) (prog.rolls-Pick binder'.var binder'.sort d at) a)))
   pick_of-ascend scope at (binder ∷ body ∷ other ∷ fs) from to lt b e = none at to at
 
   one_of-ascend : (scope at : ℕ) (fs : List Form) (from to : ℕ) → at < from → Between from fs to → Each ProgAscends fs
@@ -252,8 +259,7 @@ module _ (theory : DraftTheory) (procs : List Declared) where
       then-yields (λ _. Unit {0}) _ (number_of fuel).outcome _ (λ _ _. tt) (λ fuel' _.
       then-yields _ _ (prog_of theory procs body scope).outcome _
       (part-ascend scope at body to (omega (arith, b.0, b.2.0, b.2.2.0, size, size')) b.2.2.2 b.2.2.1 e.1.1.0) (λ d a.
-      gives-yields (Placed at to) (prog.Search depth' fuel' d at)
-      (by-layer at to (draft.Search depth' fuel' d at) (prog.Search depth' fuel' d at) (prog.rolls-Search depth' fuel' d at) a))))
+      made at to (draft.Search depth' fuel' d at) (prog.Search depth' fuel' d at) (prog.rolls-Search depth' fuel' d at) a)))
   search_of-ascend scope at (depth ∷ fuel ∷ body ∷ other ∷ fs) from to lt b e = none at to at
 
   -- The built-in condition of an interrupt stands at the place of its form, before its other parts.
@@ -288,30 +294,30 @@ module _ (theory : DraftTheory) (procs : List Declared) where
   construct_of-ascend f scope Seq fs from order lt b e =
       let at = place_of f in let to = end_of f in
       then-yields _ _ (progs_of scope (as_parts fs)).outcome _ (progs_of-ascend scope at fs from to lt b e) (λ ds a.
-      gives-yields (Placed at to) (prog.Seq ds at) (by-layer at to (draft.Seq ds at) (prog.Seq ds at) (prog.rolls-Seq ds at) a))
+      made at to (draft.Seq ds at) (prog.Seq ds at) (prog.rolls-Seq ds at) a)
   construct_of-ascend f scope Choice fs from order lt b e =
       let at = place_of f in let to = end_of f in
       then-yields _ _ (several_of scope at (as_parts fs)).outcome _ (several_of-ascend scope at fs from to lt b e) (λ ds a.
-      gives-yields (Placed at to) (prog.Choice ds at) (by-layer at to (draft.Choice ds at) (prog.Choice ds at) (prog.rolls-Choice ds at) a))
+      made at to (draft.Choice ds at) (prog.Choice ds at) (prog.rolls-Choice ds at) a)
   construct_of-ascend f scope Pick fs from order lt b e = pick_of-ascend scope (place_of f) fs from (end_of f) lt b e
   construct_of-ascend f scope Star fs from order lt b e =
       let at = place_of f in let to = end_of f in
       then-yields _ _ (one_of scope at (as_parts fs)).outcome _ (one_of-ascend scope at fs from to lt b e) (λ d a.
-      gives-yields (Placed at to) (prog.Star d at) (by-layer at to (draft.Star d at) (prog.Star d at) (prog.rolls-Star d at) a))
+      made at to (draft.Star d at) (prog.Star d at) (prog.rolls-Star d at) a)
   construct_of-ascend f scope If fs from order lt b e = if_of-ascend scope (place_of f) fs from (end_of f) lt b e
   construct_of-ascend f scope While fs from order lt b e = while_of-ascend scope (place_of f) fs from (end_of f) lt b e
   construct_of-ascend f scope Conc fs from order lt b e =
       let at = place_of f in let to = end_of f in
       then-yields _ _ (several_of scope at (as_parts fs)).outcome _ (several_of-ascend scope at fs from to lt b e) (λ ds a.
-      gives-yields (Placed at to) (prog.Conc ds at) (by-layer at to (draft.Conc ds at) (prog.Conc ds at) (prog.rolls-Conc ds at) a))
+      made at to (draft.Conc ds at) (prog.Conc ds at) (prog.rolls-Conc ds at) a)
   construct_of-ascend f scope Prio fs from order lt b e =
       let at = place_of f in let to = end_of f in
       then-yields _ _ (several_of scope at (as_parts fs)).outcome _ (several_of-ascend scope at fs from to lt b e) (λ ds a.
-      gives-yields (Placed at to) (prog.Prio ds at) (by-layer at to (draft.Prio ds at) (prog.Prio ds at) (prog.rolls-Prio ds at) a))
+      made at to (draft.Prio ds at) (prog.Prio ds at) (prog.rolls-Prio ds at) a)
   construct_of-ascend f scope Cstar fs from order lt b e =
       let at = place_of f in let to = end_of f in
       then-yields _ _ (one_of scope at (as_parts fs)).outcome _ (one_of-ascend scope at fs from to lt b e) (λ d a.
-      gives-yields (Placed at to) (prog.Cstar d at) (by-layer at to (draft.Cstar d at) (prog.Cstar d at) (prog.rolls-Cstar d at) a))
+      made at to (draft.Cstar d at) (prog.Cstar d at) (prog.rolls-Cstar d at) a)
   construct_of-ascend f scope Call fs from order lt b e = call_of-ascend (place_of f) (arguments f) (end_of f) (arguments-between f order)
   construct_of-ascend f scope Search fs from order lt b e = search_of-ascend scope (place_of f) fs from (end_of f) lt b e
   construct_of-ascend f scope Interrupt fs from order lt b e = interrupt_of-ascend scope (place_of f) fs from (end_of f) lt b e

@@ -39,6 +39,7 @@ use Rattle.golog_semantics.specs.BlockFree.{block_at, proc_blocks}
 use Rattle.golog_semantics.specs.Written.{Wording, is_amount, written_cond_step, written_term_step, is_written_cond, written_prog_step, is_written_prog}
 use Rattle.golog_semantics.proofs.Among.{among-get}
 use Rattle.golog_semantics.proofs.Words.{and-left, and-right, and-both}
+use Rattle.golog_check.proofs.Layers.{fits-cond, fits-prog, fits-term, way_fits, way_written, written-cond, written-prog, written-term}
 use Rattle.golog_prog.specs.Printing.{stem_text, sign_text, truth_text, sort_name, fluent_name, action_name, proc_name, fluent_sorts, action_sorts, proc_sorts, variable_text, arg_text, args_texts}
 use Rattle.golog_prog.proofs.PrintedForms as form
 use Rattle.golog_prog.proofs.PrintedForms.{atom, list, binder_form, fluent_form, term_form, cond_form, prog_form, form-term, form-cond}
@@ -194,18 +195,6 @@ module _ (agent : Agent) (formed : WellFormed agent) (ranges : RangesFit agent) 
   abbrev cond_of : Cond-F AC AT → Cond-F Cond Term
   cond_of y = map-Cond AC AT Cond Term (λ e. e.0) (λ e. e.0) y
 
-  fits-term : (l : Term-F Cond Term) → term_fits agent (roll-Term l) ≡ fits.term_step agent (map-Term Cond Term (fits.Scope → Bool) (fits.Scope → ℕ → Bool) (cond_fits agent) (term_fits agent) l)
-  fits-term l = fold-roll-Term (fits.Scope → Bool) (fits.Scope → ℕ → Bool) (fits.cond_step agent) (fits.term_step agent) l
-
-  fits-cond : (l : Cond-F Cond Term) → cond_fits agent (roll-Cond l) ≡ fits.cond_step agent (map-Cond Cond Term (fits.Scope → Bool) (fits.Scope → ℕ → Bool) (cond_fits agent) (term_fits agent) l)
-  fits-cond l = fold-roll-Cond (fits.Scope → Bool) (fits.Scope → ℕ → Bool) (fits.cond_step agent) (fits.term_step agent) l
-
-  written-term : (l : Term-F Cond Term) → wording (roll-Term l) ≡ written_term_step agent (map-Term Cond Term (ℕ → Bool) Wording (is_written_cond agent) wording l)
-  written-term l = fold-roll-Term (ℕ → Bool) Wording (written_cond_step agent) (written_term_step agent) l
-
-  written-cond : (l : Cond-F Cond Term) → is_written_cond agent (roll-Cond l) ≡ written_cond_step agent (map-Cond Cond Term (ℕ → Bool) Wording (is_written_cond agent) wording l)
-  written-cond l = fold-roll-Cond (ℕ → Bool) Wording (written_cond_step agent) (written_term_step agent) l
-
   atoms-term : (y : Term-F AC AT) (scope : fits.Scope) → FewBound scope → (sort : ℕ)
       → fits.term_step agent (map-Term Cond Term (fits.Scope → Bool) (fits.Scope → ℕ → Bool) (cond_fits agent) (term_fits agent) (term_of y)) scope sort ≡ true
       → (written_term_step agent (map-Term Cond Term (ℕ → Bool) Wording (is_written_cond agent) wording (term_of y))).written ≡ true
@@ -224,8 +213,8 @@ module _ (agent : Agent) (formed : WellFormed agent) (ranges : RangesFit agent) 
   term-layer y scope few sort h w =
       ap (λ (f : ℕ → Form). atoms_fit (f sort)) (form-term agent stem (term_of y))
       ∙ atoms-term y scope few sort
-      (sym (ap (λ (f : fits.Scope → ℕ → Bool). f scope sort) (fits-term (term_of y))) ∙ h)
-      (sym (ap (λ (x : Wording). x.written) (written-term (term_of y))) ∙ w)
+      (sym (ap (λ (f : fits.Scope → ℕ → Bool). f scope sort) (fits-term agent (term_of y))) ∙ h)
+      (sym (ap (λ (x : Wording). x.written) (written-term agent (term_of y))) ∙ w)
 
   -- two sides in a list behind a sign
   sides-atoms : (sign : Text) (one other : AT) (scope : fits.Scope) → FewBound scope → (sort : ℕ) → atom_fits sign ≡ true → (of_sort shown : Bool)
@@ -294,8 +283,8 @@ module _ (agent : Agent) (formed : WellFormed agent) (ranges : RangesFit agent) 
   cond-layer y scope few n h w =
       ap atoms_fit (form-cond agent stem (cond_of y))
       ∙ atoms-cond y scope few n
-      (sym (ap (λ (f : fits.Scope → Bool). f scope) (fits-cond (cond_of y))) ∙ h)
-      (sym (ap (λ (f : ℕ → Bool). f n) (written-cond (cond_of y))) ∙ w)
+      (sym (ap (λ (f : fits.Scope → Bool). f scope) (fits-cond agent (cond_of y))) ∙ h)
+      (sym (ap (λ (f : ℕ → Bool). f n) (written-cond agent (cond_of y))) ∙ w)
 
   pub cond-atoms : (c : Cond) → CondAtoms c
   cond-atoms = ind-Cond CondAtoms TermAtoms (λ x y is. subst (λ z. CondAtoms (roll-Cond z)) is (cond-layer y)) (λ x y is. subst (λ z. TermAtoms (roll-Term z)) is (term-layer y))
@@ -312,20 +301,8 @@ module _ (agent : Agent) (formed : WellFormed agent) (ranges : RangesFit agent) 
   abbrev prog_of : Prog-F AP AW → Prog-F Prog Way
   prog_of y = map-Prog AP AW Prog Way (λ e. e.0) (λ e. e.0) y
 
-  abbrev way_fits : Way → Position → Bool
-  way_fits = fold-Way (Position → Bool) (Position → Bool) (within.prog_step agent) (within.way_step agent)
-
-  abbrev way_written : Way → Bool
-  way_written = fold-Way (ℕ → Bool) Bool (written_prog_step agent) (λ w. false)
-
   abbrev way_form : Way → Form
   way_form = fold-Way Form Form (form.prog_step agent stem) (λ _. list [])
-
-  fits-prog : (l : Prog-F Prog Way) → prog_fits agent (roll-Prog l) ≡ within.prog_step agent (map-Prog Prog Way (Position → Bool) (Position → Bool) (prog_fits agent) way_fits l)
-  fits-prog l = fold-roll-Prog (Position → Bool) (Position → Bool) (within.prog_step agent) (within.way_step agent) l
-
-  written-prog : (l : Prog-F Prog Way) → is_written_prog agent (roll-Prog l) ≡ written_prog_step agent (map-Prog Prog Way (ℕ → Bool) Bool (is_written_prog agent) way_written l)
-  written-prog l = fold-roll-Prog (ℕ → Bool) Bool (written_prog_step agent) (λ w. false) l
 
   two-progs : (word : Text) (p q : AP) (at : Position) → FewBound at.scope → (n : ℕ) → atom_fits word ≡ true → (prog_fits agent p.0 at && prog_fits agent q.0 at) ≡ true
       → (is_written_prog agent p.0 n && is_written_prog agent q.0 n) ≡ true → atoms_fit (list (atom word ∷ prog_form agent stem p.0 ∷ prog_form agent stem q.0 ∷ [])) ≡ true
@@ -367,8 +344,8 @@ module _ (agent : Agent) (formed : WellFormed agent) (ranges : RangesFit agent) 
       (between-small 1 64 depth (and-right (not at.in_block) (within.is_between 1 64 depth) front), between-small 1 100000 fuel (and-right (not at.in_block && within.is_between 1 64 depth) (within.is_between 1 100000 fuel) h))
 
   atoms-prog : (y : Prog-F AP AW) (at : Position) → FewBound at.scope → (n : ℕ)
-      → within.prog_step agent (map-Prog Prog Way (Position → Bool) (Position → Bool) (prog_fits agent) way_fits (prog_of y)) at ≡ true
-      → written_prog_step agent (map-Prog Prog Way (ℕ → Bool) Bool (is_written_prog agent) way_written (prog_of y)) n ≡ true
+      → within.prog_step agent (map-Prog Prog Way (Position → Bool) (Position → Bool) (prog_fits agent) (way_fits agent) (prog_of y)) at ≡ true
+      → written_prog_step agent (map-Prog Prog Way (ℕ → Bool) Bool (is_written_prog agent) (way_written agent) (prog_of y)) n ≡ true
       → atoms_fit (form.prog_step agent stem (map-Prog Prog Way Form Form (prog_form agent stem) way_form (prog_of y))) ≡ true
   atoms-prog Nil at few n h w = atoms-atom (codes "nil") ∙ refl
   atoms-prog (Act action args) at few n h w = act-atoms at few action args h
@@ -411,8 +388,8 @@ module _ (agent : Agent) (formed : WellFormed agent) (ranges : RangesFit agent) 
   prog-layer y at few n h w =
       ap atoms_fit (fold-roll-Prog Form Form (form.prog_step agent stem) (λ _. list []) (prog_of y))
       ∙ atoms-prog y at few n
-      (sym (ap (λ (f : Position → Bool). f at) (fits-prog (prog_of y))) ∙ h)
-      (sym (ap (λ (f : ℕ → Bool). f n) (written-prog (prog_of y))) ∙ w)
+      (sym (ap (λ (f : Position → Bool). f at) (fits-prog agent (prog_of y))) ∙ h)
+      (sym (ap (λ (f : ℕ → Bool). f n) (written-prog agent (prog_of y))) ∙ w)
 
   pub prog-atoms : (p : Prog) → ProgAtoms p
   prog-atoms = ind-Prog ProgAtoms (λ _. Unit {0}) (λ x y is. subst (λ z. ProgAtoms (roll-Prog z)) is (prog-layer y)) (λ x y is. tt)

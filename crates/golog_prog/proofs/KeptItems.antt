@@ -1,6 +1,6 @@
 -- What each item of a program keeps: its names are new, and its body keeps the rules of programs, whichever
 -- procedures have so many parameters as are declared.
-use Rattle.std.proofs.Common.{◌≡◌, ℕ, suc, ◌+◌, ◌<◌, ◌≤◌, Bool, true, false, not, ◌&&◌, ◌||◌, List, [], ◌∷◌, ◌++◌, length, map, Option, Some, None, Ok, refl, sym, ap, subst, ◌∙◌, arith}
+use Rattle.std.proofs.Common.{◌≡◌, ℕ, suc, ◌+◌, ◌<◌, ◌≤◌, Bool, true, false, not, ◌||◌, List, [], ◌∷◌, ◌++◌, length, map, Option, Some, None, Ok, refl, sym, ap, subst, ◌∙◌, arith}
 use Rattle.std.specs.Prelude.{if◌then◌else◌, nat_le, nat_lt, is_none, is_some, unwrap_or}
 use Rattle.std.specs.List.{list_all, list_any, IsDistinct}
 use Rattle.std.proofs.lemmas.List.{map-append}
@@ -21,10 +21,9 @@ use Rattle.golog_theory.specs.Before.{before}
 use Rattle.golog_semantics.specs.BuiltIn.{same_text}
 use Rattle.golog_draft.specs.Drafts.{BeginsBuiltIn, is_draft_sort, draft_args_keep, prog_keeps, param_words}
 use Rattle.golog_theory.proofs.Yields.{Yields, gives-yields, refused-yields, row-yields, if-yields, then-yields, each-yields}
-use Rattle.golog_theory.proofs.Kept.{or_left, or_right, not_true, all_push, sort_of-yields}
-use Rattle.golog_theory.proofs.KeptTheory.{all_still, and_still}
+use Rattle.golog_theory.proofs.Kept.{or_left, or_right, not_true, all_push, all_still, and_still, sort_of-yields}
 use Rattle.golog_prog.specs.declared.procedures.Declared.{Declared}
-use Rattle.golog_prog.specs.Procedures.{is_word, with_params, with_list, by_shape}
+use Rattle.golog_prog.specs.Procedures.{is_word, with_list, by_shape}
 use Rattle.golog_prog.specs.Programs.{prog_of}
 use Rattle.golog_prog.specs.Items.{proc_name, param_var, param_by, param_of, params_of, proc_item, main_by, main_item}
 use Rattle.golog_prog.proofs.Earlier.{knows-sort, before-knows}

@@ -1,6 +1,6 @@
 -- What a program keeps: what it names is declared, with as many arguments as declared, and not too many variables
 -- are in scope.
-use Rattle.std.proofs.Common.{◌≡◌, ℕ, ◌+◌, ◌<◌, ◌≤◌, zero, suc, ℤ, Bool, true, false, not, ◌&&◌, ◌==◌, List, [], ◌∷◌, ◌++◌, length, map, take, Option, Some, None, refl, sym, ap, subst, ◌∙◌, arith}
+use Rattle.std.proofs.Common.{◌≡◌, ℕ, ◌+◌, ◌<◌, zero, suc, Bool, true, false, not, ◌&&◌, ◌==◌, List, [], ◌∷◌, ◌++◌, length, map, take, Option, Some, None, refl, sym, ap, subst, ◌∙◌, arith}
 use Rattle.std.specs.Prelude.{if◌then◌else◌, codes, nat_le, nat_lt, slice_get, position}
 use Rattle.std.specs.List.{list_all}
 use Rattle.std.specs.Option.{option_map_or}
@@ -29,7 +29,7 @@ use Rattle.golog_theory.specs.Heads.{arguments, args_of}
 use Rattle.golog_theory.specs.Conditions.{binder_of, cond_of}
 use Rattle.golog_theory.specs.Recursion.{Part}
 use Rattle.golog_semantics.specs.Ways.{is_empty}
-use Rattle.golog_draft.specs.Drafts.{BeginsBuiltIn, signature, fluent_keeps, binder_keeps, cond_keeps, is_draft_sort, draft_action_at, act_keeps, call_keeps, prog_keeps_step, prog_keeps, draft_running, draft_own_action}
+use Rattle.golog_draft.specs.Drafts.{BeginsBuiltIn, signature, cond_keeps, draft_action_at, act_keeps, call_keeps, prog_keeps_step, prog_keeps, draft_running, draft_own_action}
 use Rattle.golog_theory.proofs.Inside.{Each, by_parts}
 use Rattle.golog_theory.proofs.Yields.{Yields, gives-yields, refused-yields, row-yields, if-yields, then-yields}
 use Rattle.golog_theory.proofs.Kept.{all_push}
@@ -153,6 +153,11 @@ module _ (theory known : DraftTheory) (declared : List Declared) (procs : List D
   abbrev Keeps : ℕ → DraftProg → Type 0
   Keeps scope d = keeps d scope ≡ true
 
+  -- a program that a part gives
+  made : (l : DraftProg-F DraftProg) (d : DraftProg) (scope : ℕ) → roll-DraftProg l ≡ d
+      → prog_keeps_step theory procs (map-DraftProg DraftProg (ℕ → Bool) keeps l) scope ≡ true → Yields (Keeps scope) (gives d)
+  made l d scope e k = gives-yields (Keeps scope) d (by-layer l d scope e k)
+
   abbrev IsKept : Form → Type 0
   IsKept f = (scope : ℕ) → Yields (Keeps scope) (prog_of known declared f scope)
 
@@ -194,23 +199,28 @@ module _ (theory known : DraftTheory) (declared : List Declared) (procs : List D
       ∙ through (λ (proc : Declared). proc.params) test declared named.is.item
       ∙ of_declared
 
+  called-yields : (scope : ℕ) (args : List Form) (item : Reading ℕ) (Is : ℕ → Type 0) (make : ℕ → List DraftArg → DraftProg) → Yields Is item
+      → ((n : ℕ) (given : List DraftArg) → Is n → length given ≡ length args → Keeps scope (make n given))
+      → Yields (Keeps scope) (item >>= λ n. args_of args >>= λ given. gives (make n given))
+  called-yields scope args item Is make is keep =
+      then-yields _ _ item.outcome _ is (λ n named.
+      then-yields _ _ (args_of args).outcome _ (args_of-yields args) (λ given count. gives-yields (Keeps scope) (make n given) (keep n given named count)))
+
   act_of-yields : (scope at : ℕ) (fs : List Form) → Yields (Keeps scope) (act_of known at fs)
   unfolding act_of
   act_of-yields scope at [] = none scope at
   act_of-yields scope at (name ∷ args) =
-      then-yields _ _ (named at name args (action_named known (word name))).outcome _ (named-yields at name args (action_named known (word name))) (λ action is.
-      then-yields _ _ (args_of args).outcome _ (args_of-yields args) (λ given count.
-      gives-yields (Keeps scope) (prog.Act action given at)
-      (by-layer (draft.Act action given at) (prog.Act action given at) scope (prog.rolls-Act action given at) (act-keeps (word name) args action given is count))))
+      let callee = action_named known (word name) in
+      called-yields scope args (named at name args callee) (IsNamed args callee) (λ action given. prog.Act action given at) (named-yields at name args callee) (λ action given is count.
+      by-layer (draft.Act action given at) (prog.Act action given at) scope (prog.rolls-Act action given at) (act-keeps (word name) args action given is count))
 
   call_of-yields : (scope at : ℕ) (fs : List Form) → Yields (Keeps scope) (call_of declared at fs)
   unfolding call_of
   call_of-yields scope at [] = none scope at
   call_of-yields scope at (name ∷ args) =
-      then-yields _ _ (named at name args (proc_named declared (word name))).outcome _ (named-yields at name args (proc_named declared (word name))) (λ item is.
-      then-yields _ _ (args_of args).outcome _ (args_of-yields args) (λ given count.
-      gives-yields (Keeps scope) (prog.Call item given at)
-      (by-layer (draft.Call item given at) (prog.Call item given at) scope (prog.rolls-Call item given at) (call-keeps (word name) args item given is count))))
+      let callee = proc_named declared (word name) in
+      called-yields scope args (named at name args callee) (IsNamed args callee) (λ item given. prog.Call item given at) (named-yields at name args callee) (λ item given is count.
+      by-layer (draft.Call item given at) (prog.Call item given at) scope (prog.rolls-Call item given at) (call-keeps (word name) args item given is count))
 
   -- a condition over what is known
   abbrev CondKept : ℕ → DraftCond → Type 0
@@ -224,7 +234,7 @@ module _ (theory known : DraftTheory) (declared : List Declared) (procs : List D
   test_of-yields scope at [] = none scope at
   test_of-yields scope at (c ∷ []) =
       then-yields _ _ (cond_of known c scope).outcome _ (cond-yields c scope) (λ cond k.
-      gives-yields (Keeps scope) (prog.Test cond at) (by-layer (draft.Test cond at) (prog.Test cond at) scope (prog.rolls-Test cond at) k))
+      made (draft.Test cond at) (prog.Test cond at) scope (prog.rolls-Test cond at) k)
   test_of-yields scope at (c ∷ other ∷ fs) = none scope at
 
   -- programs, each of which keeps its rules
@@ -259,9 +269,7 @@ module _ (theory known : DraftTheory) (declared : List Declared) (procs : List D
       row-yields (Keeps scope) (nat_le 32 scope) (25, at) _ (λ few.
       then-yields _ _ (binder_of known binder).outcome _ (binder_of-yields known binder) (λ b is.
       then-yields _ _ (prog_of known declared body (scope + 1)).outcome _ (e.1.0 (scope + 1)) (λ d k.
-      gives-yields (Keeps scope) (prog.Pick b.var b.sort d at)
-      (by-layer (draft.Pick b.var b.sort d at) (prog.Pick b.var b.sort d at) scope (prog.rolls-Pick b.var b.sort d at)
-      (rw (room scope few, knows-sort known theory knows b.sort is, k) refl)))))
+      made (draft.Pick b.var b.sort d at) (prog.Pick b.var b.sort d at) scope (prog.rolls-Pick b.var b.sort d at) (rw (room scope few, knows-sort known theory knows b.sort is, k) refl))))
   pick_of-yields scope at (binder ∷ body ∷ other ∷ fs) e = none scope at
 
   one_of-yields : (scope at : ℕ) (fs : List Form) → Each IsKept fs → Yields (Keeps scope) (one_of scope at (as_parts fs))
@@ -319,8 +327,7 @@ module _ (theory known : DraftTheory) (declared : List Declared) (procs : List D
       then-yields (λ _. Unit {0}) _ (number_of depth).outcome _ (λ x is. tt) (λ depth' _.
       then-yields (λ _. Unit {0}) _ (number_of fuel).outcome _ (λ x is. tt) (λ fuel' _.
       then-yields _ _ (prog_of known declared body scope).outcome _ (e.1.1.0 scope) (λ d k.
-      gives-yields (Keeps scope) (prog.Search depth' fuel' d at)
-      (by-layer (draft.Search depth' fuel' d at) (prog.Search depth' fuel' d at) scope (prog.rolls-Search depth' fuel' d at) k))))
+      made (draft.Search depth' fuel' d at) (prog.Search depth' fuel' d at) scope (prog.rolls-Search depth' fuel' d at) k)))
   search_of-yields scope at (depth ∷ fuel ∷ body ∷ other ∷ fs) e = none scope at
 
   -- what is built in
@@ -374,30 +381,30 @@ module _ (theory known : DraftTheory) (declared : List Declared) (procs : List D
   construct_of-yields f scope Seq fs e =
       let at = place_of f in
       then-yields _ _ (progs_of scope (as_parts fs)).outcome _ (progs_of-yields scope fs e) (λ ds k.
-      gives-yields (Keeps scope) (prog.Seq ds at) (by-layer (draft.Seq ds at) (prog.Seq ds at) scope (prog.rolls-Seq ds at) (mapped scope ds k)))
+      made (draft.Seq ds at) (prog.Seq ds at) scope (prog.rolls-Seq ds at) (mapped scope ds k))
   construct_of-yields f scope Choice fs e =
       let at = place_of f in
       then-yields _ _ (several_of scope at (as_parts fs)).outcome _ (several_of-yields scope at fs e) (λ ds k.
-      gives-yields (Keeps scope) (prog.Choice ds at) (by-layer (draft.Choice ds at) (prog.Choice ds at) scope (prog.rolls-Choice ds at) (mapped scope ds k)))
+      made (draft.Choice ds at) (prog.Choice ds at) scope (prog.rolls-Choice ds at) (mapped scope ds k))
   construct_of-yields f scope Pick fs e = pick_of-yields scope (place_of f) fs e
   construct_of-yields f scope Star fs e =
       let at = place_of f in
       then-yields _ _ (one_of scope at (as_parts fs)).outcome _ (one_of-yields scope at fs e) (λ d k.
-      gives-yields (Keeps scope) (prog.Star d at) (by-layer (draft.Star d at) (prog.Star d at) scope (prog.rolls-Star d at) k))
+      made (draft.Star d at) (prog.Star d at) scope (prog.rolls-Star d at) k)
   construct_of-yields f scope If fs e = if_of-yields scope (place_of f) fs e
   construct_of-yields f scope While fs e = while_of-yields scope (place_of f) fs e
   construct_of-yields f scope Conc fs e =
       let at = place_of f in
       then-yields _ _ (several_of scope at (as_parts fs)).outcome _ (several_of-yields scope at fs e) (λ ds k.
-      gives-yields (Keeps scope) (prog.Conc ds at) (by-layer (draft.Conc ds at) (prog.Conc ds at) scope (prog.rolls-Conc ds at) (mapped scope ds k)))
+      made (draft.Conc ds at) (prog.Conc ds at) scope (prog.rolls-Conc ds at) (mapped scope ds k))
   construct_of-yields f scope Prio fs e =
       let at = place_of f in
       then-yields _ _ (several_of scope at (as_parts fs)).outcome _ (several_of-yields scope at fs e) (λ ds k.
-      gives-yields (Keeps scope) (prog.Prio ds at) (by-layer (draft.Prio ds at) (prog.Prio ds at) scope (prog.rolls-Prio ds at) (mapped scope ds k)))
+      made (draft.Prio ds at) (prog.Prio ds at) scope (prog.rolls-Prio ds at) (mapped scope ds k))
   construct_of-yields f scope Cstar fs e =
       let at = place_of f in
       then-yields _ _ (one_of scope at (as_parts fs)).outcome _ (one_of-yields scope at fs e) (λ d k.
-      gives-yields (Keeps scope) (prog.Cstar d at) (by-layer (draft.Cstar d at) (prog.Cstar d at) scope (prog.rolls-Cstar d at) k))
+      made (draft.Cstar d at) (prog.Cstar d at) scope (prog.rolls-Cstar d at) k)
   construct_of-yields f scope Call fs e = call_of-yields scope (place_of f) (arguments f)
   construct_of-yields f scope Search fs e = search_of-yields scope (place_of f) fs e
   construct_of-yields f scope Interrupt fs e = interrupt_of-yields scope (place_of f) fs e

@@ -1,6 +1,6 @@
 -- The rows of a program stand in order, within the places of its form.
-use Rattle.std.proofs.Common.{◌≡◌, ℕ, ◌+◌, ◌*◌, ◌<◌, ◌≤◌, Bool, true, false, ℤ, List, [], ◌∷◌, ◌++◌, map, length, Option, Some, None, refl, sym, ap, subst, ◌∙◌, arith}
-use Rattle.std.specs.Prelude.{if◌then◌else◌, codes}
+use Rattle.std.proofs.Common.{ℕ, ◌+◌, ◌*◌, ◌<◌, ◌≤◌, List, [], ◌∷◌, map, length, Option, Some, None, refl, sym, subst, arith}
+use Rattle.std.specs.Prelude.{codes}
 use Rattle.golog_base.specs.Names.{is_name}
 use Rattle.golog_form.specs.declared.form.Form.{Form}
 use Rattle.golog_form.specs.Shape.{place_of}
@@ -16,9 +16,9 @@ use Rattle.golog_theory.specs.Parts.{word, parts, number_of}
 use Rattle.golog_theory.specs.Heads.{arguments, args_of}
 use Rattle.golog_theory.specs.Conditions.{binder_of, cond_of}
 use Rattle.golog_theory.specs.Recursion.{Part}
-use Rattle.golog_rows.proofs.Chain.{key, Chain, chain-low, chain-high, Spans, then-chain, then-spans, gives-spans, Parts, ReadsFrom, each-spans, if-chain}
-use Rattle.golog_theory.proofs.Inside.{Each, by_parts, end_of, Between, Stands, stands, between-from, arguments-between}
-use Rattle.golog_theory.proofs.Tables.{Covers, between-le, number_of-covers, args_of-spans}
+use Rattle.golog_rows.proofs.Chain.{Chain, chain-low, chain-high, Spans, then-spans, gives-spans, Parts, ReadsFrom, each-spans, if-chain}
+use Rattle.golog_theory.proofs.Inside.{Each, by_parts, end_of, Between, stands, arguments-between}
+use Rattle.golog_theory.proofs.Tables.{Covers, row-chain, between-le, number_of-covers, args_of-spans}
 use Rattle.golog_theory.proofs.Nested.{within, refused-covers, cond_of-covers, first-spans, last-spans, binder_of-covers}
 use Rattle.golog_prog.specs.declared.callees.Callee.{Callee}
 use Rattle.golog_prog.specs.declared.keyword.Keyword.{Keyword}
@@ -113,27 +113,19 @@ module _ (theory : DraftTheory) (procs : List Declared) where
 
   several_of-spans : (scope at : ℕ) (fs : List Form) (from to : ℕ) → at < from → Between from fs to → Each ProgCovers fs → Spans at to (several_of scope at (as_parts fs))
   unfolding several_of
-  several_of-spans scope at fs from to lt b e = (
-    omega arith,
-    omega arith,
-    omega arith,
-    chain-low (key at 20) (64 * from) (64 * to) (progs_of scope (as_parts fs)).rows (omega arith) (progs_of-spans scope fs from to b e),
-  )
+  several_of-spans scope at fs from to lt b e =
+      row-chain (64 * at) (64 * from) (64 * to) 20 at (progs_of scope (as_parts fs)).rows refl (omega arith) (omega arith) (progs_of-spans scope fs from to b e)
 
   pick_of-spans : (scope at : ℕ) (fs : List Form) (from to : ℕ) → at < from → at < to → Between from fs to → Each ProgCovers fs → Spans at to (pick_of theory scope at (as_parts fs))
   unfolding pick_of
   pick_of-spans scope at [] from to lt size b e = none at to size
   pick_of-spans scope at (binder ∷ []) from to lt size b e = none at to size
-  pick_of-spans scope at (binder ∷ body ∷ []) from to lt size b e = (
-    omega arith,
-    omega arith,
-    omega arith,
-    chain-low (key at 25) (64 * from) (64 * to) _ (omega arith)
-        (first-spans from binder (body ∷ []) to (binder_of theory binder)
-        (λ binder. prog_of theory procs body (scope + 1) >>= λ body. gives (prog.Pick binder.var binder.sort body at)) b (binder_of-covers theory binder b.1)
-        (λ binder'. last-spans (end_of binder) body to (prog_of theory procs body (scope + 1)) (λ body. prog.Pick binder'.var binder'.sort body at) b.2
-        (e.1.0 b.2.1 (scope + 1)))),
-  )
+  pick_of-spans scope at (binder ∷ body ∷ []) from to lt size b e =
+      row-chain (64 * at) (64 * from) (64 * to) 25 at _ refl (omega arith) (omega arith)
+      (first-spans from binder (body ∷ []) to (binder_of theory binder)
+      (λ binder. prog_of theory procs body (scope + 1) >>= λ body. gives (prog.Pick binder.var binder.sort body at)) b (binder_of-covers theory binder b.1)
+      (λ binder'. last-spans (end_of binder) body to (prog_of theory procs body (scope + 1)) (λ body. prog.Pick binder'.var binder'.sort body at) b.2
+      (e.1.0 b.2.1 (scope + 1))))
   pick_of-spans scope at (binder ∷ body ∷ other ∷ fs) from to lt size b e = none at to size
 
   one_of-spans : (scope at : ℕ) (fs : List Form) (from to : ℕ) → at < from → at < to → Between from fs to → Each ProgCovers fs → Spans at to (one_of scope at (as_parts fs))

@@ -1,6 +1,6 @@
 -- The rows of every item of a program stand in order, within the places of the item, and so do those of a file.
-use Rattle.std.proofs.Common.{◌≡◌, ℕ, ◌+◌, ◌*◌, ◌<◌, ◌≤◌, Bool, true, false, List, [], ◌∷◌, ◌++◌, length, Option, Some, None, Result, Ok, Err, refl, ap, ◌∙◌, arith}
-use Rattle.std.specs.Prelude.{if◌then◌else◌, codes, is_some, ◌||◌}
+use Rattle.std.proofs.Common.{◌≡◌, ℕ, ◌+◌, ◌*◌, ◌<◌, true, List, [], ◌∷◌, ◌++◌, length, Option, Some, None, Result, refl, arith}
+use Rattle.std.specs.Prelude.{if◌then◌else◌, codes, is_some}
 use Rattle.std.specs.List.{list_any}
 use Rattle.golog_form.specs.declared.form.Form.{Form}
 use Rattle.golog_form.specs.Shape.{place_of}
@@ -13,13 +13,13 @@ use Rattle.golog_tree.specs.declared.draft.DraftProgram.{DraftProgram}
 use Rattle.golog_theory.specs.declared.fault.TheoryFault.{TheoryFault}
 use Rattle.golog_theory.specs.Reading.{Reading, code_at, Answers, gives, refused, ◌>>=◌, found, each}
 use Rattle.golog_theory.specs.Names.{same}
-use Rattle.golog_theory.specs.Parts.{word, parts, short_name, sort_of}
+use Rattle.golog_theory.specs.Parts.{parts, sort_of}
 use Rattle.golog_theory.specs.Heads.{head_word, arguments}
 use Rattle.golog_theory.specs.Before.{before}
 use Rattle.golog_theory.specs.Order.{IsLeastRow}
 use Rattle.golog_rows.proofs.Chain.{key, Chain, chain-low, behind-chain, Spans, gives-spans, if-chain, if-chain-where, chain-ordered, least_row}
-use Rattle.golog_theory.proofs.Inside.{end_of, Between, Stands, stands, arguments-between}
-use Rattle.golog_theory.proofs.Tables.{Covers, each-covers, named-covers, sort_of-covers}
+use Rattle.golog_theory.proofs.Inside.{end_of, Between, stands, arguments-between}
+use Rattle.golog_theory.proofs.Tables.{Covers, row-chain, two-rows, each-covers, named-covers, sort_of-covers}
 use Rattle.golog_theory.proofs.Nested.{refused-covers, first-spans, last-spans}
 use Rattle.golog_theory.proofs.Theory.{first_row}
 use Rattle.golog_prog.specs.declared.items.SoFar.{SoFar}
@@ -59,18 +59,12 @@ param_of-covers theory params f order = let s = stands f order in param_by-spans
 params_of-covers : (theory : DraftTheory) (f : Form) → IsInOrder f → Covers f (params_of theory f)
 unfolding params_of
 params_of-covers theory f order =
-    let s = stands f order in let size = s.size in (
-      omega arith,
-      omega arith,
-      omega arith,
-      (
-        omega arith,
-        omega arith,
-        omega arith,
-        chain-low (key (place_of f) 25) (64 * (place_of f + 1)) (64 * end_of f) _ (omega arith)
-            (each-covers (param_of theory) (param_of-covers theory) [] (place_of f + 1) (parts f) (end_of f) s.inner),
-      ),
-    )
+    let s = stands f order in
+    let size = s.size in
+    let at = place_of f in
+    let to = end_of f in
+    two-rows (64 * at) (64 * (at + 1)) (64 * to) 20 25 at _ refl (omega arith) (omega arith)
+    (each-covers (param_of theory) (param_of-covers theory) [] (at + 1) (parts f) to s.inner)
 
 module _ (theory : DraftTheory) (procs : List Declared) where
   proc_item-spans : (done : List DraftProc) (at : ℕ) (fs : List Form) (to : ℕ) → at < to → Between (at + 1) fs to → Spans at to (proc_item theory procs done at fs)
@@ -79,19 +73,15 @@ module _ (theory : DraftTheory) (procs : List Declared) where
   proc_item-spans done at (name ∷ []) to lt b = none DraftProc at to 20 lt (omega arith) (omega arith)
   proc_item-spans done at (name ∷ params ∷ []) to lt b = none DraftProc at to 20 lt (omega arith) (omega arith)
   proc_item-spans done at (name ∷ params ∷ body ∷ []) to lt b =
-      let known = before at theory in (
-        omega arith,
-        omega arith,
-        omega arith,
-        chain-low (key at 25) (64 * (at + 1)) (64 * to) _ (omega arith)
-            (first-spans (at + 1) name (params ∷ body ∷ []) to (proc_name theory done name)
-            (λ name. params_of known params >>= λ params. prog_of known procs body (length params) >>= λ body. gives (record { name = name; params = params; body = body; at = at })) b
-            (proc_name-covers theory done name b.1)
-            (λ name'. first-spans (end_of name) params (body ∷ []) to (params_of known params)
-            (λ params. prog_of known procs body (length params) >>= λ body. gives (record { name = name'; params = params; body = body; at = at })) b.2 (params_of-covers known params b.2.1)
-            (λ params'. last-spans (end_of params) body to (prog_of known procs body (length params')) (λ body. record { name = name'; params = params'; body = body; at = at }) b.2.2
-            (prog_of-covers known procs body b.2.2.1 (length params'))))),
-      )
+      let known = before at theory in
+      row-chain (64 * at) (64 * (at + 1)) (64 * to) 25 at _ refl (omega arith) (omega arith)
+      (first-spans (at + 1) name (params ∷ body ∷ []) to (proc_name theory done name)
+      (λ name. params_of known params >>= λ params. prog_of known procs body (length params) >>= λ body. gives (record { name = name; params = params; body = body; at = at })) b
+      (proc_name-covers theory done name b.1)
+      (λ name'. first-spans (end_of name) params (body ∷ []) to (params_of known params)
+      (λ params. prog_of known procs body (length params) >>= λ body. gives (record { name = name'; params = params; body = body; at = at })) b.2 (params_of-covers known params b.2.1)
+      (λ params'. last-spans (end_of params) body to (prog_of known procs body (length params')) (λ body. record { name = name'; params = params'; body = body; at = at }) b.2.2
+      (prog_of-covers known procs body b.2.2.1 (length params')))))
   proc_item-spans done at (name ∷ params ∷ body ∷ other ∷ fs) to lt b = none DraftProc at to 20 lt (omega arith) (omega arith)
 
   main_by-spans : (at : ℕ) (fs : List Form) (to : ℕ) → at < to → Between (at + 1) fs to → Spans at to (main_by theory procs at fs)

@@ -67,6 +67,7 @@ use Rattle.golog_check.specs.Scope.{Scope, variable_no, within}
 use Rattle.golog_check.specs.Terms.{is_other, args_in, term_place, term_sort, term_as, common, sides_in}
 use Rattle.golog_check.specs.Conditions.{InScope, conds_in, is_in, cond_step, cond_in}
 use Rattle.golog_check.proofs.ArgLaws.{same-number, no-other}
+use Rattle.golog_check.proofs.Layers.{fits-cond, fits-term, in-cond, written-cond, written-term, wording}
 use Rattle.golog_prog.specs.Printing as say
 use Rattle.golog_prog.specs.Printing.{stem_text, truth_text, sort_name, sort_item_name}
 use Rattle.golog_prog.specs.ReadBack.{IsTheoryOf, names_in}
@@ -77,7 +78,7 @@ use Rattle.golog_prog.proofs.Placed.{found-at, position-map}
 use Rattle.golog_prog.proofs.PrintedForms as form
 use Rattle.golog_prog.proofs.PrintedForms.{atom, list, binder_form, fluent_form, term_form, cond_form, form-term, form-cond}
 use Rattle.golog_prog.proofs.ReadArgs.{Ready, short-ok, variable-name, variable-short}
-use Rattle.golog_prog.proofs.ReadTerms.{wrong, parts-as, no-parts, name-not, call_of, wording, FluentRead, fluent-read, TermRead, arg-term, fluent-of, shift-of}
+use Rattle.golog_prog.proofs.ReadTerms.{wrong, parts-as, no-parts, name-not, call_of, FluentRead, fluent-read, TermRead, arg-term, fluent-of, shift-of}
 use Rattle.golog_prog.proofs.Scopes.{Scoped, variable, within-scoped}
 
 -- forms of which the first two, the first three and the first four are like these
@@ -262,20 +263,10 @@ module _ (agent : Agent) (k : ℕ) (ready : Ready agent k) (theory : DraftTheory
   abbrev cond_at : Cond-F AC AT → Cond-F Cond Term
   cond_at y = map-Cond AC AT Cond Term (λ e. e.0) (λ e. e.0) y
 
-  fits-term : (l : Term-F Cond Term) → term_fits agent (roll-Term l) ≡ fits.term_step agent (map-Term Cond Term (fits.Scope → Bool) (fits.Scope → ℕ → Bool) (cond_fits agent) (term_fits agent) l)
-  fits-term l = fold-roll-Term (fits.Scope → Bool) (fits.Scope → ℕ → Bool) (fits.cond_step agent) (fits.term_step agent) l
-
-  fits-cond : (l : Cond-F Cond Term) → cond_fits agent (roll-Cond l) ≡ fits.cond_step agent (map-Cond Cond Term (fits.Scope → Bool) (fits.Scope → ℕ → Bool) (cond_fits agent) (term_fits agent) l)
-  fits-cond l = fold-roll-Cond (fits.Scope → Bool) (fits.Scope → ℕ → Bool) (fits.cond_step agent) (fits.term_step agent) l
-
-  written-term : (l : Term-F Cond Term) → wording agent (roll-Term l) ≡ written_term_step agent (map-Term Cond Term (ℕ → Bool) Wording (is_written_cond agent) (wording agent) l)
-  written-term l = fold-roll-Term (ℕ → Bool) Wording (written_cond_step agent) (written_term_step agent) l
-
-  written-cond : (l : Cond-F Cond Term) → is_written_cond agent (roll-Cond l) ≡ written_cond_step agent (map-Cond Cond Term (ℕ → Bool) Wording (is_written_cond agent) (wording agent) l)
-  written-cond l = fold-roll-Cond (ℕ → Bool) Wording (written_cond_step agent) (written_term_step agent) l
-
-  in-roll : (l : DraftCond-F DraftCond) → cond_in names (roll-DraftCond l) ≡ cond_step names (map-DraftCond DraftCond InScope (cond_in names) l)
-  in-roll l = fold-roll-DraftCond InScope (cond_step names) l
+  -- what a draft means, by its parts
+  means-by : (l : DraftCond-F DraftCond) (d : DraftCond) (scope : Scope) (c : Cond) → roll-DraftCond l ≡ d
+      → (cond_step names (map-DraftCond DraftCond InScope (cond_in names) l) scope).outcome ≡ Ok c → (cond_in names d scope).outcome ≡ Ok c
+  means-by l d scope c rolls h = ap (λ (g : InScope). (g scope).outcome) (ap (cond_in names) (sym rolls) ∙ in-cond names l) ∙ h
 
   -- ---- terms
 
@@ -301,8 +292,8 @@ module _ (agent : Agent) (k : ℕ) (ready : Ready agent k) (theory : DraftTheory
   term-layer : (y : Term-F AC AT) → TermReads (roll-Term (term_at y))
   term-layer y bound scope scoped sort h w f a =
       term-made bound scope scoped y sort
-      (sym (ap (λ (g : fits.Scope → ℕ → Bool). g bound sort) (fits-term (term_at y))) ∙ h)
-      (sym (ap (λ (x : Wording). x.written) (written-term (term_at y))) ∙ w) f
+      (sym (ap (λ (g : fits.Scope → ℕ → Bool). g bound sort) (fits-term agent (term_at y))) ∙ h)
+      (sym (ap (λ (x : Wording). x.written) (written-term agent (term_at y))) ∙ w) f
       (a ∙ ap (λ (g : ℕ → Form). plain (g sort)) (form-term agent stem (term_at y)))
 
   -- ---- conditions
@@ -322,7 +313,7 @@ module _ (agent : Agent) (k : ℕ) (ready : Ready agent k) (theory : DraftTheory
       let at = place_of f in record {
         draft = draft.Truth b at;
         read = ap (λ (r : Reading DraftCond). r.outcome) (cond_of-none theory f n (no-parts f (truth_text b) a)) ∙ truth-ok b f (word-as f (truth_text b) a);
-        means = ap (λ (g : InScope). (g scope).outcome) (ap (cond_in names) (sym (draft.rolls-Truth b at)) ∙ in-roll (layer.Truth b at));
+        means = means-by (layer.Truth b at) (draft.Truth b at) scope (cond.Truth b) (draft.rolls-Truth b at) refl;
       }
 
   module _ (bound : fits.Scope) (scope : Scope) (n : ℕ) (long : n ≡ length scope) (scoped : Scoped stem bound scope) where
@@ -357,8 +348,8 @@ module _ (agent : Agent) (k : ℕ) (ready : Ready agent k) (theory : DraftTheory
           draft = draft.Is fluent r.drafts at;
           read = fluent-falls fluent args f r;
           means =
-              ap (λ (g : InScope). (g scope).outcome) (ap (cond_in names) (sym (draft.rolls-Is fluent r.drafts at)) ∙ in-roll (layer.Is fluent r.drafts at))
-              ∙ then-ok (is_in names scope fluent r.drafts at) (λ (x : List Arg). gives (cond.Is fluent x)) args (cond.Is fluent args) (is-ok fluent at args r.drafts r.of_sort r.means) refl;
+              means-by (layer.Is fluent r.drafts at) _ scope _ (draft.rolls-Is fluent r.drafts at)
+              (then-ok (is_in names scope fluent r.drafts at) (λ (x : List Arg). gives (cond.Is fluent x)) args (cond.Is fluent args) (is-ok fluent at args r.drafts r.of_sort r.means) refl);
         }
 
     -- both sides of a comparison
@@ -427,47 +418,49 @@ module _ (agent : Agent) (k : ℕ) (ready : Ready agent k) (theory : DraftTheory
         ap (λ (x : Reading DraftCond). x.outcome) (by-word f sign (one ∷ other ∷ []) n (codes "<=") are s)
         ∙ then-ok (sides_of theory (place_of f) (map (cond_part theory) (one ∷ other ∷ []))) (λ (x : DraftSides). gives (draft.AtMost x.one x.other (place_of f))) (sides_made d e) (draft.AtMost d e (place_of f)) h refl
 
+    -- a comparison behind its sign
+    compared-read : (text : Text) (is_order : Bool) (made : DraftTerm → DraftTerm → ℕ → DraftCond) (make : ℕ → Term → Term → Cond)
+        → ((f sign one other : Form) (d e : DraftTerm) → parts f ≡ sign ∷ one ∷ other ∷ [] → word sign ≡ text
+        → (sides_of theory (place_of f) (map (cond_part theory) (one ∷ other ∷ []))).outcome ≡ Ok (sides_made d e) → (cond_of theory f n).outcome ≡ Ok (made d e (place_of f)))
+        → ((d e : DraftTerm) (at sort : ℕ) (t u : Term) → (sides_in names scope is_order d e).outcome ≡ Ok (compared sort t u) → (cond_in names (made d e at) scope).outcome ≡ Ok (make sort t u))
+        → (sort : ℕ) (t u : AT) (f : Form) (of_sort : Bool) → (of_sort ≡ true → (is_order && not (is_range agent sort)) ≡ false)
+        → ((of_sort && term_fits agent t.0 bound sort) && term_fits agent u.0 bound sort) ≡ true → written_sides agent sort (wording agent t.0) (wording agent u.0) ≡ true
+        → Alike f (list (atom text ∷ term_form agent stem t.0 sort ∷ term_form agent stem u.0 sort ∷ [])) → CondRead scope n (make sort t.0 u.0) f
+    compared-read text is_order made make spelled meant sort t u f of_sort ordered h w a =
+        let p = three-of (parts f) (atom text) (term_form agent stem t.0 sort) (term_form agent stem u.0 sort) (parts-as f (atom text ∷ term_form agent stem t.0 sort ∷ term_form agent stem u.0 sort ∷ []) a) in
+        let s = sides-read is_order sort t u p.second p.third of_sort ordered h w p.like_second p.like_third in
+        record {
+          draft = made s.first s.second (place_of f);
+          read = spelled f p.first p.second p.third s.first s.second p.are (word-as p.first text p.like_first) (s.spells (place_of f));
+          means = meant s.first s.second (place_of f) sort t.0 u.0 s.are_in;
+        }
+
     equal-read : (sort : ℕ) (t u : AT) (f : Form) → ((is_sort agent sort && term_fits agent t.0 bound sort) && term_fits agent u.0 bound sort) ≡ true
         → written_sides agent sort (wording agent t.0) (wording agent u.0) ≡ true
         → Alike f (list (atom (codes "=") ∷ term_form agent stem t.0 sort ∷ term_form agent stem u.0 sort ∷ [])) → CondRead scope n (cond.Equal sort t.0 u.0) f
-    equal-read sort t u f h w a =
-        let p = three-of (parts f) (atom (codes "=")) (term_form agent stem t.0 sort) (term_form agent stem u.0 sort) (parts-as f (atom (codes "=") ∷ term_form agent stem t.0 sort ∷ term_form agent stem u.0 sort ∷ []) a) in
-        let s = sides-read false sort t u p.second p.third (is_sort agent sort) (λ _. refl) h w p.like_second p.like_third in
-        let at = place_of f in record {
-          draft = draft.Equal s.first s.second at;
-          read = equal-spelled f p.first p.second p.third s.first s.second p.are (word-as p.first (codes "=") p.like_first) (s.spells at);
-          means =
-              ap (λ (g : InScope). (g scope).outcome) (ap (cond_in names) (sym (draft.rolls-Equal s.first s.second at)) ∙ in-roll (layer.Equal s.first s.second at))
-              ∙ then-ok (sides_in names scope false s.first s.second) (λ (x : Sides). gives (cond.Equal x.sort x.one x.other)) (compared sort t.0 u.0) (cond.Equal sort t.0 u.0) s.are_in refl;
-        }
+    equal-read sort t u f =
+        compared-read (codes "=") false (λ d e at. draft.Equal d e at) (λ s x y. cond.Equal s x y) equal-spelled (λ d e at s x y h.
+        means-by (layer.Equal d e at) (draft.Equal d e at) scope (cond.Equal s x y) (draft.rolls-Equal d e at)
+        (then-ok (sides_in names scope false d e) (λ (x : Sides). gives (cond.Equal x.sort x.one x.other)) (compared s x y) (cond.Equal s x y) h refl))
+        sort t u f (is_sort agent sort) (λ _. refl)
 
     less-read : (sort : ℕ) (t u : AT) (f : Form) → ((is_range agent sort && term_fits agent t.0 bound sort) && term_fits agent u.0 bound sort) ≡ true
         → written_sides agent sort (wording agent t.0) (wording agent u.0) ≡ true
         → Alike f (list (atom (codes "<") ∷ term_form agent stem t.0 sort ∷ term_form agent stem u.0 sort ∷ [])) → CondRead scope n (cond.Less sort t.0 u.0) f
-    less-read sort t u f h w a =
-        let p = three-of (parts f) (atom (codes "<")) (term_form agent stem t.0 sort) (term_form agent stem u.0 sort) (parts-as f (atom (codes "<") ∷ term_form agent stem t.0 sort ∷ term_form agent stem u.0 sort ∷ []) a) in
-        let s = sides-read true sort t u p.second p.third (is_range agent sort) (λ e. ap not e) h w p.like_second p.like_third in
-        let at = place_of f in record {
-          draft = draft.Less s.first s.second at;
-          read = less-spelled f p.first p.second p.third s.first s.second p.are (word-as p.first (codes "<") p.like_first) (s.spells at);
-          means =
-              ap (λ (g : InScope). (g scope).outcome) (ap (cond_in names) (sym (draft.rolls-Less s.first s.second at)) ∙ in-roll (layer.Less s.first s.second at))
-              ∙ then-ok (sides_in names scope true s.first s.second) (λ (x : Sides). gives (cond.Less x.sort x.one x.other)) (compared sort t.0 u.0) (cond.Less sort t.0 u.0) s.are_in refl;
-        }
+    less-read sort t u f =
+        compared-read (codes "<") true (λ d e at. draft.Less d e at) (λ s x y. cond.Less s x y) less-spelled (λ d e at s x y h.
+        means-by (layer.Less d e at) (draft.Less d e at) scope (cond.Less s x y) (draft.rolls-Less d e at)
+        (then-ok (sides_in names scope true d e) (λ (x : Sides). gives (cond.Less x.sort x.one x.other)) (compared s x y) (cond.Less s x y) h refl))
+        sort t u f (is_range agent sort) (λ e. ap not e)
 
     at-most-read : (sort : ℕ) (t u : AT) (f : Form) → ((is_range agent sort && term_fits agent t.0 bound sort) && term_fits agent u.0 bound sort) ≡ true
         → written_sides agent sort (wording agent t.0) (wording agent u.0) ≡ true
         → Alike f (list (atom (codes "<=") ∷ term_form agent stem t.0 sort ∷ term_form agent stem u.0 sort ∷ [])) → CondRead scope n (cond.AtMost sort t.0 u.0) f
-    at-most-read sort t u f h w a =
-        let p = three-of (parts f) (atom (codes "<=")) (term_form agent stem t.0 sort) (term_form agent stem u.0 sort) (parts-as f (atom (codes "<=") ∷ term_form agent stem t.0 sort ∷ term_form agent stem u.0 sort ∷ []) a) in
-        let s = sides-read true sort t u p.second p.third (is_range agent sort) (λ e. ap not e) h w p.like_second p.like_third in
-        let at = place_of f in record {
-          draft = draft.AtMost s.first s.second at;
-          read = at-most-spelled f p.first p.second p.third s.first s.second p.are (word-as p.first (codes "<=") p.like_first) (s.spells at);
-          means =
-              ap (λ (g : InScope). (g scope).outcome) (ap (cond_in names) (sym (draft.rolls-AtMost s.first s.second at)) ∙ in-roll (layer.AtMost s.first s.second at))
-              ∙ then-ok (sides_in names scope true s.first s.second) (λ (x : Sides). gives (cond.AtMost x.sort x.one x.other)) (compared sort t.0 u.0) (cond.AtMost sort t.0 u.0) s.are_in refl;
-        }
+    at-most-read sort t u f =
+        compared-read (codes "<=") true (λ d e at. draft.AtMost d e at) (λ s x y. cond.AtMost s x y) at-most-spelled (λ d e at s x y h.
+        means-by (layer.AtMost d e at) (draft.AtMost d e at) scope (cond.AtMost s x y) (draft.rolls-AtMost d e at)
+        (then-ok (sides_in names scope true d e) (λ (x : Sides). gives (cond.AtMost x.sort x.one x.other)) (compared s x y) (cond.AtMost s x y) h refl))
+        sort t u f (is_range agent sort) (λ e. ap not e)
 
     not-spelled : (f sign one : Form) (d : DraftCond) → parts f ≡ sign ∷ one ∷ [] → word sign ≡ codes "not" → (cond_of theory one n).outcome ≡ Ok d → (cond_of theory f n).outcome ≡ Ok (draft.Not d (place_of f))
     unfolding cond_keyword keyword_cond not_of
@@ -483,8 +476,8 @@ module _ (agent : Agent) (k : ℕ) (ready : Ready agent k) (theory : DraftTheory
           draft = draft.Not r.draft at;
           read = not-spelled f p.first p.second r.draft p.are (word-as p.first (codes "not") p.like_first) r.read;
           means =
-              ap (λ (g : InScope). (g scope).outcome) (ap (cond_in names) (sym (draft.rolls-Not r.draft at)) ∙ in-roll (layer.Not r.draft at))
-              ∙ then-ok (cond_in names r.draft scope) (λ (x : Cond). gives (cond.Not x)) c.0 (cond.Not c.0) r.means refl;
+              means-by (layer.Not r.draft at) _ scope _ (draft.rolls-Not r.draft at)
+              (then-ok (cond_in names r.draft scope) (λ (x : Cond). gives (cond.Not x)) c.0 (cond.Not c.0) r.means refl);
         }
 
     -- conditions behind those that are read
@@ -539,37 +532,32 @@ module _ (agent : Agent) (k : ℕ) (ready : Ready agent k) (theory : DraftTheory
         ap (λ (x : Reading DraftCond). x.outcome) (by-word f sign others n (codes "or") are s)
         ∙ then-ok (conds_of n (map (cond_part theory) others)) (λ (x : List DraftCond). gives (draft.Or x (place_of f))) ds (draft.Or ds (place_of f)) h refl
 
-    and-read : (cs : List AC) (f : Form)
+    -- conditions behind a word
+    several-read : (text : Text) (made : List DraftCond → ℕ → DraftCond) (make : List Cond → Cond)
+        → ((f sign : Form) (others : List Form) (ds : List DraftCond) → parts f ≡ sign ∷ others → word sign ≡ text
+        → (each (λ (_ : List DraftCond) (part : Part (ℕ → Reading DraftCond)). part.spelled n) [] (map (cond_part theory) others)).outcome ≡ Ok ds → (cond_of theory f n).outcome ≡ Ok (made ds (place_of f)))
+        → ((ds : List DraftCond) (at : ℕ) (cs : List Cond) → (conds_in scope (map (cond_in names) ds)).outcome ≡ Ok cs → (cond_in names (made ds at) scope).outcome ≡ Ok (make cs))
+        → (cs : List AC) (f : Form)
         → list_all (λ (c : fits.Scope → Bool). c bound) (map (cond_fits agent) (map (λ (e : AC). e.0) cs)) ≡ true
         → list_all (λ (c : ℕ → Bool). c n) (map (is_written_cond agent) (map (λ (e : AC). e.0) cs)) ≡ true
-        → Alike f (list (atom (codes "and") ∷ map (cond_form agent stem) (map (λ (e : AC). e.0) cs))) → CondRead scope n (cond.And (map (λ (e : AC). e.0) cs)) f
-    and-read cs f h w a =
+        → Alike f (list (atom text ∷ map (cond_form agent stem) (map (λ (e : AC). e.0) cs))) → CondRead scope n (make (map (λ (e : AC). e.0) cs)) f
+    several-read text made make spelled meant cs f h w a =
         let conds = map (λ (e : AC). e.0) cs in
-        let p = first-of (parts f) (atom (codes "and")) (map (cond_form agent stem) conds) (parts-as f (atom (codes "and") ∷ map (cond_form agent stem) conds) a) in
+        let p = first-of (parts f) (atom text) (map (cond_form agent stem) conds) (parts-as f (atom text ∷ map (cond_form agent stem) conds) a) in
         let b = behind cs p.others [] [] h w p.rest in
-        let at = place_of f in record {
-          draft = draft.And b.drafts at;
-          read = and-spelled f p.first p.others b.drafts p.are (word-as p.first (codes "and") p.alike) b.read;
-          means =
-              ap (λ (g : InScope). (g scope).outcome) (ap (cond_in names) (sym (draft.rolls-And b.drafts at)) ∙ in-roll (layer.And b.drafts at))
-              ∙ then-ok (conds_in scope (map (cond_in names) b.drafts)) (λ (x : List Cond). gives (cond.And x)) conds (cond.And conds) b.means refl;
+        record {
+          draft = made b.drafts (place_of f);
+          read = spelled f p.first p.others b.drafts p.are (word-as p.first text p.alike) b.read;
+          means = meant b.drafts (place_of f) conds b.means;
         }
 
-    or-read : (cs : List AC) (f : Form)
-        → list_all (λ (c : fits.Scope → Bool). c bound) (map (cond_fits agent) (map (λ (e : AC). e.0) cs)) ≡ true
-        → list_all (λ (c : ℕ → Bool). c n) (map (is_written_cond agent) (map (λ (e : AC). e.0) cs)) ≡ true
-        → Alike f (list (atom (codes "or") ∷ map (cond_form agent stem) (map (λ (e : AC). e.0) cs))) → CondRead scope n (cond.Or (map (λ (e : AC). e.0) cs)) f
-    or-read cs f h w a =
-        let conds = map (λ (e : AC). e.0) cs in
-        let p = first-of (parts f) (atom (codes "or")) (map (cond_form agent stem) conds) (parts-as f (atom (codes "or") ∷ map (cond_form agent stem) conds) a) in
-        let b = behind cs p.others [] [] h w p.rest in
-        let at = place_of f in record {
-          draft = draft.Or b.drafts at;
-          read = or-spelled f p.first p.others b.drafts p.are (word-as p.first (codes "or") p.alike) b.read;
-          means =
-              ap (λ (g : InScope). (g scope).outcome) (ap (cond_in names) (sym (draft.rolls-Or b.drafts at)) ∙ in-roll (layer.Or b.drafts at))
-              ∙ then-ok (conds_in scope (map (cond_in names) b.drafts)) (λ (x : List Cond). gives (cond.Or x)) conds (cond.Or conds) b.means refl;
-        }
+    and-means : (ds : List DraftCond) (at : ℕ) (cs : List Cond) → (conds_in scope (map (cond_in names) ds)).outcome ≡ Ok cs → (cond_in names (draft.And ds at) scope).outcome ≡ Ok (cond.And cs)
+    and-means ds at cs h =
+        means-by (layer.And ds at) (draft.And ds at) scope (cond.And cs) (draft.rolls-And ds at) (then-ok (conds_in scope (map (cond_in names) ds)) (λ (x : List Cond). gives (cond.And x)) cs (cond.And cs) h refl)
+
+    or-means : (ds : List DraftCond) (at : ℕ) (cs : List Cond) → (conds_in scope (map (cond_in names) ds)).outcome ≡ Ok cs → (cond_in names (draft.Or ds at) scope).outcome ≡ Ok (cond.Or cs)
+    or-means ds at cs h =
+        means-by (layer.Or ds at) (draft.Or ds at) scope (cond.Or cs) (draft.rolls-Or ds at) (then-ok (conds_in scope (map (cond_in names) ds)) (λ (x : List Cond). gives (cond.Or x)) cs (cond.Or cs) h refl)
 
     -- a binder of the next variable
     record BoundRead (var sort : ℕ) (c : Cond) (binder body : Form) : Type 0 where
@@ -624,35 +612,31 @@ module _ (agent : Agent) (k : ℕ) (ready : Ready agent k) (theory : DraftTheory
         ap (λ (x : Reading DraftCond). x.outcome) (by-word f sign (binder ∷ body ∷ []) n (codes "all") are s)
         ∙ then-ok (bound_of theory n (place_of f) (map (cond_part theory) (binder ∷ body ∷ []))) (λ (x : Bound). gives (draft.ForAll x.binder.var x.binder.sort x.body (place_of f))) (bound_made (binder_made var sort) d) (draft.ForAll var sort d (place_of f)) h refl
 
-    some-read : (var sort : ℕ) (c : AC) (f : Form) → (binder_fits agent var sort && cond_fits agent c.0 (fits.bound bound var sort)) ≡ true → (var == n && is_written_cond agent c.0 (n + 1)) ≡ true
-        → Alike f (list (atom (codes "some") ∷ binder_form agent stem var sort ∷ cond_form agent stem c.0 ∷ [])) → CondRead scope n (cond.ForSome var sort c.0) f
-    some-read var sort c f h w a =
-        let p = three-of (parts f) (atom (codes "some")) (binder_form agent stem var sort) (cond_form agent stem c.0) (parts-as f (atom (codes "some") ∷ binder_form agent stem var sort ∷ cond_form agent stem c.0 ∷ []) a) in
+    -- a quantifier behind its word
+    bound-by : (text : Text) (made : Text → ℕ → DraftCond → ℕ → DraftCond) (make : ℕ → ℕ → Cond → Cond)
+        → ((f sign binder body : Form) (v : Text) (sort : ℕ) (d : DraftCond) → parts f ≡ sign ∷ binder ∷ body ∷ [] → word sign ≡ text
+        → (bound_of theory n (place_of f) (map (cond_part theory) (binder ∷ body ∷ []))).outcome ≡ Ok (bound_made (binder_made v sort) d) → (cond_of theory f n).outcome ≡ Ok (made v sort d (place_of f)))
+        → ((v : Text) (sort : ℕ) (d : DraftCond) (at : ℕ) (c : Cond) → (cond_in names d (within v sort scope)).outcome ≡ Ok c → (cond_in names (made v sort d at) scope).outcome ≡ Ok (make (variable_no scope) sort c))
+        → (var sort : ℕ) (c : AC) (f : Form) → (binder_fits agent var sort && cond_fits agent c.0 (fits.bound bound var sort)) ≡ true → (var == n && is_written_cond agent c.0 (n + 1)) ≡ true
+        → Alike f (list (atom text ∷ binder_form agent stem var sort ∷ cond_form agent stem c.0 ∷ [])) → CondRead scope n (make var sort c.0) f
+    bound-by text made make spelled meant var sort c f h w a =
+        let p = three-of (parts f) (atom text) (binder_form agent stem var sort) (cond_form agent stem c.0) (parts-as f (atom text ∷ binder_form agent stem var sort ∷ cond_form agent stem c.0 ∷ []) a) in
         let b = bound-read var sort c p.second p.third h w p.like_second p.like_third in
-        let at = place_of f in
         let v = variable stem var in record {
-          draft = draft.ForSome v sort b.inner at;
-          read = some-spelled f p.first p.second p.third v sort b.inner p.are (word-as p.first (codes "some") p.like_first) (b.spells at);
-          means =
-              ap (λ (g : InScope). (g scope).outcome) (ap (cond_in names) (sym (draft.rolls-ForSome v sort b.inner at)) ∙ in-roll (layer.ForSome v sort b.inner at))
-              ∙ then-ok (cond_in names b.inner (within v sort scope)) (λ (x : Cond). gives (cond.ForSome (variable_no scope) sort x)) c.0 (cond.ForSome var sort c.0) b.is
-              (ap (λ (m : ℕ). Ok (cond.ForSome m sort c.0)) b.number);
+          draft = made v sort b.inner (place_of f);
+          read = spelled f p.first p.second p.third v sort b.inner p.are (word-as p.first text p.like_first) (b.spells (place_of f));
+          means = meant v sort b.inner (place_of f) c.0 b.is ∙ ap (λ (m : ℕ). Ok (make m sort c.0)) b.number;
         }
 
-    all-read : (var sort : ℕ) (c : AC) (f : Form) → (binder_fits agent var sort && cond_fits agent c.0 (fits.bound bound var sort)) ≡ true → (var == n && is_written_cond agent c.0 (n + 1)) ≡ true
-        → Alike f (list (atom (codes "all") ∷ binder_form agent stem var sort ∷ cond_form agent stem c.0 ∷ [])) → CondRead scope n (cond.ForAll var sort c.0) f
-    all-read var sort c f h w a =
-        let p = three-of (parts f) (atom (codes "all")) (binder_form agent stem var sort) (cond_form agent stem c.0) (parts-as f (atom (codes "all") ∷ binder_form agent stem var sort ∷ cond_form agent stem c.0 ∷ []) a) in
-        let b = bound-read var sort c p.second p.third h w p.like_second p.like_third in
-        let at = place_of f in
-        let v = variable stem var in record {
-          draft = draft.ForAll v sort b.inner at;
-          read = all-spelled f p.first p.second p.third v sort b.inner p.are (word-as p.first (codes "all") p.like_first) (b.spells at);
-          means =
-              ap (λ (g : InScope). (g scope).outcome) (ap (cond_in names) (sym (draft.rolls-ForAll v sort b.inner at)) ∙ in-roll (layer.ForAll v sort b.inner at))
-              ∙ then-ok (cond_in names b.inner (within v sort scope)) (λ (x : Cond). gives (cond.ForAll (variable_no scope) sort x)) c.0 (cond.ForAll var sort c.0) b.is
-              (ap (λ (m : ℕ). Ok (cond.ForAll m sort c.0)) b.number);
-        }
+    some-means : (v : Text) (sort : ℕ) (d : DraftCond) (at : ℕ) (c : Cond) → (cond_in names d (within v sort scope)).outcome ≡ Ok c → (cond_in names (draft.ForSome v sort d at) scope).outcome ≡ Ok (cond.ForSome (variable_no scope) sort c)
+    some-means v sort d at c h =
+        means-by (layer.ForSome v sort d at) (draft.ForSome v sort d at) scope (cond.ForSome (variable_no scope) sort c) (draft.rolls-ForSome v sort d at)
+        (then-ok (cond_in names d (within v sort scope)) (λ (x : Cond). gives (cond.ForSome (variable_no scope) sort x)) c (cond.ForSome (variable_no scope) sort c) h refl)
+
+    all-means : (v : Text) (sort : ℕ) (d : DraftCond) (at : ℕ) (c : Cond) → (cond_in names d (within v sort scope)).outcome ≡ Ok c → (cond_in names (draft.ForAll v sort d at) scope).outcome ≡ Ok (cond.ForAll (variable_no scope) sort c)
+    all-means v sort d at c h =
+        means-by (layer.ForAll v sort d at) (draft.ForAll v sort d at) scope (cond.ForAll (variable_no scope) sort c) (draft.rolls-ForAll v sort d at)
+        (then-ok (cond_in names d (within v sort scope)) (λ (x : Cond). gives (cond.ForAll (variable_no scope) sort x)) c (cond.ForAll (variable_no scope) sort c) h refl)
 
     cond-made : (y : Cond-F AC AT)
         → fits.cond_step agent (map-Cond Cond Term (fits.Scope → Bool) (fits.Scope → ℕ → Bool) (cond_fits agent) (term_fits agent) (cond_at y)) bound ≡ true
@@ -664,16 +648,16 @@ module _ (agent : Agent) (k : ℕ) (ready : Ready agent k) (theory : DraftTheory
     cond-made (Less sort t u) h w f a = subst (λ (c : Cond). CondRead scope n c f) (sym (cond.rolls-Less sort t.0 u.0)) (less-read sort t u f h w a)
     cond-made (AtMost sort t u) h w f a = subst (λ (c : Cond). CondRead scope n c f) (sym (cond.rolls-AtMost sort t.0 u.0)) (at-most-read sort t u f h w a)
     cond-made (Not c) h w f a = subst (λ (x : Cond). CondRead scope n x f) (sym (cond.rolls-Not c.0)) (not-read c f h w a)
-    cond-made (And cs) h w f a = subst (λ (c : Cond). CondRead scope n c f) (sym (cond.rolls-And (map (λ (e : AC). e.0) cs))) (and-read cs f h w a)
-    cond-made (Or cs) h w f a = subst (λ (c : Cond). CondRead scope n c f) (sym (cond.rolls-Or (map (λ (e : AC). e.0) cs))) (or-read cs f h w a)
-    cond-made (ForSome var sort c) h w f a = subst (λ (x : Cond). CondRead scope n x f) (sym (cond.rolls-ForSome var sort c.0)) (some-read var sort c f h w a)
-    cond-made (ForAll var sort c) h w f a = subst (λ (x : Cond). CondRead scope n x f) (sym (cond.rolls-ForAll var sort c.0)) (all-read var sort c f h w a)
+    cond-made (And cs) h w f a = subst (λ (c : Cond). CondRead scope n c f) (sym (cond.rolls-And (map (λ (e : AC). e.0) cs))) (several-read (codes "and") (λ ds at. draft.And ds at) (λ cs. cond.And cs) and-spelled and-means cs f h w a)
+    cond-made (Or cs) h w f a = subst (λ (c : Cond). CondRead scope n c f) (sym (cond.rolls-Or (map (λ (e : AC). e.0) cs))) (several-read (codes "or") (λ ds at. draft.Or ds at) (λ cs. cond.Or cs) or-spelled or-means cs f h w a)
+    cond-made (ForSome var sort c) h w f a = subst (λ (x : Cond). CondRead scope n x f) (sym (cond.rolls-ForSome var sort c.0)) (bound-by (codes "some") (λ v s d at. draft.ForSome v s d at) (λ x s c. cond.ForSome x s c) some-spelled some-means var sort c f h w a)
+    cond-made (ForAll var sort c) h w f a = subst (λ (x : Cond). CondRead scope n x f) (sym (cond.rolls-ForAll var sort c.0)) (bound-by (codes "all") (λ v s d at. draft.ForAll v s d at) (λ x s c. cond.ForAll x s c) all-spelled all-means var sort c f h w a)
 
   cond-layer : (y : Cond-F AC AT) → CondReads (roll-Cond (cond_at y))
   cond-layer y bound scope n long scoped h w f a =
       cond-made bound scope n long scoped y
-      (sym (ap (λ (g : fits.Scope → Bool). g bound) (fits-cond (cond_at y))) ∙ h)
-      (sym (ap (λ (g : ℕ → Bool). g n) (written-cond (cond_at y))) ∙ w) f
+      (sym (ap (λ (g : fits.Scope → Bool). g bound) (fits-cond agent (cond_at y))) ∙ h)
+      (sym (ap (λ (g : ℕ → Bool). g n) (written-cond agent (cond_at y))) ∙ w) f
       (a ∙ ap plain (form-cond agent stem (cond_at y)))
 
   -- a condition that was printed is read back

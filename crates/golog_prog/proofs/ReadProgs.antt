@@ -46,8 +46,8 @@ use Rattle.golog_theory.specs.Parts.{word, parts, number_of}
 use Rattle.golog_theory.specs.Heads.{args_of}
 use Rattle.golog_theory.specs.Conditions.{binder_of, cond_of}
 use Rattle.golog_theory.specs.Recursion.{Part}
-use Rattle.golog_check.specs.declared.programs.Join.{Join}
-use Rattle.golog_check.specs.declared.programs.Join.TheVariants.{Seq as InSeq, Choice as InChoice, Conc as InConc, Prio as InPrio}
+use Rattle.golog_tree.specs.declared.join.Join.{Join}
+use Rattle.golog_tree.specs.declared.join.Join.TheVariants.{Seq as InSeq, Choice as InChoice, Conc as InConc, Prio as InPrio}
 use Rattle.golog_check.specs.DeclaredItems.{Declared, action_item}
 use Rattle.golog_check.specs.Sorts.{action_sorts, param_sorts}
 use Rattle.golog_check.specs.Scope.{Scope, variable_no, within}
@@ -55,6 +55,7 @@ use Rattle.golog_check.specs.Terms.{args_in}
 use Rattle.golog_check.specs.Conditions.{cond_in}
 use Rattle.golog_check.specs.Programs.{InScope, joined, nested, progs_in, parts_in, with_no, with_body, prog_step, prog_in}
 use Rattle.golog_check.proofs.ArgLaws.{same-number}
+use Rattle.golog_check.proofs.Layers.{fits-prog, in-prog, way_fits, way_written, written-prog}
 use Rattle.golog_prog.specs.declared.callees.Callee.{Callee}
 use Rattle.golog_prog.specs.declared.keyword.Keyword.{Keyword}
 use Rattle.golog_prog.specs.declared.keyword.Keyword.TheVariants as key
@@ -192,17 +193,8 @@ module _ (agent : Agent) (k : ℕ) (ready : Ready agent k) (theory : DraftTheory
   abbrev prog_at : Prog-F AP AW → Prog-F Prog Way
   prog_at y = map-Prog AP AW Prog Way (λ e. e.0) (λ e. e.0) y
 
-  abbrev way_fits : Way → Position → Bool
-  way_fits = fold-Way (Position → Bool) (Position → Bool) (placed.prog_step agent) (placed.way_step agent)
-
-  abbrev way_written : Way → Bool
-  way_written = fold-Way (ℕ → Bool) Bool (written_prog_step agent) (λ w. false)
-
   abbrev way_form : Way → Form
   way_form = fold-Way Form Form (form.prog_step agent stem) (λ _. list [])
-
-  in-roll : (l : DraftProg-F DraftProg) → prog_in names (roll-DraftProg l) ≡ prog_step names (map-DraftProg DraftProg InScope (prog_in names) l)
-  in-roll l = fold-roll-DraftProg InScope (prog_step names) l
 
   -- a form behind a keyword, by its parts
   by-word : (f head : Form) (others : List Form) (n : ℕ) (text : Text) (keyword : Keyword) → parts f ≡ head ∷ others → word head ≡ text → keyword_of text ≡ Some keyword
@@ -211,57 +203,10 @@ module _ (agent : Agent) (k : ℕ) (ready : Ready agent k) (theory : DraftTheory
       prog_of-parts theory procs f n ∙ ap (λ (fs : List Form). prog_by theory procs f (map (prog_part theory procs) fs) n) are
       ∙ ap (λ (o : Option Keyword). list_of theory procs f n o (map (prog_part theory procs) others)) (ap keyword_of e ∙ is)
 
-  key-act : keyword_of (codes "act") ≡ Some key.Act
-  unfolding keyword_of
-  key-act = refl
-
-  key-test : keyword_of (codes "test") ≡ Some key.Test
-  unfolding keyword_of
-  key-test = refl
-
-  key-seq : keyword_of (codes "seq") ≡ Some key.Seq
-  unfolding keyword_of
-  key-seq = refl
-
-  key-choice : keyword_of (codes "choice") ≡ Some key.Choice
-  unfolding keyword_of
-  key-choice = refl
-
-  key-pick : keyword_of (codes "pick") ≡ Some key.Pick
-  unfolding keyword_of
-  key-pick = refl
-
-  key-star : keyword_of (codes "star") ≡ Some key.Star
-  unfolding keyword_of
-  key-star = refl
-
-  key-if : keyword_of (codes "if") ≡ Some key.If
-  unfolding keyword_of
-  key-if = refl
-
-  key-while : keyword_of (codes "while") ≡ Some key.While
-  unfolding keyword_of
-  key-while = refl
-
-  key-conc : keyword_of (codes "conc") ≡ Some key.Conc
-  unfolding keyword_of
-  key-conc = refl
-
-  key-prio : keyword_of (codes "prio") ≡ Some key.Prio
-  unfolding keyword_of
-  key-prio = refl
-
-  key-cstar : keyword_of (codes "cstar") ≡ Some key.Cstar
-  unfolding keyword_of
-  key-cstar = refl
-
-  key-call : keyword_of (codes "call") ≡ Some key.Call
-  unfolding keyword_of
-  key-call = refl
-
-  key-search : keyword_of (codes "search") ≡ Some key.Search
-  unfolding keyword_of
-  key-search = refl
+  -- what a draft means, by its parts
+  means-by : (l : DraftProg-F DraftProg) (d : DraftProg) (scope : Scope) (p : Prog) → roll-DraftProg l ≡ d
+      → (prog_step names (map-DraftProg DraftProg InScope (prog_in names) l) scope).outcome ≡ Ok p → (prog_in names d scope).outcome ≡ Ok p
+  means-by l d scope p rolls h = ap (λ (g : InScope). (g scope).outcome) (ap (prog_in names) (sym rolls) ∙ in-prog names l) ∙ h
 
   nil-ok : (f : Form) → word f ≡ codes "nil" → (nil_of f).outcome ≡ Ok (draft.Nil (place_of f))
   unfolding nil_of
@@ -272,25 +217,25 @@ module _ (agent : Agent) (k : ℕ) (ready : Ready agent k) (theory : DraftTheory
     nil-read f a = record {
       draft = draft.Nil (place_of f);
       read = ap (λ (r : Reading DraftProg). r.outcome) (prog_of-none theory procs f n (no-parts f (codes "nil") a)) ∙ nil-ok f (word-as f (codes "nil") a);
-      means = ap (λ (g : InScope). (g scope).outcome) (ap (prog_in names) (sym (draft.rolls-Nil (place_of f))) ∙ in-roll (layer.Nil (place_of f)));
+      means = means-by (layer.Nil (place_of f)) (draft.Nil (place_of f)) scope prog.Nil (draft.rolls-Nil (place_of f)) refl;
     }
 
     -- ---- a name with arguments
 
     act-spelled : (f sign name : Form) (args : List Form) (action : ℕ) (drafts : List DraftArg) → parts f ≡ sign ∷ name ∷ args → word sign ≡ codes "act"
         → (named (place_of f) name args (action_named theory (word name))).outcome ≡ Ok action → (args_of args).outcome ≡ Ok drafts → (prog_of theory procs f n).outcome ≡ Ok (draft.Act action drafts (place_of f))
-    unfolding construct_of act_of
+    unfolding construct_of act_of keyword_of
     act-spelled f sign name args action drafts are s h g =
-        ap (λ (r : Reading DraftProg). r.outcome) (by-word f sign (name ∷ args) n (codes "act") key.Act are s key-act)
+        ap (λ (r : Reading DraftProg). r.outcome) (by-word f sign (name ∷ args) n (codes "act") key.Act are s refl)
         ∙ ap (λ (fs : List Form). (act_of theory (place_of f) (drop 1 fs)).outcome) are
         ∙ then-ok (named (place_of f) name args (action_named theory (word name))) (λ (a : ℕ). args_of args >>= λ (xs : List DraftArg). gives (draft.Act a xs (place_of f))) action (draft.Act action drafts (place_of f)) h
         (then-ok (args_of args) (λ (xs : List DraftArg). gives (draft.Act action xs (place_of f))) drafts (draft.Act action drafts (place_of f)) g refl)
 
     call-spelled : (f sign name : Form) (args : List Form) (item : ℕ) (drafts : List DraftArg) → parts f ≡ sign ∷ name ∷ args → word sign ≡ codes "call"
         → (named (place_of f) name args (proc_named procs (word name))).outcome ≡ Ok item → (args_of args).outcome ≡ Ok drafts → (prog_of theory procs f n).outcome ≡ Ok (draft.Call item drafts (place_of f))
-    unfolding construct_of call_of
+    unfolding construct_of call_of keyword_of
     call-spelled f sign name args item drafts are s h g =
-        ap (λ (r : Reading DraftProg). r.outcome) (by-word f sign (name ∷ args) n (codes "call") key.Call are s key-call)
+        ap (λ (r : Reading DraftProg). r.outcome) (by-word f sign (name ∷ args) n (codes "call") key.Call are s refl)
         ∙ ap (λ (fs : List Form). (call_of procs (place_of f) (drop 1 fs)).outcome) are
         ∙ then-ok (named (place_of f) name args (proc_named procs (word name))) (λ (a : ℕ). args_of args >>= λ (xs : List DraftArg). gives (draft.Call a xs (place_of f))) item (draft.Call item drafts (place_of f)) h
         (then-ok (args_of args) (λ (xs : List DraftArg). gives (draft.Call item xs (place_of f))) drafts (draft.Call item drafts (place_of f)) g refl)
@@ -316,9 +261,9 @@ module _ (agent : Agent) (k : ℕ) (ready : Ready agent k) (theory : DraftTheory
               draft = draft.Act action r.drafts place;
               read = act-spelled f p.first q.first q.others action r.drafts (p.are ∙ ap (λ (fs : List Form). p.first ∷ fs) q.are) (word-as p.first (codes "act") p.alike) calls r.read;
               means =
-                  ap (λ (g : InScope). (g scope).outcome) (ap (prog_in names) (sym (draft.rolls-Act action r.drafts place)) ∙ in-roll (layer.Act action r.drafts place))
-                  ∙ then-ok (args_in names scope (action_sorts names action) r.drafts) (λ (x : List Arg). gives (prog.Act action x)) args (prog.Act action args)
-                  (ap (λ (o : Option ActionItem). (args_in names scope (option_map_or (λ (i : ActionItem). i.args) o []) r.drafts).outcome) e ∙ r.means) refl;
+                  means-by (layer.Act action r.drafts place) _ scope _ (draft.rolls-Act action r.drafts place)
+                  (then-ok (args_in names scope (action_sorts names action) r.drafts) (λ (x : List Arg). gives (prog.Act action x)) args (prog.Act action args)
+                  (ap (λ (o : Option ActionItem). (args_in names scope (option_map_or (λ (i : ActionItem). i.args) o []) r.drafts).outcome) e ∙ r.means) refl);
             }
 
     proc-params : (item : ℕ) (proc : ProcItem) → slice_get agent.procs item ≡ Some proc → param_sorts names item ≡ proc.params
@@ -346,17 +291,17 @@ module _ (agent : Agent) (k : ℕ) (ready : Ready agent k) (theory : DraftTheory
               draft = draft.Call item r.drafts place;
               read = call-spelled f p.first q.first q.others item r.drafts (p.are ∙ ap (λ (fs : List Form). p.first ∷ fs) q.are) (word-as p.first (codes "call") p.alike) calls r.read;
               means =
-                  ap (λ (g : InScope). (g scope).outcome) (ap (prog_in names) (sym (draft.rolls-Call item r.drafts place)) ∙ in-roll (layer.Call item r.drafts place))
-                  ∙ then-ok (args_in names scope (param_sorts names item) r.drafts) (λ (x : List Arg). gives (prog.Call item x)) args (prog.Call item args)
-                  (ap (λ (ss : List ℕ). (args_in names scope ss r.drafts).outcome) (proc-params item proc e) ∙ r.means) refl;
+                  means-by (layer.Call item r.drafts place) _ scope _ (draft.rolls-Call item r.drafts place)
+                  (then-ok (args_in names scope (param_sorts names item) r.drafts) (λ (x : List Arg). gives (prog.Call item x)) args (prog.Call item args)
+                  (ap (λ (ss : List ℕ). (args_in names scope ss r.drafts).outcome) (proc-params item proc e) ∙ r.means) refl);
             }
 
     -- ---- a condition, one program
 
     test-spelled : (f sign one : Form) (d : DraftCond) → parts f ≡ sign ∷ one ∷ [] → word sign ≡ codes "test" → (cond_of theory one n).outcome ≡ Ok d → (prog_of theory procs f n).outcome ≡ Ok (draft.Test d (place_of f))
-    unfolding construct_of test_of
+    unfolding construct_of test_of keyword_of
     test-spelled f sign one d are s h =
-        ap (λ (r : Reading DraftProg). r.outcome) (by-word f sign (one ∷ []) n (codes "test") key.Test are s key-test)
+        ap (λ (r : Reading DraftProg). r.outcome) (by-word f sign (one ∷ []) n (codes "test") key.Test are s refl)
         ∙ then-ok (cond_of theory one n) (λ (x : DraftCond). gives (draft.Test x (place_of f))) d (draft.Test d (place_of f)) h refl
 
     test-read : (c : Cond) (f : Form) → cond_fits agent c at.scope ≡ true → is_written_cond agent c n ≡ true → Alike f (list (atom (codes "test") ∷ cond_form agent stem c ∷ [])) → ProgRead scope n (prog.Test c) f
@@ -367,45 +312,43 @@ module _ (agent : Agent) (k : ℕ) (ready : Ready agent k) (theory : DraftTheory
           draft = draft.Test r.draft place;
           read = test-spelled f p.first p.second r.draft p.are (word-as p.first (codes "test") p.like_first) r.read;
           means =
-              ap (λ (g : InScope). (g scope).outcome) (ap (prog_in names) (sym (draft.rolls-Test r.draft place)) ∙ in-roll (layer.Test r.draft place))
-              ∙ then-ok (cond_in names r.draft scope) (λ (x : Cond). gives (prog.Test x)) c (prog.Test c) r.means refl;
+              means-by (layer.Test r.draft place) _ scope _ (draft.rolls-Test r.draft place)
+              (then-ok (cond_in names r.draft scope) (λ (x : Cond). gives (prog.Test x)) c (prog.Test c) r.means refl);
         }
 
     star-spelled : (f sign one : Form) (d : DraftProg) → parts f ≡ sign ∷ one ∷ [] → word sign ≡ codes "star" → (prog_of theory procs one n).outcome ≡ Ok d → (prog_of theory procs f n).outcome ≡ Ok (draft.Star d (place_of f))
-    unfolding construct_of star_of one_of
+    unfolding construct_of star_of one_of keyword_of
     star-spelled f sign one d are s h =
-        ap (λ (r : Reading DraftProg). r.outcome) (by-word f sign (one ∷ []) n (codes "star") key.Star are s key-star)
+        ap (λ (r : Reading DraftProg). r.outcome) (by-word f sign (one ∷ []) n (codes "star") key.Star are s refl)
         ∙ then-ok (prog_of theory procs one n) (λ (x : DraftProg). gives (draft.Star x (place_of f))) d (draft.Star d (place_of f)) h refl
 
     cstar-spelled : (f sign one : Form) (d : DraftProg) → parts f ≡ sign ∷ one ∷ [] → word sign ≡ codes "cstar" → (prog_of theory procs one n).outcome ≡ Ok d → (prog_of theory procs f n).outcome ≡ Ok (draft.Cstar d (place_of f))
-    unfolding construct_of cstar_of one_of
+    unfolding construct_of cstar_of one_of keyword_of
     cstar-spelled f sign one d are s h =
-        ap (λ (r : Reading DraftProg). r.outcome) (by-word f sign (one ∷ []) n (codes "cstar") key.Cstar are s key-cstar)
+        ap (λ (r : Reading DraftProg). r.outcome) (by-word f sign (one ∷ []) n (codes "cstar") key.Cstar are s refl)
         ∙ then-ok (prog_of theory procs one n) (λ (x : DraftProg). gives (draft.Cstar x (place_of f))) d (draft.Cstar d (place_of f)) h refl
 
-    star-read : (p : AP) (f : Form) → prog_fits agent p.0 at ≡ true → is_written_prog agent p.0 n ≡ true → Alike f (list (atom (codes "star") ∷ prog_form agent stem p.0 ∷ [])) → ProgRead scope n (prog.Star p.0) f
-    star-read p f h w a =
-        let two = two-of (parts f) (atom (codes "star")) (prog_form agent stem p.0) (parts-as f (atom (codes "star") ∷ prog_form agent stem p.0 ∷ []) a) in
+    -- one program behind a word
+    again-read : (text : Text) (made : DraftProg → ℕ → DraftProg) (make : Prog → Prog)
+        → ((f sign one : Form) (d : DraftProg) → parts f ≡ sign ∷ one ∷ [] → word sign ≡ text → (prog_of theory procs one n).outcome ≡ Ok d → (prog_of theory procs f n).outcome ≡ Ok (made d (place_of f)))
+        → ((d : DraftProg) (place : ℕ) (p : Prog) → (prog_in names d scope).outcome ≡ Ok p → (prog_in names (made d place) scope).outcome ≡ Ok (make p))
+        → (p : AP) (f : Form) → prog_fits agent p.0 at ≡ true → is_written_prog agent p.0 n ≡ true → Alike f (list (atom text ∷ prog_form agent stem p.0 ∷ [])) → ProgRead scope n (make p.0) f
+    again-read text made make spelled meant p f h w a =
+        let two = two-of (parts f) (atom text) (prog_form agent stem p.0) (parts-as f (atom text ∷ prog_form agent stem p.0 ∷ []) a) in
         let r = p.1 at scope n long scoped h w two.second two.like_second in
-        let place = place_of f in record {
-          draft = draft.Star r.draft place;
-          read = star-spelled f two.first two.second r.draft two.are (word-as two.first (codes "star") two.like_first) r.read;
-          means =
-              ap (λ (g : InScope). (g scope).outcome) (ap (prog_in names) (sym (draft.rolls-Star r.draft place)) ∙ in-roll (layer.Star r.draft place))
-              ∙ then-ok (prog_in names r.draft scope) (λ (x : Prog). gives (prog.Star x)) p.0 (prog.Star p.0) r.means refl;
+        record {
+          draft = made r.draft (place_of f);
+          read = spelled f two.first two.second r.draft two.are (word-as two.first text two.like_first) r.read;
+          means = meant r.draft (place_of f) p.0 r.means;
         }
 
+    star-read : (p : AP) (f : Form) → prog_fits agent p.0 at ≡ true → is_written_prog agent p.0 n ≡ true → Alike f (list (atom (codes "star") ∷ prog_form agent stem p.0 ∷ [])) → ProgRead scope n (prog.Star p.0) f
+    star-read = again-read (codes "star") (λ d place. draft.Star d place) (λ p. prog.Star p) star-spelled (λ d place p h.
+        means-by (layer.Star d place) (draft.Star d place) scope (prog.Star p) (draft.rolls-Star d place) (then-ok (prog_in names d scope) (λ (x : Prog). gives (prog.Star x)) p (prog.Star p) h refl))
+
     cstar-read : (p : AP) (f : Form) → prog_fits agent p.0 at ≡ true → is_written_prog agent p.0 n ≡ true → Alike f (list (atom (codes "cstar") ∷ prog_form agent stem p.0 ∷ [])) → ProgRead scope n (prog.Cstar p.0) f
-    cstar-read p f h w a =
-        let two = two-of (parts f) (atom (codes "cstar")) (prog_form agent stem p.0) (parts-as f (atom (codes "cstar") ∷ prog_form agent stem p.0 ∷ []) a) in
-        let r = p.1 at scope n long scoped h w two.second two.like_second in
-        let place = place_of f in record {
-          draft = draft.Cstar r.draft place;
-          read = cstar-spelled f two.first two.second r.draft two.are (word-as two.first (codes "cstar") two.like_first) r.read;
-          means =
-              ap (λ (g : InScope). (g scope).outcome) (ap (prog_in names) (sym (draft.rolls-Cstar r.draft place)) ∙ in-roll (layer.Cstar r.draft place))
-              ∙ then-ok (prog_in names r.draft scope) (λ (x : Prog). gives (prog.Cstar x)) p.0 (prog.Cstar p.0) r.means refl;
-        }
+    cstar-read = again-read (codes "cstar") (λ d place. draft.Cstar d place) (λ p. prog.Cstar p) cstar-spelled (λ d place p h.
+        means-by (layer.Cstar d place) (draft.Cstar d place) scope (prog.Cstar p) (draft.rolls-Cstar d place) (then-ok (prog_in names d scope) (λ (x : Prog). gives (prog.Cstar x)) p (prog.Cstar p) h refl))
 
     -- ---- two programs
 
@@ -455,69 +398,58 @@ module _ (agent : Agent) (k : ℕ) (ready : Ready agent k) (theory : DraftTheory
     abbrev pair_parts : Form → Form → List (Part (ℕ → Reading DraftProg))
     pair_parts one other = map (prog_part theory procs) (one ∷ other ∷ [])
 
-    seq-spelled : (f head one other : Form) (ds : List DraftProg) → parts f ≡ head ∷ one ∷ other ∷ [] → word head ≡ codes "seq" → (progs_of n (pair_parts one other)).outcome ≡ Ok ds → (prog_of theory procs f n).outcome ≡ Ok (draft.Seq ds (place_of f))
-    unfolding construct_of seq_of
-    seq-spelled f head one other ds are s h =
-        ap (λ (r : Reading DraftProg). r.outcome) (by-word f head (one ∷ other ∷ []) n (codes "seq") key.Seq are s key-seq)
-        ∙ then-ok (progs_of n (pair_parts one other)) (λ (x : List DraftProg). gives (draft.Seq x (place_of f))) ds (draft.Seq ds (place_of f)) h refl
-
     several-ok : (one other : Form) (at : ℕ) (ds : List DraftProg) → (progs_of n (pair_parts one other)).outcome ≡ Ok ds → (several_of n at (pair_parts one other)).outcome ≡ Ok ds
     unfolding several_of
     several-ok one other at ds h = row-ok (nat_lt (length (pair_parts one other)) 2) UNKNOWN_FORM at (progs_of n (pair_parts one other)) ds refl h
 
-    choice-spelled : (f head one other : Form) (ds : List DraftProg) → parts f ≡ head ∷ one ∷ other ∷ [] → word head ≡ codes "choice" → (progs_of n (pair_parts one other)).outcome ≡ Ok ds → (prog_of theory procs f n).outcome ≡ Ok (draft.Choice ds (place_of f))
-    unfolding construct_of choice_of
-    choice-spelled f head one other ds are s h =
-        ap (λ (r : Reading DraftProg). r.outcome) (by-word f head (one ∷ other ∷ []) n (codes "choice") key.Choice are s key-choice)
+    abbrev join_word : Join → Text
+    join_word InSeq = codes "seq"
+    join_word InChoice = codes "choice"
+    join_word InConc = codes "conc"
+    join_word InPrio = codes "prio"
+
+    abbrev join_draft : Join → List DraftProg → ℕ → DraftProg
+    join_draft InSeq ds place = draft.Seq ds place
+    join_draft InChoice ds place = draft.Choice ds place
+    join_draft InConc ds place = draft.Conc ds place
+    join_draft InPrio ds place = draft.Prio ds place
+
+    joined-spelled : (join : Join) (f head one other : Form) (ds : List DraftProg) → parts f ≡ head ∷ one ∷ other ∷ [] → word head ≡ join_word join → (progs_of n (pair_parts one other)).outcome ≡ Ok ds
+        → (prog_of theory procs f n).outcome ≡ Ok (join_draft join ds (place_of f))
+    unfolding construct_of seq_of choice_of conc_of prio_of keyword_of
+    joined-spelled InSeq f head one other ds are s h =
+        ap (λ (r : Reading DraftProg). r.outcome) (by-word f head (one ∷ other ∷ []) n (codes "seq") key.Seq are s refl)
+        ∙ then-ok (progs_of n (pair_parts one other)) (λ (x : List DraftProg). gives (draft.Seq x (place_of f))) ds (draft.Seq ds (place_of f)) h refl
+    joined-spelled InChoice f head one other ds are s h =
+        ap (λ (r : Reading DraftProg). r.outcome) (by-word f head (one ∷ other ∷ []) n (codes "choice") key.Choice are s refl)
         ∙ then-ok (several_of n (place_of f) (pair_parts one other)) (λ (x : List DraftProg). gives (draft.Choice x (place_of f))) ds (draft.Choice ds (place_of f)) (several-ok one other (place_of f) ds h) refl
-
-    conc-spelled : (f head one other : Form) (ds : List DraftProg) → parts f ≡ head ∷ one ∷ other ∷ [] → word head ≡ codes "conc" → (progs_of n (pair_parts one other)).outcome ≡ Ok ds → (prog_of theory procs f n).outcome ≡ Ok (draft.Conc ds (place_of f))
-    unfolding construct_of conc_of
-    conc-spelled f head one other ds are s h =
-        ap (λ (r : Reading DraftProg). r.outcome) (by-word f head (one ∷ other ∷ []) n (codes "conc") key.Conc are s key-conc)
+    joined-spelled InConc f head one other ds are s h =
+        ap (λ (r : Reading DraftProg). r.outcome) (by-word f head (one ∷ other ∷ []) n (codes "conc") key.Conc are s refl)
         ∙ then-ok (several_of n (place_of f) (pair_parts one other)) (λ (x : List DraftProg). gives (draft.Conc x (place_of f))) ds (draft.Conc ds (place_of f)) (several-ok one other (place_of f) ds h) refl
-
-    prio-spelled : (f head one other : Form) (ds : List DraftProg) → parts f ≡ head ∷ one ∷ other ∷ [] → word head ≡ codes "prio" → (progs_of n (pair_parts one other)).outcome ≡ Ok ds → (prog_of theory procs f n).outcome ≡ Ok (draft.Prio ds (place_of f))
-    unfolding construct_of prio_of
-    prio-spelled f head one other ds are s h =
-        ap (λ (r : Reading DraftProg). r.outcome) (by-word f head (one ∷ other ∷ []) n (codes "prio") key.Prio are s key-prio)
+    joined-spelled InPrio f head one other ds are s h =
+        ap (λ (r : Reading DraftProg). r.outcome) (by-word f head (one ∷ other ∷ []) n (codes "prio") key.Prio are s refl)
         ∙ then-ok (several_of n (place_of f) (pair_parts one other)) (λ (x : List DraftProg). gives (draft.Prio x (place_of f))) ds (draft.Prio ds (place_of f)) (several-ok one other (place_of f) ds h) refl
 
-    seq-read : (p q : Prog) (f : Form) → PairRead (codes "seq") p q f → ProgRead scope n (prog.Seq p q) f
-    seq-read p q f r = record {
-      draft = draft.Seq (r.first ∷ r.second ∷ []) (place_of f);
-      read = seq-spelled f r.head r.one r.other (r.first ∷ r.second ∷ []) r.are r.named_so r.spells;
-      means = ap (λ (g : InScope). (g scope).outcome) (ap (prog_in names) (sym (draft.rolls-Seq (r.first ∷ r.second ∷ []) (place_of f))) ∙ in-roll (layer.Seq (r.first ∷ r.second ∷ []) (place_of f))) ∙ r.joins InSeq;
-    }
+    joined-means : (join : Join) (ds : List DraftProg) (place : ℕ) (p : Prog) → (parts_in join scope (map (prog_in names) ds)).outcome ≡ Ok p → (prog_in names (join_draft join ds place) scope).outcome ≡ Ok p
+    joined-means InSeq ds place p h = means-by (layer.Seq ds place) (draft.Seq ds place) scope p (draft.rolls-Seq ds place) h
+    joined-means InChoice ds place p h = means-by (layer.Choice ds place) (draft.Choice ds place) scope p (draft.rolls-Choice ds place) h
+    joined-means InConc ds place p h = means-by (layer.Conc ds place) (draft.Conc ds place) scope p (draft.rolls-Conc ds place) h
+    joined-means InPrio ds place p h = means-by (layer.Prio ds place) (draft.Prio ds place) scope p (draft.rolls-Prio ds place) h
 
-    choice-read : (p q : Prog) (f : Form) → PairRead (codes "choice") p q f → ProgRead scope n (prog.Choice p q) f
-    choice-read p q f r = record {
-      draft = draft.Choice (r.first ∷ r.second ∷ []) (place_of f);
-      read = choice-spelled f r.head r.one r.other (r.first ∷ r.second ∷ []) r.are r.named_so r.spells;
-      means = ap (λ (g : InScope). (g scope).outcome) (ap (prog_in names) (sym (draft.rolls-Choice (r.first ∷ r.second ∷ []) (place_of f))) ∙ in-roll (layer.Choice (r.first ∷ r.second ∷ []) (place_of f))) ∙ r.joins InChoice;
-    }
-
-    conc-read : (p q : Prog) (f : Form) → PairRead (codes "conc") p q f → ProgRead scope n (prog.Conc p q) f
-    conc-read p q f r = record {
-      draft = draft.Conc (r.first ∷ r.second ∷ []) (place_of f);
-      read = conc-spelled f r.head r.one r.other (r.first ∷ r.second ∷ []) r.are r.named_so r.spells;
-      means = ap (λ (g : InScope). (g scope).outcome) (ap (prog_in names) (sym (draft.rolls-Conc (r.first ∷ r.second ∷ []) (place_of f))) ∙ in-roll (layer.Conc (r.first ∷ r.second ∷ []) (place_of f))) ∙ r.joins InConc;
-    }
-
-    prio-read : (p q : Prog) (f : Form) → PairRead (codes "prio") p q f → ProgRead scope n (prog.Prio p q) f
-    prio-read p q f r = record {
-      draft = draft.Prio (r.first ∷ r.second ∷ []) (place_of f);
-      read = prio-spelled f r.head r.one r.other (r.first ∷ r.second ∷ []) r.are r.named_so r.spells;
-      means = ap (λ (g : InScope). (g scope).outcome) (ap (prog_in names) (sym (draft.rolls-Prio (r.first ∷ r.second ∷ []) (place_of f))) ∙ in-roll (layer.Prio (r.first ∷ r.second ∷ []) (place_of f))) ∙ r.joins InPrio;
+    joined-read : (join : Join) (p q : Prog) (f : Form) → PairRead (join_word join) p q f → ProgRead scope n (joined join p q) f
+    joined-read join p q f r = record {
+      draft = join_draft join (r.first ∷ r.second ∷ []) (place_of f);
+      read = joined-spelled join f r.head r.one r.other (r.first ∷ r.second ∷ []) r.are r.named_so r.spells;
+      means = joined-means join (r.first ∷ r.second ∷ []) (place_of f) (joined join p q) (r.joins join);
     }
 
     -- ---- binders, conditions and blocks
 
     pick-spelled : (f head binder body : Form) (var : Text) (sort : ℕ) (d : DraftProg) → parts f ≡ head ∷ binder ∷ body ∷ [] → word head ≡ codes "pick" → n < 32
         → (binder_of theory binder).outcome ≡ Ok (binder_made var sort) → (prog_of theory procs body (n + 1)).outcome ≡ Ok d → (prog_of theory procs f n).outcome ≡ Ok (draft.Pick var sort d (place_of f))
-    unfolding construct_of pick_of
+    unfolding construct_of pick_of keyword_of
     pick-spelled f head binder body var sort d are s l h g =
-        ap (λ (r : Reading DraftProg). r.outcome) (by-word f head (binder ∷ body ∷ []) n (codes "pick") key.Pick are s key-pick)
+        ap (λ (r : Reading DraftProg). r.outcome) (by-word f head (binder ∷ body ∷ []) n (codes "pick") key.Pick are s refl)
         ∙ row-ok (nat_le VARIABLES n) COUNT (place_of f) (binder_of theory binder >>= λ (b : Binder). prog_of theory procs body (n + 1) >>= λ (x : DraftProg). gives (draft.Pick b.var b.sort x (place_of f))) (draft.Pick var sort d (place_of f))
         (lt-leb 32 n l)
         (then-ok (binder_of theory binder) (λ (b : Binder). prog_of theory procs body (n + 1) >>= λ (x : DraftProg). gives (draft.Pick b.var b.sort x (place_of f))) (binder_made var sort) (draft.Pick var sort d (place_of f)) h
@@ -541,9 +473,9 @@ module _ (agent : Agent) (k : ℕ) (ready : Ready agent k) (theory : DraftTheory
           draft = draft.Pick v sort r.draft place;
           read = pick-spelled f three.first three.second three.third v sort r.draft three.are (word-as three.first (codes "pick") three.like_first) less (binder-ok agent k ready theory of three.second var sort fit three.like_second) r.read;
           means =
-              ap (λ (g : InScope). (g scope).outcome) (ap (prog_in names) (sym (draft.rolls-Pick v sort r.draft place)) ∙ in-roll (layer.Pick v sort r.draft place))
-              ∙ then-ok (prog_in names r.draft (within v sort scope)) (λ (x : Prog). gives (prog.Pick (variable_no scope) sort x)) p.0 (prog.Pick var sort p.0) r.means
-              (ap (λ (m : ℕ). Ok (prog.Pick m sort p.0)) number);
+              means-by (layer.Pick v sort r.draft place) _ scope _ (draft.rolls-Pick v sort r.draft place)
+              (then-ok (prog_in names r.draft (within v sort scope)) (λ (x : Prog). gives (prog.Pick (variable_no scope) sort x)) p.0 (prog.Pick var sort p.0) r.means
+              (ap (λ (m : ℕ). Ok (prog.Pick m sort p.0)) number));
         }
 
     guarded-ok : (cond body : Form) (c : DraftCond) (d : DraftProg) → (cond_of theory cond n).outcome ≡ Ok c → (prog_of theory procs body n).outcome ≡ Ok d
@@ -555,17 +487,17 @@ module _ (agent : Agent) (k : ℕ) (ready : Ready agent k) (theory : DraftTheory
 
     if-spelled : (f head cond body other : Form) (c : DraftCond) (d e : DraftProg) → parts f ≡ head ∷ cond ∷ body ∷ other ∷ [] → word head ≡ codes "if"
         → (cond_of theory cond n).outcome ≡ Ok c → (prog_of theory procs body n).outcome ≡ Ok d → (prog_of theory procs other n).outcome ≡ Ok e → (prog_of theory procs f n).outcome ≡ Ok (draft.If c d e (place_of f))
-    unfolding construct_of if_of
+    unfolding construct_of if_of keyword_of
     if-spelled f head cond body other c d e are s h g i =
-        ap (λ (r : Reading DraftProg). r.outcome) (by-word f head (cond ∷ body ∷ other ∷ []) n (codes "if") key.If are s key-if)
+        ap (λ (r : Reading DraftProg). r.outcome) (by-word f head (cond ∷ body ∷ other ∷ []) n (codes "if") key.If are s refl)
         ∙ then-ok (guarded_of theory n (prog_part theory procs cond) (prog_part theory procs body)) (λ (x : Guarded). prog_of theory procs other n >>= λ (y : DraftProg). gives (draft.If x.cond x.body y (place_of f))) (guarded_made c d) (draft.If c d e (place_of f)) (guarded-ok cond body c d h g)
         (then-ok (prog_of theory procs other n) (λ (y : DraftProg). gives (draft.If c d y (place_of f))) e (draft.If c d e (place_of f)) i refl)
 
     while-spelled : (f head cond body : Form) (c : DraftCond) (d : DraftProg) → parts f ≡ head ∷ cond ∷ body ∷ [] → word head ≡ codes "while"
         → (cond_of theory cond n).outcome ≡ Ok c → (prog_of theory procs body n).outcome ≡ Ok d → (prog_of theory procs f n).outcome ≡ Ok (draft.While c d (place_of f))
-    unfolding construct_of while_of
+    unfolding construct_of while_of keyword_of
     while-spelled f head cond body c d are s h g =
-        ap (λ (r : Reading DraftProg). r.outcome) (by-word f head (cond ∷ body ∷ []) n (codes "while") key.While are s key-while)
+        ap (λ (r : Reading DraftProg). r.outcome) (by-word f head (cond ∷ body ∷ []) n (codes "while") key.While are s refl)
         ∙ then-ok (guarded_of theory n (prog_part theory procs cond) (prog_part theory procs body)) (λ (x : Guarded). gives (draft.While x.cond x.body (place_of f))) (guarded_made c d) (draft.While c d (place_of f)) (guarded-ok cond body c d h g) refl
 
     if-read : (c : Cond) (p q : AP) (f : Form) → ((cond_fits agent c at.scope && prog_fits agent p.0 at) && prog_fits agent q.0 at) ≡ true
@@ -583,10 +515,10 @@ module _ (agent : Agent) (k : ℕ) (ready : Ready agent k) (theory : DraftTheory
           draft = draft.If b.draft r.draft s.draft place;
           read = if-spelled f four.first four.second four.third four.fourth b.draft r.draft s.draft four.are (word-as four.first (codes "if") four.like_first) b.read r.read s.read;
           means =
-              ap (λ (g : InScope). (g scope).outcome) (ap (prog_in names) (sym (draft.rolls-If b.draft r.draft s.draft place)) ∙ in-roll (layer.If b.draft r.draft s.draft place))
-              ∙ then-ok (cond_in names b.draft scope) (λ (x : Cond). prog_in names r.draft scope >>= λ (y : Prog). with_no x y (prog_in names s.draft scope)) c (prog.If c p.0 q.0) b.means
+              means-by (layer.If b.draft r.draft s.draft place) _ scope _ (draft.rolls-If b.draft r.draft s.draft place)
+              (then-ok (cond_in names b.draft scope) (λ (x : Cond). prog_in names r.draft scope >>= λ (y : Prog). with_no x y (prog_in names s.draft scope)) c (prog.If c p.0 q.0) b.means
               (then-ok (prog_in names r.draft scope) (λ (y : Prog). with_no c y (prog_in names s.draft scope)) p.0 (prog.If c p.0 q.0) r.means
-              (then-ok (prog_in names s.draft scope) (λ (z : Prog). gives (prog.If c p.0 z)) q.0 (prog.If c p.0 q.0) s.means refl));
+              (then-ok (prog_in names s.draft scope) (λ (z : Prog). gives (prog.If c p.0 z)) q.0 (prog.If c p.0 q.0) s.means refl)));
         }
 
     while-read : (c : Cond) (p : AP) (f : Form) → (cond_fits agent c at.scope && prog_fits agent p.0 at) ≡ true → (is_written_cond agent c n && is_written_prog agent p.0 n) ≡ true
@@ -599,16 +531,16 @@ module _ (agent : Agent) (k : ℕ) (ready : Ready agent k) (theory : DraftTheory
           draft = draft.While b.draft r.draft place;
           read = while-spelled f three.first three.second three.third b.draft r.draft three.are (word-as three.first (codes "while") three.like_first) b.read r.read;
           means =
-              ap (λ (g : InScope). (g scope).outcome) (ap (prog_in names) (sym (draft.rolls-While b.draft r.draft place)) ∙ in-roll (layer.While b.draft r.draft place))
-              ∙ then-ok (cond_in names b.draft scope) (λ (x : Cond). with_body x (prog_in names r.draft scope)) c (prog.While c p.0) b.means
-              (then-ok (prog_in names r.draft scope) (λ (y : Prog). gives (prog.While c y)) p.0 (prog.While c p.0) r.means refl);
+              means-by (layer.While b.draft r.draft place) _ scope _ (draft.rolls-While b.draft r.draft place)
+              (then-ok (cond_in names b.draft scope) (λ (x : Cond). with_body x (prog_in names r.draft scope)) c (prog.While c p.0) b.means
+              (then-ok (prog_in names r.draft scope) (λ (y : Prog). gives (prog.While c y)) p.0 (prog.While c p.0) r.means refl));
         }
 
     search-spelled : (f head one other body : Form) (depth fuel : ℕ) (d : DraftProg) → parts f ≡ head ∷ one ∷ other ∷ body ∷ [] → word head ≡ codes "search"
         → (number_of one).outcome ≡ Ok (pos depth) → (number_of other).outcome ≡ Ok (pos fuel) → (prog_of theory procs body n).outcome ≡ Ok d → (prog_of theory procs f n).outcome ≡ Ok (draft.Search (pos depth) (pos fuel) d (place_of f))
-    unfolding construct_of search_of
+    unfolding construct_of search_of keyword_of
     search-spelled f head one other body depth fuel d are s h g i =
-        ap (λ (r : Reading DraftProg). r.outcome) (by-word f head (one ∷ other ∷ body ∷ []) n (codes "search") key.Search are s key-search)
+        ap (λ (r : Reading DraftProg). r.outcome) (by-word f head (one ∷ other ∷ body ∷ []) n (codes "search") key.Search are s refl)
         ∙ then-ok (number_of one) (λ (x : ℤ). number_of other >>= λ (y : ℤ). prog_of theory procs body n >>= λ (z : DraftProg). gives (draft.Search x y z (place_of f))) (pos depth) (draft.Search (pos depth) (pos fuel) d (place_of f)) h
         (then-ok (number_of other) (λ (y : ℤ). prog_of theory procs body n >>= λ (z : DraftProg). gives (draft.Search (pos depth) y z (place_of f))) (pos fuel) (draft.Search (pos depth) (pos fuel) d (place_of f)) g
         (then-ok (prog_of theory procs body n) (λ (z : DraftProg). gives (draft.Search (pos depth) (pos fuel) z (place_of f))) d (draft.Search (pos depth) (pos fuel) d (place_of f)) i refl))
@@ -632,28 +564,28 @@ module _ (agent : Agent) (k : ℕ) (ready : Ready agent k) (theory : DraftTheory
           read = search-spelled f four.first four.second four.third four.fourth depth fuel r.draft four.are (word-as four.first (codes "search") four.like_first)
               (depth-ok four.second depth (word-as four.second (decimal depth) four.like_second) small.0) (depth-ok four.third fuel (word-as four.third (decimal fuel) four.like_third) small.1) r.read;
           means =
-              ap (λ (g : InScope). (g scope).outcome) (ap (prog_in names) (sym (draft.rolls-Search (pos depth) (pos fuel) r.draft place)) ∙ in-roll (layer.Search (pos depth) (pos fuel) r.draft place))
-              ∙ then-ok (prog_in names r.draft scope) (λ (x : Prog). gives (prog.Search depth fuel x)) p.0 (prog.Search depth fuel p.0) r.means refl;
+              means-by (layer.Search (pos depth) (pos fuel) r.draft place) _ scope _ (draft.rolls-Search (pos depth) (pos fuel) r.draft place)
+              (then-ok (prog_in names r.draft scope) (λ (x : Prog). gives (prog.Search depth fuel x)) p.0 (prog.Search depth fuel p.0) r.means refl);
         }
 
     abbrev IsRead : Form → Prog → Type 0
     IsRead f p = ProgRead scope n p f
 
     prog-made : (y : Prog-F AP AW)
-        → placed.prog_step agent (map-Prog Prog Way (Position → Bool) (Position → Bool) (prog_fits agent) way_fits (prog_at y)) at ≡ true
-        → written_prog_step agent (map-Prog Prog Way (ℕ → Bool) Bool (is_written_prog agent) way_written (prog_at y)) n ≡ true
+        → placed.prog_step agent (map-Prog Prog Way (Position → Bool) (Position → Bool) (prog_fits agent) (way_fits agent) (prog_at y)) at ≡ true
+        → written_prog_step agent (map-Prog Prog Way (ℕ → Bool) Bool (is_written_prog agent) (way_written agent) (prog_at y)) n ≡ true
         → (f : Form) → Alike f (form.prog_step agent stem (map-Prog Prog Way Form Form (prog_form agent stem) way_form (prog_at y))) → IsRead f (roll-Prog (prog_at y))
     prog-made Nil h w f a = subst (IsRead f) (sym prog.rolls-Nil) (nil-read f a)
     prog-made (Act action args) h w f a = subst (IsRead f) (sym (prog.rolls-Act action args)) (act-read action args f h a)
     prog-made (Test c) h w f a = subst (IsRead f) (sym (prog.rolls-Test c)) (test-read c f h w a)
-    prog-made (Seq p q) h w f a = subst (IsRead f) (sym (prog.rolls-Seq p.0 q.0)) (seq-read p.0 q.0 f (pair-read (codes "seq") p q f h w a))
-    prog-made (Choice p q) h w f a = subst (IsRead f) (sym (prog.rolls-Choice p.0 q.0)) (choice-read p.0 q.0 f (pair-read (codes "choice") p q f h w a))
+    prog-made (Seq p q) h w f a = subst (IsRead f) (sym (prog.rolls-Seq p.0 q.0)) (joined-read InSeq p.0 q.0 f (pair-read (codes "seq") p q f h w a))
+    prog-made (Choice p q) h w f a = subst (IsRead f) (sym (prog.rolls-Choice p.0 q.0)) (joined-read InChoice p.0 q.0 f (pair-read (codes "choice") p q f h w a))
     prog-made (Pick var sort p) h w f a = subst (IsRead f) (sym (prog.rolls-Pick var sort p.0)) (pick-read var sort p f h w a)
     prog-made (Star p) h w f a = subst (IsRead f) (sym (prog.rolls-Star p.0)) (star-read p f h w a)
     prog-made (If c p q) h w f a = subst (IsRead f) (sym (prog.rolls-If c p.0 q.0)) (if-read c p q f h w a)
     prog-made (While c p) h w f a = subst (IsRead f) (sym (prog.rolls-While c p.0)) (while-read c p f h w a)
-    prog-made (Conc p q) h w f a = subst (IsRead f) (sym (prog.rolls-Conc p.0 q.0)) (conc-read p.0 q.0 f (pair-read (codes "conc") p q f h w a))
-    prog-made (Prio p q) h w f a = subst (IsRead f) (sym (prog.rolls-Prio p.0 q.0)) (prio-read p.0 q.0 f (pair-read (codes "prio") p q f h w a))
+    prog-made (Conc p q) h w f a = subst (IsRead f) (sym (prog.rolls-Conc p.0 q.0)) (joined-read InConc p.0 q.0 f (pair-read (codes "conc") p q f h w a))
+    prog-made (Prio p q) h w f a = subst (IsRead f) (sym (prog.rolls-Prio p.0 q.0)) (joined-read InPrio p.0 q.0 f (pair-read (codes "prio") p q f h w a))
     prog-made (Cstar p) h w f a = subst (IsRead f) (sym (prog.rolls-Cstar p.0)) (cstar-read p f h w a)
     prog-made (Call item args) h w f a =
         subst (IsRead f) (sym (prog.rolls-Call item args))
@@ -661,17 +593,11 @@ module _ (agent : Agent) (k : ℕ) (ready : Ready agent k) (theory : DraftTheory
     prog-made (Search depth fuel p) h w f a = subst (IsRead f) (sym (prog.rolls-Search depth fuel p.0)) (search-read depth fuel p f h w a)
     prog-made (Follow depth fuel p rest) h w f a = wrong w
 
-  fits-prog : (l : Prog-F Prog Way) → prog_fits agent (roll-Prog l) ≡ placed.prog_step agent (map-Prog Prog Way (Position → Bool) (Position → Bool) (prog_fits agent) way_fits l)
-  fits-prog l = fold-roll-Prog (Position → Bool) (Position → Bool) (placed.prog_step agent) (placed.way_step agent) l
-
-  written-prog : (l : Prog-F Prog Way) → is_written_prog agent (roll-Prog l) ≡ written_prog_step agent (map-Prog Prog Way (ℕ → Bool) Bool (is_written_prog agent) way_written l)
-  written-prog l = fold-roll-Prog (ℕ → Bool) Bool (written_prog_step agent) (λ w. false) l
-
   prog-layer : (y : Prog-F AP AW) → ProgReads (roll-Prog (prog_at y))
   prog-layer y at scope n long scoped h w f a =
       prog-made at scope n long scoped y
-      (sym (ap (λ (g : Position → Bool). g at) (fits-prog (prog_at y))) ∙ h)
-      (sym (ap (λ (g : ℕ → Bool). g n) (written-prog (prog_at y))) ∙ w) f
+      (sym (ap (λ (g : Position → Bool). g at) (fits-prog agent (prog_at y))) ∙ h)
+      (sym (ap (λ (g : ℕ → Bool). g n) (written-prog agent (prog_at y))) ∙ w) f
       (a ∙ ap plain (fold-roll-Prog Form Form (form.prog_step agent stem) (λ _. list []) (prog_at y)))
 
   -- a program that was printed is read back

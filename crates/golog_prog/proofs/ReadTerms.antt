@@ -20,9 +20,8 @@ use Rattle.golog_tree.specs.declared.draft.DraftFluent.{DraftFluent}
 use Rattle.golog_tree.specs.declared.draft_cond.DraftArg.{DraftArg}
 use Rattle.golog_tree.specs.declared.draft_cond.DraftTerm.{DraftTerm}
 use Rattle.golog_tree.specs.declared.draft_cond.DraftTerm.TheVariants as draft
-use Rattle.golog_tree.specs.declared.draft_cond.DraftTerm.TheOpen.{DraftTerm-F, Arg as DraftArgTerm, Fluent as DraftFluentTerm, Shift as DraftShift}
-use Rattle.golog_tree.specs.declared.draft_cond.DraftTerm.TheViews.{roll-DraftTerm}
-use Rattle.golog_tree.specs.declared.draft_cond.DraftTerm.TheFolds.{fold-roll-DraftTerm, map-DraftTerm}
+use Rattle.golog_tree.specs.declared.draft_cond.DraftTerm.TheOpen.{Arg as DraftArgTerm, Fluent as DraftFluentTerm, Shift as DraftShift}
+use Rattle.golog_tree.specs.declared.draft_cond.DraftTerm.TheFolds.{fold-roll-DraftTerm}
 use Rattle.golog_semantics.specs.Text.{Text}
 use Rattle.golog_semantics.specs.BuiltIn.{declared_names}
 use Rattle.golog_semantics.proofs.Among.{Among}
@@ -48,8 +47,9 @@ use Rattle.golog_check.specs.DeclaredItems.{Declared, fluent_item}
 use Rattle.golog_check.specs.Sorts as sorts
 use Rattle.golog_check.specs.Sorts.{fluent_sort, fluent_sorts}
 use Rattle.golog_check.specs.Scope.{Scope}
-use Rattle.golog_check.specs.Terms.{is_other, arg_sort, arg_as, args_in, term_sort, sort_step, term_as, as_step}
+use Rattle.golog_check.specs.Terms.{is_other, arg_sort, arg_as, args_in, term_sort, term_as, as_step}
 use Rattle.golog_check.proofs.ArgLaws.{same-number}
+use Rattle.golog_check.proofs.Layers.{as-term, sort-term, wording}
 use Rattle.golog_prog.specs.Printing.{stem_text, sign_text, fluent_name, arg_text, args_texts}
 use Rattle.golog_prog.specs.Printing as say
 use Rattle.golog_prog.specs.ReadBack.{IsTheoryOf, names_in}
@@ -103,9 +103,6 @@ step-ok f n e h =
     row-ok (not (is_number (word f)) || has_sign (word f)) UNKNOWN_FORM (place_of f) (found NUMBER_RANGE (place_of f) (value (word f))) (pos n)
     (λ i. num i || plus i)
     (found-ok NUMBER_RANGE (place_of f) (value (word f)) (pos n) (ap value e ∙ count-value n h))
-
-abbrev pub wording : Agent → Term → Wording
-wording agent = fold-Term (ℕ → Bool) Wording (written_cond_step agent) (written_term_step agent)
 
 names-of : (ds : List DraftFluent) → map (λ (d : DraftFluent). d.name) ds ≡ map (λ (i : FluentItem). i.name) (map fluent_item ds)
 names-of [] = refl
@@ -189,12 +186,6 @@ module _ (agent : Agent) (k : ℕ) (ready : Ready agent k) (theory : DraftTheory
       pub shown : is_other (term_sort names scope draft) sort ≡ false
       pub shows : ((wording agent t).shows_sort || not (is_range agent sort)) ≡ true → term_sort names scope draft ≡ Some sort
 
-    as-roll : (l : DraftTerm-F DraftTerm) → term_as names scope (roll-DraftTerm l) ≡ as_step names scope (map-DraftTerm DraftTerm (ℕ → Reading Term) (term_as names scope) l)
-    as-roll l = fold-roll-DraftTerm (ℕ → Reading Term) (as_step names scope) l
-
-    sort-roll : (l : DraftTerm-F DraftTerm) → term_sort names scope (roll-DraftTerm l) ≡ sort_step names scope (map-DraftTerm DraftTerm (Option ℕ) (term_sort names scope) l)
-    sort-roll l = fold-roll-DraftTerm (Option ℕ) (sort_step names scope) l
-
     abbrev part_readings : Form → List (Part (Reading DraftTerm))
     part_readings f = map (term_part theory) (parts f)
 
@@ -208,8 +199,8 @@ module _ (agent : Agent) (k : ℕ) (ready : Ready agent k) (theory : DraftTheory
     pub arg-term : (sort : ℕ) (arg : Arg) (f : Form) → arg_fits agent bound sort arg ≡ true → Alike f (atom (arg_text agent stem sort arg)) → TermRead sort (term.Arg arg) f
     arg-term sort arg f h a =
         let r = arg-read agent k ready bound scope scoped sort arg f h (word-as f (arg_text agent stem sort arg) a) in
-        let layered : term_as names scope (draft.Arg r.draft) ≡ as_step names scope (DraftArgTerm r.draft) = ap (term_as names scope) (sym (draft.rolls-Arg r.draft)) ∙ as-roll (DraftArgTerm r.draft) in
-        let sorted : term_sort names scope (draft.Arg r.draft) ≡ arg_sort names scope r.draft = ap (term_sort names scope) (sym (draft.rolls-Arg r.draft)) ∙ sort-roll (DraftArgTerm r.draft) in
+        let layered : term_as names scope (draft.Arg r.draft) ≡ as_step names scope (DraftArgTerm r.draft) = ap (term_as names scope) (sym (draft.rolls-Arg r.draft)) ∙ as-term names scope (DraftArgTerm r.draft) in
+        let sorted : term_sort names scope (draft.Arg r.draft) ≡ arg_sort names scope r.draft = ap (term_sort names scope) (sym (draft.rolls-Arg r.draft)) ∙ sort-term names scope (DraftArgTerm r.draft) in
         let said : wording agent (term.Arg arg) ≡ written_arg arg =
         ap (wording agent) (sym (term.rolls-Arg arg)) ∙ fold-roll-Term (ℕ → Bool) Wording (written_cond_step agent) (written_term_step agent) (ArgTerm arg) in
         record {
@@ -234,9 +225,9 @@ module _ (agent : Agent) (k : ℕ) (ready : Ready agent k) (theory : DraftTheory
         let r = fluent-read sort fluent args f h a in
         let at = place_of f in
         let layered : term_as names scope (draft.Fluent fluent r.drafts at) ≡ as_step names scope (DraftFluentTerm fluent r.drafts at) =
-        ap (term_as names scope) (sym (draft.rolls-Fluent fluent r.drafts at)) ∙ as-roll (DraftFluentTerm fluent r.drafts at) in
+        ap (term_as names scope) (sym (draft.rolls-Fluent fluent r.drafts at)) ∙ as-term names scope (DraftFluentTerm fluent r.drafts at) in
         let sorted : term_sort names scope (draft.Fluent fluent r.drafts at) ≡ Some sort =
-        ap (term_sort names scope) (sym (draft.rolls-Fluent fluent r.drafts at)) ∙ sort-roll (DraftFluentTerm fluent r.drafts at) ∙ r.of_sort in
+        ap (term_sort names scope) (sym (draft.rolls-Fluent fluent r.drafts at)) ∙ sort-term names scope (DraftFluentTerm fluent r.drafts at) ∙ r.of_sort in
         record {
           draft = draft.Fluent fluent r.drafts at;
           read = fluent-spelled sort fluent args f r;
@@ -285,9 +276,9 @@ module _ (agent : Agent) (k : ℕ) (ready : Ready agent k) (theory : DraftTheory
         let at = place_of f in
         let range : is_range agent sort ≡ true = and-right (sort == sort) (is_range agent sort) (and-left (sort == sort && is_range agent sort) (term_fits agent t bound sort) h) in
         let layered : term_as names scope (draft.Shift r.draft by at) ≡ as_step names scope (DraftShift (term_as names scope r.draft) by at) =
-        ap (term_as names scope) (sym (draft.rolls-Shift r.draft by at)) ∙ as-roll (DraftShift r.draft by at) in
+        ap (term_as names scope) (sym (draft.rolls-Shift r.draft by at)) ∙ as-term names scope (DraftShift r.draft by at) in
         let sorted : term_sort names scope (draft.Shift r.draft by at) ≡ term_sort names scope r.draft =
-        ap (term_sort names scope) (sym (draft.rolls-Shift r.draft by at)) ∙ sort-roll (DraftShift r.draft by at) in
+        ap (term_sort names scope) (sym (draft.rolls-Shift r.draft by at)) ∙ sort-term names scope (DraftShift r.draft by at) in
         let said : (wording agent (term.Shift sort t by)).shows_sort ≡ (wording agent t).shows_sort =
         ap (λ (w : Wording). w.shows_sort) (ap (wording agent) (sym (term.rolls-Shift sort t by)) ∙ fold-roll-Term (ℕ → Bool) Wording (written_cond_step agent) (written_term_step agent) (Shift sort t by)) in
         record {

@@ -15,7 +15,7 @@ ghost use Rattle.golog_draft.specs.DraftOrder.{ProgramInOrder};
 
 use crate::procedures::Procedures;
 use crate::programs::prog_of;
-use golog_base::{List, Word, is_name};
+use golog_base::{List, Word, both, is_name};
 use golog_form::Form;
 use golog_theory::fault::{COUNT, DUPLICATE, UNKNOWN_FORM, refuse_where, unknown_form};
 use golog_theory::heads::{arguments, head_word};
@@ -137,7 +137,8 @@ fn proc_item(
     let name = proc_name(theory, earlier, name)?;
     let declared = theory.before(at);
     let params = params_of(alloc, &declared, params)?;
-    let body = prog_of(alloc, &declared, procs, body, params.len())?;
+    let body = prog_of(alloc, &declared, procs, body, params.len());
+    let (params, body) = both(Ok(params), body)?;
     Ok(DraftProc {
         name,
         params,
@@ -203,7 +204,7 @@ fn read_main(
     ensures { Leaves result so_far.new (main_read theory.now procs.now so_far.old at parts.now) }
 {
     let main = main_item(alloc, theory, procs, &so_far.main, at, parts)?;
-    so_far.main = Some(main);
+    drop(so_far.main.replace(main));
     Ok(())
 }
 
@@ -239,8 +240,33 @@ fn has_main(items: &[Form]) -> bool
         .any(|item| head_word(item) == b"main".as_slice())
 }
 
-/// What the items make, one after another.
+/// Adds the items, one after another.
 #[tactic(auto, using(crate::proofs::Program::laws))]
+fn read_each(
+    alloc: Global,
+    theory: &Indexed<'_>,
+    procs: &Procedures,
+    so_far: &mut SoFar,
+    items: &[Form],
+) -> Result<(), TheoryFault>
+    ensures { Leaves result so_far.new (items_read theory.now procs.now so_far.old items.now) }
+{
+    for item in items {
+        let at = item.at();
+        read_item(
+            alloc,
+            theory,
+            procs,
+            so_far,
+            at,
+            head_word(item),
+            arguments(item),
+        )?;
+    }
+    Ok(())
+}
+
+/// What the items make, one after another.
 fn read_items(
     alloc: Global,
     theory: &Indexed<'_>,
@@ -253,26 +279,20 @@ fn read_items(
         procs: List::new(alloc),
         main: None,
     };
-    for item in items {
-        read_item(
-            alloc,
-            theory,
-            procs,
-            &mut so_far,
-            item.at(),
-            head_word(item),
-            arguments(item),
-        )?;
+    match read_each(alloc, theory, procs, &mut so_far, items) {
+        Ok(()) => Ok(so_far),
+        Err(fault) => {
+            drop(so_far);
+            Err(fault)
+        }
     }
-    Ok(so_far)
 }
 
 /// What the items make over a theory, where each may call the procedures of all.
 fn read_over(alloc: Global, theory: &DraftTheory, items: &[Form]) -> Result<SoFar, TheoryFault>
     ensures { Answers result (items_read theory.now (declared_in items.now) nothing items.now) }
 {
-    let index = Index::of(alloc, theory)?;
-    let procs = Procedures::of(alloc, items)?;
+    let (index, procs) = both(Index::of(alloc, theory), Procedures::of(alloc, items))?;
     let so_far = read_items(alloc, &Indexed::new(theory, &index), &procs, items);
     drop(procs);
     drop(index);

@@ -1,14 +1,13 @@
-ghost use Rattle.std.specs.Prelude.{◌≡◌, IfOk};
-ghost use Rattle.golog_tree.specs.declared.draft_prog.DraftProg.TheVariants.{If};
-ghost use Rattle.golog_theory.specs.Reading.{Answers};
+ghost use Rattle.golog_tree.specs.declared.draft_prog.DraftProg.TheVariants.{Nil};
+ghost use Rattle.golog_theory.specs.Reading.{Answers, gives};
 ghost use Rattle.golog_prog.specs.Constructs.{test_of, progs_of, several_of, seq_of, choice_of, conc_of, prio_of, pick_of, one_of, star_of, cstar_of, guarded_of, if_of, while_of, search_of, interrupt_of, interrupts_of};
 ghost use Rattle.golog_prog.specs.Programs.{nil_of, construct_of, prog_of, prog_part, prog_parts};
 
 use crate::callees::{act_of, call_of};
 use crate::keyword::{Keyword, keyword_of};
 use crate::procedures::Procedures;
-use crate::written::{if_else, interrupt, interrupts};
-use golog_base::{Boxed, List, NoMemory, both};
+use crate::written::{interrupt, interrupts};
+use golog_base::{Boxed, List, both};
 use golog_form::Form;
 use golog_theory::conditions::{Binder, binder_of};
 use golog_theory::fault::{COUNT, UNKNOWN_FORM, refuse_where, unknown_form};
@@ -209,6 +208,22 @@ fn prio_of(
     Ok(DraftProg::Prio { parts, at })
 }
 
+/// A program in memory of its own.
+#[cycle(programs)]
+#[tactic(auto, using(crate::proofs::Progs::laws))]
+fn boxed_of(
+    alloc: Global,
+    theory: &Indexed<'_>,
+    procs: &Procedures,
+    form: &Form,
+    scope: usize,
+) -> Result<Boxed<DraftProg>, TheoryFault>
+    ensures { Answers result (prog_of theory.now procs.now form.now scope) }
+{
+    let prog = prog_of(alloc, theory, procs, form, scope)?;
+    Ok(Boxed::new(alloc, prog)?)
+}
+
 /// `(pick (VAR SORT) PROG)`, where the variable is not one too many.
 #[cycle(programs)]
 #[tactic(auto, using(crate::proofs::Progs::laws), unfolding(crate::specs::Constructs::pick_of))]
@@ -227,11 +242,11 @@ fn pick_of(
     };
     refuse_where(scope >= VARIABLES, COUNT, at)?;
     let Binder { var, sort } = binder_of(theory, binder)?;
-    let body = prog_of(alloc, theory, procs, body, scope + 1)?;
+    let body = boxed_of(alloc, theory, procs, body, scope + 1)?;
     Ok(DraftProg::Pick {
         var,
         sort,
-        body: Boxed::new(alloc, body)?,
+        body,
         at,
     })
 }
@@ -246,13 +261,13 @@ fn one_of(
     scope: usize,
     at: Place,
     parts: &[Form],
-) -> Result<DraftProg, TheoryFault>
+) -> Result<Boxed<DraftProg>, TheoryFault>
     ensures { Answers result (one_of scope at (prog_parts theory.now procs.now parts.now)) }
 {
     let [body] = parts else {
         return Err(unknown_form(at));
     };
-    prog_of(alloc, theory, procs, body, scope)
+    boxed_of(alloc, theory, procs, body, scope)
 }
 
 /// `(star PROG)`
@@ -269,10 +284,7 @@ fn star_of(
     ensures { Answers result (star_of scope at (prog_parts theory.now procs.now parts.now)) }
 {
     let body = one_of(alloc, theory, procs, scope, at, parts)?;
-    Ok(DraftProg::Star {
-        body: Boxed::new(alloc, body)?,
-        at,
-    })
+    Ok(DraftProg::Star { body, at })
 }
 
 /// `(cstar PROG)`
@@ -289,17 +301,14 @@ fn cstar_of(
     ensures { Answers result (cstar_of scope at (prog_parts theory.now procs.now parts.now)) }
 {
     let body = one_of(alloc, theory, procs, scope, at, parts)?;
-    Ok(DraftProg::Cstar {
-        body: Boxed::new(alloc, body)?,
-        at,
-    })
+    Ok(DraftProg::Cstar { body, at })
 }
 
 /// A condition, and the program that it guards.
 #[derive(Drop)]
 pub struct Guarded {
     pub cond: DraftCond,
-    pub body: DraftProg,
+    pub body: Boxed<DraftProg>,
 }
 
 /// A COND and a PROG.
@@ -316,24 +325,16 @@ fn guarded_of(
     ensures { Answers result (guarded_of theory.now scope (prog_part theory.now procs.now cond.now)
         (prog_part theory.now procs.now body.now)) }
 {
-    let (cond, body) = both(
-        cond_of(alloc, theory, cond, scope),
-        prog_of(alloc, theory, procs, body, scope),
-    )?;
+    let body = boxed_of(alloc, theory, procs, body, scope);
+    let (cond, body) = both(cond_of(alloc, theory, cond, scope), body)?;
     Ok(Guarded { cond, body })
 }
 
-/// `(if COND PROG PROG)`, where the first program is guarded.
-fn guarded_or(
-    alloc: Global,
-    guarded: Guarded,
-    no: DraftProg,
-    at: Place,
-) -> Result<DraftProg, NoMemory>
-    ensures { IfOk result (λ prog. prog ≡ If guarded.cond guarded.body no at) }
+/// `nil` in memory of its own.
+fn boxed_nil(alloc: Global, at: Place) -> Result<Boxed<DraftProg>, TheoryFault>
+    ensures { Answers result (gives (Nil at)) }
 {
-    let Guarded { cond, body } = guarded;
-    if_else(alloc, cond, body, no, at)
+    Ok(Boxed::new(alloc, DraftProg::Nil { at })?)
 }
 
 /// `(if COND PROG)` or `(if COND PROG PROG)`
@@ -351,15 +352,22 @@ fn if_of(
 {
     match parts {
         [cond, yes] => {
-            let guarded = guarded_of(alloc, theory, procs, scope, cond, yes)?;
-            Ok(guarded_or(alloc, guarded, DraftProg::Nil { at }, at)?)
+            let yes = guarded_of(alloc, theory, procs, scope, cond, yes);
+            both(yes, boxed_nil(alloc, at)).map(|(yes, no)| DraftProg::If {
+                cond: yes.cond,
+                yes: yes.body,
+                no,
+                at,
+            })
         }
         [cond, yes, no] => {
-            let (guarded, no) = both(
-                guarded_of(alloc, theory, procs, scope, cond, yes),
-                prog_of(alloc, theory, procs, no, scope),
-            )?;
-            Ok(guarded_or(alloc, guarded, no, at)?)
+            let yes = guarded_of(alloc, theory, procs, scope, cond, yes);
+            both(yes, boxed_of(alloc, theory, procs, no, scope)).map(|(yes, no)| DraftProg::If {
+                cond: yes.cond,
+                yes: yes.body,
+                no,
+                at,
+            })
         }
         _ => Err(unknown_form(at)),
     }
@@ -382,7 +390,6 @@ fn while_of(
         return Err(unknown_form(at));
     };
     let Guarded { cond, body } = guarded_of(alloc, theory, procs, scope, cond, body)?;
-    let (cond, body) = both(Ok(cond), Boxed::new(alloc, body))?;
     Ok(DraftProg::While { cond, body, at })
 }
 
@@ -404,11 +411,11 @@ fn search_of(
     };
     let depth = number_of(depth)?;
     let fuel = number_of(fuel)?;
-    let body = prog_of(alloc, theory, procs, body, scope)?;
+    let body = boxed_of(alloc, theory, procs, body, scope)?;
     Ok(DraftProg::Search {
         depth,
         fuel,
-        body: Boxed::new(alloc, body)?,
+        body,
         at,
     })
 }
@@ -435,7 +442,7 @@ fn interrupt_of(
 
 /// `(interrupts PROG)`
 #[cycle(programs)]
-#[tactic(auto, using(crate::proofs::Progs::laws), unfolding(crate::specs::Constructs::interrupts_of))]
+#[tactic(auto, using(crate::proofs::Progs::laws), unfolding(crate::specs::Constructs::interrupts_of, crate::specs::Constructs::one_of))]
 fn interrupts_of(
     alloc: Global,
     theory: &Indexed<'_>,
@@ -446,6 +453,9 @@ fn interrupts_of(
 ) -> Result<DraftProg, TheoryFault>
     ensures { Answers result (interrupts_of scope at (prog_parts theory.now procs.now parts.now)) }
 {
-    let body = one_of(alloc, theory, procs, scope, at, parts)?;
+    let [body] = parts else {
+        return Err(unknown_form(at));
+    };
+    let body = prog_of(alloc, theory, procs, body, scope)?;
     Ok(interrupts(alloc, body, at)?)
 }

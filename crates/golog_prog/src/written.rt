@@ -1,30 +1,12 @@
 ghost use Rattle.std.specs.Prelude.{◌≡◌, false, [], ◌∷◌, IfOk};
 ghost use Rattle.golog_tree.specs.declared.draft_cond.DraftCond.TheVariants.{Truth};
-ghost use Rattle.golog_tree.specs.declared.draft_prog.DraftProg.TheVariants.{Act, Test, If};
+ghost use Rattle.golog_tree.specs.declared.draft_prog.DraftProg.TheVariants.{Act, Test};
 ghost use Rattle.golog_prog.specs.Constructs.{interrupt, interrupts};
 
 use crate::built_in::{INTERRUPTS_RUNNING, START_INTERRUPTS, STOP_INTERRUPTS};
-use golog_base::{Boxed, List, NoMemory};
+use golog_base::{Boxed, List, NoMemory, both};
 use golog_tree::{DraftCond, DraftProg, Place};
 use std::alloc::Global;
-
-/// `(if COND PROG PROG)`
-pub fn if_else(
-    alloc: Global,
-    cond: DraftCond,
-    yes: DraftProg,
-    no: DraftProg,
-    at: Place,
-) -> Result<DraftProg, NoMemory>
-    ensures { IfOk result (λ prog. prog ≡ If cond yes no at) }
-{
-    Ok(DraftProg::If {
-        cond,
-        yes: Boxed::new(alloc, yes)?,
-        no: Boxed::new(alloc, no)?,
-        at,
-    })
-}
 
 /// `(test false)`
 fn never(at: Place) -> DraftProg
@@ -40,12 +22,13 @@ fn never(at: Place) -> DraftProg
 pub fn interrupt(
     alloc: Global,
     cond: DraftCond,
-    body: DraftProg,
+    body: Boxed<DraftProg>,
     at: Place,
 ) -> Result<DraftProg, NoMemory>
     ensures { IfOk result (λ prog. prog ≡ interrupt cond body at) }
 {
-    let body = if_else(alloc, cond, body, never(at), at)?;
+    let ((cond, yes), no) = both(Ok((cond, body)), Boxed::new(alloc, never(at)))?;
+    let body = Boxed::new(alloc, DraftProg::If { cond, yes, no, at })?;
     let running = DraftCond::Is {
         fluent: INTERRUPTS_RUNNING,
         args: List::new(alloc),
@@ -53,7 +36,7 @@ pub fn interrupt(
     };
     Ok(DraftProg::While {
         cond: running,
-        body: Boxed::new(alloc, body)?,
+        body,
         at,
     })
 }
@@ -70,21 +53,18 @@ fn act(alloc: Global, action: u32, at: Place) -> DraftProg
 }
 
 /// Two programs in a list.
-fn both(alloc: Global, one: DraftProg, other: DraftProg) -> Result<List<DraftProg>, NoMemory>
+fn listed(alloc: Global, one: DraftProg, other: DraftProg) -> Result<List<DraftProg>, NoMemory>
     ensures { IfOk result (λ progs. progs ≡ one ∷ other ∷ []) }
 {
-    let mut progs = List::new(alloc);
-    progs.push(one)?;
-    progs.push(other)?;
-    Ok(progs)
+    Ok(List::from_vec(vec![in alloc; one, other]?))
 }
 
 /// What `(interrupts PROG)` stands for.
 pub fn interrupts(alloc: Global, body: DraftProg, at: Place) -> Result<DraftProg, NoMemory>
     ensures { IfOk result (λ prog. prog ≡ interrupts body at) }
 {
-    let parts = both(alloc, body, act(alloc, STOP_INTERRUPTS, at))?;
+    let parts = listed(alloc, body, act(alloc, STOP_INTERRUPTS, at))?;
     let running = DraftProg::Prio { parts, at };
-    let parts = both(alloc, act(alloc, START_INTERRUPTS, at), running)?;
+    let parts = listed(alloc, act(alloc, START_INTERRUPTS, at), running)?;
     Ok(DraftProg::Seq { parts, at })
 }

@@ -1,7 +1,7 @@
 -- Which procedures have a search block is settled by its rounds; a program with none fits within a block.
 use Rattle.std.proofs.Common.{◌≡◌, ℕ, zero, suc, Bool, true, false, List, [], ◌∷◌, length, map, Some, refl, ap, ◌∙◌}
 use Rattle.std.specs.Prelude.{not, slice_get}
-use Rattle.std.proofs.lemmas.List.{length-map}
+use Rattle.std.specs.Option.{option_map_or}
 use Rattle.golog_tree.specs.declared.agent.Agent.{Agent}
 use Rattle.golog_tree.specs.declared.agent.ProcItem.{ProcItem}
 use Rattle.golog_tree.specs.declared.prog.Prog.{Prog}
@@ -11,15 +11,8 @@ use Rattle.golog_semantics.specs.Fits.{Scope, bound}
 use Rattle.golog_semantics.specs.ProgFits.{Position, prog_fits, prog_step, way_step}
 use Rattle.golog_semantics.proofs.FoldsRelated.{Leaf, free, Answers, WayAnswers, folds_related, ones, twos}
 use Rattle.golog_semantics.proofs.ProgPut.{at_scope}
-use Rattle.golog_semantics.proofs.Rounds.{Below, Rounds, below-map, last_round}
+use Rattle.golog_semantics.proofs.Rounds.{Below, below-at, last_round, tested-rounds}
 use Rattle.golog_semantics.proofs.Tests.{and_more, neither_first, neither_second, or_more}
-
-below-block : (bs cs : List Bool) → Below bs cs → (item : ℕ) → block_at bs item ≡ true → block_at cs item ≡ true
-below-block [] [] h item e = e
-below-block [] (c ∷ cs) h item e = absurd h
-below-block (b ∷ bs) [] h item e = absurd h
-below-block (b ∷ bs) (c ∷ cs) h zero e = h.0 e
-below-block (b ∷ bs) (c ∷ cs) h (suc item) e = below-block bs cs h.1 item e
 
 module _ (bs cs : List Bool) (below : Below bs cs) where
   abbrev More : Bool → Bool → Leaf → Type 0
@@ -39,7 +32,7 @@ module _ (bs cs : List Bool) (below : Below bs cs) where
   more_step (Conc p q) e = or_more p.one p.two q.one q.two p.related q.related e
   more_step (Prio p q) e = or_more p.one p.two q.one q.two p.related q.related e
   more_step (Cstar p) e = p.related e
-  more_step (Call item args) e = below-block bs cs below item e
+  more_step (Call item args) e = below-at (λ o. option_map_or (λ b. b) o false) (λ b. refl) bs cs below item e
   more_step (Search depth fuel p) e = refl
   more_step (Follow depth fuel p rest) e = refl
 
@@ -49,23 +42,12 @@ module _ (bs cs : List Bool) (below : Below bs cs) where
       (record { of_layer = more_step; of_way = λ a b c label h. tt })
 
 module _ (agent : Agent) where
-  rises : (k : ℕ) → Below (proc_blocks_to k agent) (proc_blocks_to (suc k) agent)
-  rises zero = below-map (λ item. false) (λ (item : ProcItem). has_block_by (proc_blocks_to 0 agent) item.body) (λ item e. cc) agent.procs
-  rises (suc k) =
-      below-map (λ (item : ProcItem). has_block_by (proc_blocks_to k agent) item.body) (λ (item : ProcItem). has_block_by (proc_blocks_to (suc k) agent) item.body)
-      (λ item e. block-more (proc_blocks_to k agent) (proc_blocks_to (suc k) agent) (rises k) item.body e) agent.procs
-
-  lengths : (k : ℕ) → length (proc_blocks_to k agent) ≡ length agent.procs
-  lengths zero = length-map agent.procs (λ (item : ProcItem). false)
-  lengths (suc k) = length-map agent.procs (λ (item : ProcItem). has_block_by (proc_blocks_to k agent) item.body)
-
-  block_rounds : Rounds (λ k. proc_blocks_to k agent) (length agent.procs)
-  block_rounds = record { rises = rises; lengths = lengths; next = λ k j e. ap (λ bs. map (λ (item : ProcItem). has_block_by bs item.body) agent.procs) e }
-
   -- one more round says the same
   blocks-settled : proc_blocks agent ≡ map (λ (item : ProcItem). has_block agent item.body) agent.procs
   unfolding proc_blocks
-  blocks-settled = last_round (λ k. proc_blocks_to k agent) (length agent.procs) block_rounds
+  blocks-settled =
+      last_round (λ k. proc_blocks_to k agent) (length agent.procs)
+      (tested-rounds agent.procs (λ bs item. has_block_by bs item.body) (λ k. proc_blocks_to k agent) refl (λ k. refl) (λ bs cs h item. block-more bs cs h item.body))
 
   block_of : (f : ProcItem → Bool) (procs : List ProcItem) (item : ℕ) (proc : ProcItem) → slice_get procs item ≡ Some proc → block_at (map f procs) item ≡ f proc
   block_of f [] item proc e = absurd (cc)

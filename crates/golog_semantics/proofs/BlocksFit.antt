@@ -17,13 +17,12 @@ use Rattle.golog_semantics.specs.Search.{Run, best, best_from, final, first_of, 
 use Rattle.golog_semantics.specs.Blocks.{beginning, begins_run, block_moves, first_step, is_kept, labels_of, may_succeed, moves, searching}
 use Rattle.golog_semantics.specs.Guarded.{front}
 use Rattle.golog_semantics.specs.Reports.{fits_label}
-use Rattle.golog_semantics.specs.Fits.{nothing_bound}
 use Rattle.golog_semantics.specs.ProgFits.{Position, block_fits, fits, prog_fits, prog_step, way_step}
 use Rattle.golog_semantics.specs.FitLaws.{ProcsFit, StepStays}
 use Rattle.golog_semantics.proofs.ByParts as parts
 use Rattle.golog_semantics.proofs.ByParts.{OfEach}
 use Rattle.golog_semantics.proofs.ClosedFits.{Closed}
-use Rattle.golog_semantics.proofs.ProgPut.{at_scope, way_fits}
+use Rattle.golog_semantics.proofs.ProgPut.{inside, outside, way_fits}
 use Rattle.golog_semantics.proofs.StepsFit.{AllFit, StepFits, each-append, moves_to-fit}
 use Rattle.golog_semantics.proofs.Tests.{and_both, and_cases}
 
@@ -55,12 +54,6 @@ each-contains P (y ∷ xs) x h (suc k, l, e) = each-contains P xs x h.1 (k, omeg
 module _ (agent : Agent) where
   abbrev A : Type 0
   A = Position → Bool
-
-  abbrev outside : Position
-  outside = at_scope nothing_bound false
-
-  abbrev inside : Position
-  inside = at_scope nothing_bound true
 
   -- a way within a block
   abbrev WayFits : Way → Type 0

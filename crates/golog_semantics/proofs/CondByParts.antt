@@ -10,6 +10,7 @@ use Rattle.golog_tree.specs.declared.cond.Cond.TheOpen.{Cond-F, Truth, Is, Equal
 use Rattle.golog_tree.specs.declared.cond.Cond.TheViews.{roll-Cond, roll-Term}
 use Rattle.golog_tree.specs.declared.cond.Cond.TheFolds.{fold-Cond, fold-Term, fold-roll-Cond, fold-roll-Term, ind-Cond, ind-Term, map-Cond, map-Term}
 use Rattle.golog_tree.specs.Substitute.{Put, within, arg_put, cond_put, cond_step, term_put, term_step}
+use Rattle.golog_tree.proofs.Substituted.{cond_put-And, cond_put-Or}
 use Rattle.golog_semantics.proofs.ByParts.{OfEach}
 
 module _ (A B : Type 0) (step : Cond-F A B → A) (step' : Term-F A B → B) where
@@ -67,10 +68,6 @@ PC = Put → Cond
 abbrev PT : Type 0
 PT = Put → Term
 
-map-map : {A B D : Type 0} (f : A → B) (g : B → D) (xs : List A) → map g (map f xs) ≡ map (λ x. g (f x)) xs
-map-map f g [] = refl
-map-map f g (x ∷ xs) = ap (λ ys. g (f x) ∷ ys) (map-map f g xs)
-
 pub put-arg : (arg : Arg) (put : Put) → term_put (term.Arg arg) put ≡ term.Arg (arg_put put arg)
 put-arg arg put = ap (λ (f : PT). f put) (fold-arg PC PT cond_step term_step arg)
 
@@ -102,10 +99,10 @@ pub put-not : (c : Cond) (put : Put) → cond_put (cond.Not c) put ≡ cond.Not 
 put-not c put = ap (λ (f : PC). f put) (fold-not PC PT cond_step term_step c)
 
 pub put-and : (cs : List Cond) (put : Put) → cond_put (cond.And cs) put ≡ cond.And (map (λ c. cond_put c put) cs)
-put-and cs put = ap (λ (f : PC). f put) (fold-and PC PT cond_step term_step cs) ∙ ap cond.And (map-map cond_put (λ c. c put) cs)
+put-and = cond_put-And
 
 pub put-or : (cs : List Cond) (put : Put) → cond_put (cond.Or cs) put ≡ cond.Or (map (λ c. cond_put c put) cs)
-put-or cs put = ap (λ (f : PC). f put) (fold-or PC PT cond_step term_step cs) ∙ ap cond.Or (map-map cond_put (λ c. c put) cs)
+put-or = cond_put-Or
 
 pub put-some : (x : ℕ) (sort : ℕ) (c : Cond) (put : Put) → cond_put (cond.ForSome x sort c) put ≡ cond.ForSome x sort (cond_put c (within x put))
 put-some x sort c put = ap (λ (f : PC). f put) (fold-some PC PT cond_step term_step x sort c)

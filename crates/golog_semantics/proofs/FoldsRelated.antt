@@ -13,21 +13,8 @@ module _ (A B C D E F : Type 0) (f : A → C) (g : B → D) (h : C → E) (k : D
   maps (x ∷ xs) = ap (λ ys. k (g x) ∷ ys) (maps xs)
 
   map_twice : (y : Prog-F A B) → map-Prog C D E F h k (map-Prog A B C D f g y) ≡ map-Prog A B E F (λ a. h (f a)) (λ b. k (g b)) y
-  map_twice Nil = refl
-  map_twice (Act action args) = refl
-  map_twice (Test c) = refl
-  map_twice (Seq p q) = refl
-  map_twice (Choice p q) = refl
-  map_twice (Pick x sort p) = refl
-  map_twice (Star p) = refl
-  map_twice (If c p q) = refl
-  map_twice (While c p) = refl
-  map_twice (Conc p q) = refl
-  map_twice (Prio p q) = refl
-  map_twice (Cstar p) = refl
-  map_twice (Call item args) = refl
-  map_twice (Search depth fuel p) = refl
   map_twice (Follow depth fuel p rest) = ap (Follow depth fuel (h (f p))) (maps rest)
+  map_twice _ = refl
 
 -- no third fold, and nothing asked of ways
 abbrev pub Leaf : Type 0

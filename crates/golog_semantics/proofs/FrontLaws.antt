@@ -7,15 +7,15 @@ use Rattle.golog_tree.specs.declared.cond.Truth.{Truth}
 use Rattle.golog_tree.specs.declared.cond.Truth.TheVariants.{Yes, No, Unknown}
 use Rattle.golog_tree.specs.declared.cond.Cond.{Cond}
 use Rattle.golog_tree.specs.declared.cond.Cond.TheVariants as cond
-use Rattle.golog_tree.specs.declared.cond.Cond.TheOpen.{And, Or, Not}
-use Rattle.golog_tree.specs.declared.cond.Cond.TheFolds.{fold-roll-Cond}
 use Rattle.golog_tree.specs.declared.prog.Way.{Way}
+use Rattle.golog_tree.proofs.Substituted.{map-map}
 use Rattle.golog_semantics.specs.declared.Mode.{Mode}
 use Rattle.golog_semantics.specs.declared.Mode.TheVariants.{Must, May, Near}
 use Rattle.golog_semantics.specs.Modes.{holds, flip}
 use Rattle.golog_semantics.specs.Truth.{Env, Values, both, either, not_of, and_of, or_of, truth_of, cond_step, term_step, env_of}
 use Rattle.golog_semantics.specs.Ways.{is_so, is_empty}
 use Rattle.golog_semantics.specs.Fronts.{Guarded, open_ways}
+use Rattle.golog_semantics.proofs.CondByParts as conds
 
 unless : Bool → Bool
 unless true = false
@@ -24,54 +24,24 @@ unless false = true
 -- a negation holds in a mode where the condition does not in the flipped one
 pub holds-not : (m : Mode) (t : Truth) → holds m (not_of t) ≡ (if holds (flip m) t then false else true)
 holds-not Must Yes = refl
-holds-not Must No = refl
-holds-not Must Unknown = refl
 holds-not May Yes = refl
-holds-not May No = refl
-holds-not May Unknown = refl
 holds-not Near Yes = refl
-holds-not Near No = refl
-holds-not Near Unknown = refl
+holds-not _ _ = refl
 
 pub holds-both : (m : Mode) (a b : Truth) → holds m (both a b) ≡ (holds m a && holds m b)
-holds-both Must Yes b = refl
-holds-both Must No b = refl
 holds-both Must Unknown Yes = refl
-holds-both Must Unknown No = refl
-holds-both Must Unknown Unknown = refl
-holds-both May Yes b = refl
-holds-both May No b = refl
 holds-both May Unknown Yes = refl
-holds-both May Unknown No = refl
-holds-both May Unknown Unknown = refl
-holds-both Near Yes b = refl
-holds-both Near No b = refl
 holds-both Near Unknown Yes = refl
-holds-both Near Unknown No = refl
-holds-both Near Unknown Unknown = refl
+holds-both _ _ _ = refl
 
 pub holds-either : (m : Mode) (a b : Truth) → holds m (either a b) ≡ (holds m a || holds m b)
-holds-either Must Yes b = refl
 holds-either Must No Yes = refl
-holds-either Must No No = refl
-holds-either Must No Unknown = refl
 holds-either Must Unknown Yes = refl
-holds-either Must Unknown No = refl
-holds-either Must Unknown Unknown = refl
-holds-either May Yes b = refl
 holds-either May No Yes = refl
-holds-either May No No = refl
-holds-either May No Unknown = refl
 holds-either May Unknown Yes = refl
-holds-either May Unknown No = refl
-holds-either May Unknown Unknown = refl
-holds-either Near Yes b = refl
 holds-either Near No Yes = refl
-holds-either Near No No = refl
-holds-either Near No Unknown = refl
 holds-either Near Unknown Yes = refl
-holds-either Near Unknown No = refl
-holds-either Near Unknown Unknown = refl
+holds-either _ _ _ = refl
 
 pub holds-no : (m : Mode) → holds m No ≡ false
 holds-no Must = refl
@@ -82,10 +52,6 @@ pub holds-yes : (m : Mode) → holds m Yes ≡ true
 holds-yes Must = refl
 holds-yes May = refl
 holds-yes Near = refl
-
-map-map : {A B C : Type 0} (f : A → B) (g : B → C) (xs : List A) → map g (map f xs) ≡ map (λ x. g (f x)) xs
-map-map f g [] = refl
-map-map f g (x ∷ xs) = ap (λ ys. g (f x) ∷ ys) (map-map f g xs)
 
 module _ (agent : Agent) (values : Values) (m : Mode) where
   truths : List Cond → List Truth
@@ -99,20 +65,17 @@ module _ (agent : Agent) (values : Values) (m : Mode) where
 
   truth-or : (cs : List Cond) → truth_of agent values (cond.Or cs) (env_of []) ≡ or_of (map (λ c. truth_of agent values c (env_of [])) cs)
   truth-or cs =
-      ap (λ c. truth_of agent values c (env_of [])) (sym (cond.rolls-Or cs))
-      ∙ ap (λ f. f (env_of [])) (fold-roll-Cond (Env → Truth) (Env → ℕ) (cond_step agent values) (term_step agent values) (Or cs))
+      ap (λ (f : Env → Truth). f (env_of [])) (conds.fold-or (Env → Truth) (Env → ℕ) (cond_step agent values) (term_step agent values) cs)
       ∙ ap or_of (map-map (truth_of agent values) (λ c. c (env_of [])) cs)
 
   truth-and : (cs : List Cond) → truth_of agent values (cond.And cs) (env_of []) ≡ and_of (map (λ c. truth_of agent values c (env_of [])) cs)
   truth-and cs =
-      ap (λ c. truth_of agent values c (env_of [])) (sym (cond.rolls-And cs))
-      ∙ ap (λ f. f (env_of [])) (fold-roll-Cond (Env → Truth) (Env → ℕ) (cond_step agent values) (term_step agent values) (And cs))
+      ap (λ (f : Env → Truth). f (env_of [])) (conds.fold-and (Env → Truth) (Env → ℕ) (cond_step agent values) (term_step agent values) cs)
       ∙ ap and_of (map-map (truth_of agent values) (λ c. c (env_of [])) cs)
 
   truth-not : (c : Cond) → truth_of agent values (cond.Not c) (env_of []) ≡ not_of (truth_of agent values c (env_of []))
   truth-not c =
-      ap (λ d. truth_of agent values d (env_of [])) (sym (cond.rolls-Not c))
-      ∙ ap (λ f. f (env_of [])) (fold-roll-Cond (Env → Truth) (Env → ℕ) (cond_step agent values) (term_step agent values) (Not c))
+      ap (λ (f : Env → Truth). f (env_of [])) (conds.fold-not (Env → Truth) (Env → ℕ) (cond_step agent values) (term_step agent values) c)
 
   -- the condition that none of these holds
   abbrev pub none_of : List Cond → Cond

@@ -45,11 +45,7 @@ module _ (agent : Agent) where
   left_at-fits : ProcsFit agent → (values : Values) (p : Prog) (e : Entry) → fits agent p ≡ true → fits agent (left_at agent values p e) ≡ true
   left_at-fits f values p (Do action) h = left_by-fits p (moves agent values Must p) h (moves-fit agent f values Must p h)
   left_at-fits f values p Test h = left_by-fits p (moves agent values Must p) h (moves-fit agent f values Must p h)
-  left_at-fits f values p (Exo poster action) h = h
-  left_at-fits f values p (Sense poster place fluent value) h = h
-  left_at-fits f values p (Rest poster taken) h = h
-  left_at-fits f values p (Close poster reason taken) h = h
-  left_at-fits f values p (End answer) h = h
+  left_at-fits f values p _ h = h
 
   left_from-fits : ProcsFit agent → (values : Values) (p : Prog) (journal : Journal) → fits agent p ≡ true → fits agent (left_from agent values p journal) ≡ true
   left_from-fits f values p [] h = h

@@ -14,7 +14,7 @@ use Rattle.golog_tree.specs.Substitute.{Put, within, arg_put, cond_put, prog_put
 use Rattle.golog_semantics.specs.Ways.{is_empty}
 use Rattle.golog_semantics.specs.Reports.{fits_label}
 use Rattle.golog_semantics.specs.BlockFree.{block_at, proc_blocks}
-use Rattle.golog_semantics.specs.Fits.{Scope, bound, args_fit, binder_fits, cond_fits}
+use Rattle.golog_semantics.specs.Fits.{Scope, bound, nothing_bound, args_fit, binder_fits, cond_fits}
 use Rattle.golog_semantics.specs.ProgFits.{Position, act_fits, block_fits, call_fits, prog_fits, prog_step, way_step}
 use Rattle.golog_semantics.proofs.ByParts as parts
 use Rattle.golog_semantics.proofs.ByParts.{OfEach}
@@ -24,6 +24,13 @@ use Rattle.golog_semantics.proofs.Tests.{and_more}
 
 abbrev pub at_scope : Scope → Bool → Position
 at_scope scope in_block = record { scope = scope; in_block = in_block }
+
+-- with nothing bound, outside of blocks and inside one
+abbrev pub outside : Position
+outside = at_scope nothing_bound false
+
+abbrev pub inside : Position
+inside = at_scope nothing_bound true
 
 module _ (agent : Agent) where
   abbrev A : Type 0

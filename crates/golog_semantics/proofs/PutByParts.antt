@@ -9,6 +9,7 @@ use Rattle.golog_tree.specs.declared.prog.Prog.TheOpen.{Prog-F, Way-F, Act, Test
 use Rattle.golog_tree.specs.declared.prog.Prog.TheVariants as prog
 use Rattle.golog_tree.specs.declared.prog.Prog.TheFolds.{fold-Prog, fold-Way}
 use Rattle.golog_tree.specs.Substitute.{Put, within, arg_put, cond_put, prog_put, prog_step, way_put, way_step}
+use Rattle.golog_tree.proofs.Substituted.{prog_put-Follow}
 use Rattle.golog_semantics.proofs.ByParts as parts
 use Rattle.golog_semantics.proofs.ByParts.{Cases, OfEach, by_parts}
 
@@ -17,10 +18,6 @@ PP = Put → Prog
 
 abbrev PW : Type 0
 PW = Put → Way
-
-map-map : {A B D : Type 0} (f : A → B) (g : B → D) (xs : List A) → map g (map f xs) ≡ map (λ x. g (f x)) xs
-map-map f g [] = refl
-map-map f g (x ∷ xs) = ap (λ ys. g (f x) ∷ ys) (map-map f g xs)
 
 pub put-nil : (put : Put) → prog_put prog.Nil put ≡ prog.Nil
 put-nil put = ap (λ (f : PP). f put) (parts.fold-nil PP PW prog_step way_step)
@@ -65,7 +62,7 @@ pub put-search : (depth : ℕ) (fuel : ℕ) (p : Prog) (put : Put) → prog_put 
 put-search depth fuel p put = ap (λ (f : PP). f put) (parts.fold-search PP PW prog_step way_step depth fuel p)
 
 pub put-follow : (depth : ℕ) (fuel : ℕ) (p : Prog) (rest : List Way) (put : Put) → prog_put (prog.Follow depth fuel p rest) put ≡ prog.Follow depth fuel (prog_put p put) (map (λ w. way_put w put) rest)
-put-follow depth fuel p rest put = ap (λ (f : PP). f put) (parts.fold-follow PP PW prog_step way_step depth fuel p rest) ∙ ap (prog.Follow depth fuel (prog_put p put)) (map-map way_put (λ w. w put) rest)
+put-follow = prog_put-Follow
 
 pub put-way : (label : Label) (left : Prog) (put : Put) → way_put (record { label = label; left = left }) put ≡ record { label = label; left = prog_put left put }
 put-way label left put = ap (λ (f : PW). f put) (parts.fold-way PP PW prog_step way_step label left)

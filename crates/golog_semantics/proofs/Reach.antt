@@ -1,5 +1,6 @@
 -- Which procedures a program may call without a step, as a test, and paths of such calls.
 use Rattle.std.specs.Prelude.{ℕ, zero, suc, Bool, true, false, ◌==◌, ◌&&◌, ◌||◌, IsTrue, Option, Some, None, List, [], ◌∷◌, length, map, slice_get}
+use Rattle.std.specs.Option.{option_map_or}
 use Rattle.golog_tree.specs.declared.agent.Agent.{Agent}
 use Rattle.golog_tree.specs.declared.agent.ProcItem.{ProcItem}
 use Rattle.golog_tree.specs.declared.prog.Prog.{Prog}
@@ -19,9 +20,7 @@ either_calls skip p q = record { skip = skip; calls = λ item. p.calls item || q
 
 -- whether a procedure may be final without a step; one that there is not has nothing to do
 abbrev pub is_skipped : List Bool → ℕ → Bool
-is_skipped [] item = true
-is_skipped (b ∷ bs) zero = b
-is_skipped (b ∷ bs) (suc item) = is_skipped bs item
+is_skipped bs item = option_map_or (λ skip. skip) (slice_get bs item) true
 
 abbrev pub fore_step : List Bool → Prog-F Fore Fore → Fore
 fore_step skips Nil = no_call true

@@ -1,6 +1,7 @@
 -- Tests that grow round by round settle after as many rounds as there are tests.
-use Rattle.std.proofs.Common.{◌≡◌, ◌⊎◌, inl, inr, ℕ, zero, suc, ◌+◌, ◌≤◌, Bool, true, false, List, [], ◌∷◌, length, map, refl, sym, ap, ◌∙◌, arith}
-use Rattle.std.specs.Prelude.{⊤}
+use Rattle.std.proofs.Common.{◌≡◌, ◌⊎◌, inl, inr, ℕ, zero, suc, ◌+◌, ◌≤◌, Bool, true, false, List, [], ◌∷◌, length, map, Option, Some, refl, sym, ap, subst, ◌∙◌, arith}
+use Rattle.std.specs.Prelude.{⊤, slice_get}
+use Rattle.std.proofs.lemmas.List.{length-map}
 
 -- of two lists as long as each other, what is true in the first is true in the second
 abbrev pub Below : List Bool → List Bool → Type 0
@@ -12,6 +13,15 @@ Below (b ∷ bs) (c ∷ cs) = (b ≡ true → c ≡ true) × Below bs cs
 pub below-map : {A : Type 0} (f g : A → Bool) → ((x : A) → f x ≡ true → g x ≡ true) → (xs : List A) → Below (map f xs) (map g xs)
 below-map f g h [] = tt
 below-map f g h (x ∷ xs) = (h x, below-map f g h xs)
+
+-- what a test, which is `read` of the one of a number, finds true stays true
+pub below-at : (read : Option Bool → Bool) → ((b : Bool) → read (Some b) ≡ b) → (bs cs : List Bool) → Below bs cs → (item : ℕ)
+    → read (slice_get bs item) ≡ true → read (slice_get cs item) ≡ true
+below-at read is [] [] h item e = e
+below-at read is [] (c ∷ cs) h item e = absurd h
+below-at read is (b ∷ bs) [] h item e = absurd h
+below-at read is (b ∷ bs) (c ∷ cs) h zero e = is c ∙ h.0 (sym (is b) ∙ e)
+below-at read is (b ∷ bs) (c ∷ cs) h (suc item) e = below-at read is bs cs h.1 item e
 
 trues : List Bool → ℕ
 trues [] = 0
@@ -62,3 +72,21 @@ module _ (rounds : ℕ → List Bool) (size : ℕ) (r : Rounds rounds size) wher
   rounds-settled zero k e = ap rounds (omega arith)
   rounds-settled (suc more) k e =
       ap rounds (let h : k ≡ suc (more + size) = omega arith in h) ∙ r.next (more + size) size (rounds-settled more (more + size) refl) ∙ sym last_round
+
+-- a test of each item by what the round before found of all, which stays true where more was found
+module _ {A : Type 0} (items : List A) (test : List Bool → A → Bool) (to : ℕ → List Bool) (first : to 0 ≡ map (λ x. false) items)
+    (next : (k : ℕ) → to (suc k) ≡ map (test (to k)) items) (more : (bs cs : List Bool) → Below bs cs → (x : A) → test bs x ≡ true → test cs x ≡ true) where
+  rising : (k : ℕ) → Below (to k) (to (suc k))
+  rising zero =
+      subst (λ bs. Below bs (to 1)) (sym first)
+      (subst (λ bs. Below (map (λ x. false) items) bs) (sym (next 0)) (below-map (λ x. false) (test (to 0)) (λ x e. cc) items))
+  rising (suc k) =
+      subst (λ bs. Below bs (to (suc (suc k)))) (sym (next k))
+      (subst (λ bs. Below (map (test (to k)) items) bs) (sym (next (suc k))) (below-map (test (to k)) (test (to (suc k))) (more (to k) (to (suc k)) (rising k)) items))
+
+  sizes : (k : ℕ) → length (to k) ≡ length items
+  sizes zero = ap length first ∙ length-map items (λ x. false)
+  sizes (suc k) = ap length (next k) ∙ length-map items (test (to k))
+
+  pub tested-rounds : Rounds to (length items)
+  tested-rounds = record { rises = rising; lengths = sizes; next = λ k j e. next k ∙ ap (λ bs. map (test bs) items) e ∙ sym (next j) }

@@ -1,22 +1,15 @@
 -- Which procedures may be skipped is settled after as many rounds as there are procedures.
 use Rattle.std.proofs.Common.{◌≡◌, ℕ, zero, suc, ◌+◌, Bool, true, false, List, [], ◌∷◌, length, map, refl, ap, ◌∙◌}
-use Rattle.std.proofs.lemmas.List.{length-map}
+use Rattle.std.specs.Option.{option_map_or}
 use Rattle.golog_tree.specs.declared.agent.Agent.{Agent}
 use Rattle.golog_tree.specs.declared.agent.ProcItem.{ProcItem}
 use Rattle.golog_tree.specs.declared.prog.Prog.{Prog}
 use Rattle.golog_tree.specs.declared.prog.Prog.TheOpen.{Prog-F, Nil, Act, Test, Seq, Choice, Pick, Star, If, While, Conc, Prio, Cstar, Call, Search, Follow}
 use Rattle.golog_semantics.specs.Guarded.{Front, front_at, front_by, front_step, fronts_to, no_front}
 use Rattle.golog_semantics.proofs.Reach.{Fore, fore_by, fore_step, is_skipped, no_call, proc_skips, skips_to}
-use Rattle.golog_semantics.proofs.Rounds.{Below, Rounds, below-map, rounds-settled}
+use Rattle.golog_semantics.proofs.Rounds.{Below, below-at, rounds-settled, tested-rounds}
 use Rattle.golog_semantics.proofs.FoldsRelated.{Leaf, free, Answers, WayAnswers, folds_related, ones, twos}
 use Rattle.golog_semantics.proofs.Tests.{and_more, or_more}
-
-below-skipped : (bs cs : List Bool) → Below bs cs → (item : ℕ) → is_skipped bs item ≡ true → is_skipped cs item ≡ true
-below-skipped [] [] h item e = e
-below-skipped [] (c ∷ cs) h item e = absurd h
-below-skipped (b ∷ bs) [] h item e = absurd h
-below-skipped (b ∷ bs) (c ∷ cs) h zero e = h.0 e
-below-skipped (b ∷ bs) (c ∷ cs) h (suc item) e = below-skipped bs cs h.1 item e
 
 module _ (bs cs : List Bool) (below : Below bs cs) where
   abbrev More : Fore → Fore → Leaf → Type 0
@@ -36,7 +29,7 @@ module _ (bs cs : List Bool) (below : Below bs cs) where
   more_step (Conc p q) e = and_more p.one.skip p.two.skip q.one.skip q.two.skip p.related q.related e
   more_step (Prio p q) e = and_more p.one.skip p.two.skip q.one.skip q.two.skip p.related q.related e
   more_step (Cstar p) e = refl
-  more_step (Call item args) e = below-skipped bs cs below item e
+  more_step (Call item args) e = below-at (λ o. option_map_or (λ b. b) o true) (λ b. refl) bs cs below item e
   more_step (Search depth fuel p) e = p.related e
   more_step (Follow depth fuel p rest) e = p.related e
 
@@ -82,27 +75,12 @@ module _ (fs : List Front) where
       (record { of_layer = alike_step; of_way = λ a b c label h. tt })
 
 module _ (agent : Agent) where
-  rises : (k : ℕ) → Below (skips_to k agent) (skips_to (suc k) agent)
-  rises zero = below-map (λ item. false) (λ (item : ProcItem). (fore_by (skips_to 0 agent) item.body).skip) (λ item e. cc) agent.procs
-  rises (suc k) =
-      below-map (λ (item : ProcItem). (fore_by (skips_to k agent) item.body).skip) (λ (item : ProcItem). (fore_by (skips_to (suc k) agent) item.body).skip)
-      (λ item e. skip-more (skips_to k agent) (skips_to (suc k) agent) (rises k) item.body e) agent.procs
-
-  skip_lengths : (k : ℕ) → length (skips_to k agent) ≡ length agent.procs
-  skip_lengths zero = length-map agent.procs (λ (item : ProcItem). false)
-  skip_lengths (suc k) = length-map agent.procs (λ (item : ProcItem). (fore_by (skips_to k agent) item.body).skip)
-
-  skip_rounds : Rounds (λ k. skips_to k agent) (length agent.procs)
-  skip_rounds = record {
-    rises = rises;
-    lengths = skip_lengths;
-    next = λ k j e. ap (λ bs. map (λ (item : ProcItem). (fore_by bs item.body).skip) agent.procs) e;
-  }
-
   -- no later round says anything else
   pub skips-settled : (more k : ℕ) → k ≡ more + length agent.procs → skips_to k agent ≡ proc_skips agent
   unfolding proc_skips
-  skips-settled more k e = rounds-settled (λ n. skips_to n agent) (length agent.procs) skip_rounds more k e
+  skips-settled =
+      rounds-settled (λ n. skips_to n agent) (length agent.procs)
+      (tested-rounds agent.procs (λ bs item. (fore_by bs item.body).skip) (λ n. skips_to n agent) refl (λ n. refl) (λ bs cs h item. skip-more bs cs h item.body))
 
   map-skip : (f : ProcItem → Front) (g : ProcItem → Bool) → ((item : ProcItem) → (f item).skip ≡ g item) → (items : List ProcItem) → map (λ (r : Front). r.skip) (map f items) ≡ map g items
   map-skip f g h [] = refl

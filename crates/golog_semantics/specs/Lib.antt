@@ -40,6 +40,7 @@ pub mod ProgFits
 pub mod FitLaws
 pub mod Written
 pub mod BuiltIn
+pub mod NoAgent
 pub mod WellFormed
 pub mod ReportLaws
 pub mod NumberLaws

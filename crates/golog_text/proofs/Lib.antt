@@ -2,7 +2,6 @@ pub mod Things
 pub mod RunsBehind
 pub mod Lines
 pub mod Cuts
-pub mod Amounts
 pub mod FirstNamed
 pub mod Results
 pub mod Says

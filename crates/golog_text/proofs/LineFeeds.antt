@@ -4,7 +4,6 @@ use Rattle.std.specs.Prelude.{codes}
 use Rattle.std.specs.Option.{option_map_or}
 use Rattle.golog_base.specs.Names.{is_name}
 use Rattle.golog_semantics.specs.declared.journal.Reason.{Reason}
-use Rattle.golog_semantics.specs.declared.journal.Reason.TheVariants.{Ended, Bad, Full, Late, Stopped, Refused}
 use Rattle.golog_semantics.specs.declared.journal.Answer.{Answer}
 use Rattle.golog_semantics.specs.declared.journal.Answer.TheVariants.{Done, Stuck, Unknown, Depth, Fuel, Unanswered, Full as AnswerFull, Deep, Memory}
 use Rattle.golog_semantics.specs.Text.{Text, reason_text, answer_text}
@@ -12,7 +11,7 @@ use Rattle.golog_semantics.proofs.Words.{and-left, and-right}
 use Rattle.golog_text.specs.Forms.{is_natural, is_constant, is_action, is_run}
 use Rattle.golog_text.specs.Said.{Said, Body, SaysDo, SaysTest, SaysExo, SaysSense, SaysRest, SaysClose, SaysEnd, with_prefix, body_said, said_text, is_body, is_said}
 use Rattle.golog_text.proofs.Marks.{Lacks, lacks-both}
-use Rattle.golog_text.proofs.WordBytes.{name-lacks, natural-lacks, constant-lacks, action-lacks, run-lacks}
+use Rattle.golog_text.proofs.WordBytes.{name-lacks, natural-lacks, constant-lacks, action-lacks, run-lacks, reason-lacks}
 
 prefix-lacks : (form : Text → Bool) → ((text : Text) → form text ≡ true → Lacks 10 text) → (prefix : Text) → Lacks 10 prefix → (o : Option Text) → option_map_or form o true ≡ true → Lacks 10 (with_prefix prefix o)
 prefix-lacks form each prefix h None k = refl
@@ -22,24 +21,9 @@ prefix-lacks form each prefix h (Some text) k = lacks-both 10 prefix text h (eac
 spaced : (text other : Text) → Lacks 10 text → Lacks 10 other → Lacks 10 ((text ++ codes " ") ++ other)
 spaced text other h k = lacks-both 10 (text ++ codes " ") other (lacks-both 10 text (codes " ") h refl) k
 
-reason-lacks : (reason : Reason) → Lacks 10 (reason_text reason)
-reason-lacks Ended = refl
-reason-lacks Bad = refl
-reason-lacks Full = refl
-reason-lacks Late = refl
-reason-lacks Stopped = refl
-reason-lacks Refused = refl
-
 answer-lacks : (answer : Answer) → Lacks 10 (codes "end " ++ answer_text answer)
 answer-lacks Done = refl
-answer-lacks Stuck = refl
-answer-lacks Unknown = refl
-answer-lacks Depth = refl
-answer-lacks Fuel = refl
-answer-lacks Unanswered = refl
-answer-lacks AnswerFull = refl
-answer-lacks Deep = refl
-answer-lacks Memory = refl
+answer-lacks _ = refl
 
 body-lacks : (body : Body) → is_body body ≡ true → Lacks 10 (body_said body)
 body-lacks (SaysDo action device run) h =
@@ -66,7 +50,7 @@ body-lacks (SaysRest device taken) h =
     (natural-lacks 10 refl taken (and-right (is_name device) (is_natural taken) h))
 body-lacks (SaysClose device reason taken) h =
     spaced (codes "close " ++ device ++ codes " " ++ reason_text reason) taken
-    (spaced (codes "close " ++ device) (reason_text reason) (lacks-both 10 (codes "close ") device refl (name-lacks 10 refl device (and-left (is_name device) (is_natural taken) h))) (reason-lacks reason))
+    (spaced (codes "close " ++ device) (reason_text reason) (lacks-both 10 (codes "close ") device refl (name-lacks 10 refl device (and-left (is_name device) (is_natural taken) h))) (reason-lacks reason).0)
     (natural-lacks 10 refl taken (and-right (is_name device) (is_natural taken) h))
 body-lacks (SaysEnd answer) h = answer-lacks answer
 

@@ -79,12 +79,7 @@ module _ (agent : Agent) where
           let same : ◌≡◌ {A = Command} (record { place = first; action = action }) c = cc in
           let here : (first == place && option_map_or (λ f. f == fluent) (fluent_sensed agent action) false) ≡ true = ap (is_result agent journal place fluent) same ∙ k in
           (sym (eqb-true first place (and-left (first == place) _ here)), senses-it agent fluent (fluent_sensed agent action) (and-right (first == place) _ here))
-  entry-senses journal device first place fluent Test c h k = absurd (cc)
-  entry-senses journal device first place fluent (Exo p a) c h k = absurd (cc)
-  entry-senses journal device first place fluent (Sense p at f v) c h k = absurd (cc)
-  entry-senses journal device first place fluent (Rest p t) c h k = absurd (cc)
-  entry-senses journal device first place fluent (Close p r t) c h k = absurd (cc)
-  entry-senses journal device first place fluent (End a) c h k = absurd (cc)
+  entry-senses journal device first place fluent _ c h k = absurd (cc)
 
   -- where such a command stands
   abbrev Stands : ℕ → Journal → ℕ → ℕ → ℕ → Type 0

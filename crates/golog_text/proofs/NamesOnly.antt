@@ -60,19 +60,19 @@ module _ (agent : Agent) where
           ∙ ap (λ i. bytes_eq (get_or agent.devices i r.item) name) (sym same) ∙ passes_at_first (λ n. bytes_eq n name) agent.devices r.item low in
           ap (λ o. unwrap_or o []) r.is ∙ same_text r.item name (sym passes)
 
+  tested-only : (test : ℕ → Bool) (text : Text) (action : ℕ) → option_and_then (λ a. if_so (test a) (Some a)) (action_named agent text) ≡ Some action → action_text agent action ≡ text
+  tested-only test text action e =
+      let r = and-then (λ a. if_so (test a) (Some a)) (action_named agent text) action e in
+      let b = if-so (test r.0) (Some r.0) action r.2 in
+      ap (action_text agent) (sym (same_Some r.0 action b.1)) ∙ (named-has (ground_count agent (action_args agent)) (action_text agent) text r.0 r.1).1
+
   own-only : (text : Text) (action : ℕ) → own_action agent text ≡ Some action → action_text agent action ≡ text
   unfolding own_action
-  own-only text action e =
-      let r = and-then (λ a. if_so (is_own agent a) (Some a)) (action_named agent text) action e in
-      let b = if-so (is_own agent r.0) (Some r.0) action r.2 in
-      ap (action_text agent) (sym (same_Some r.0 action b.1)) ∙ (named-has (ground_count agent (action_args agent)) (action_text agent) text r.0 r.1).1
+  own-only text action e = tested-only (is_own agent) text action e
 
   posted-only : (text : Text) (action : ℕ) → posted_action agent text ≡ Some action → action_text agent action ≡ text
   unfolding posted_action
-  posted-only text action e =
-      let r = and-then (λ a. if_so (is_exogenous agent a) (Some a)) (action_named agent text) action e in
-      let b = if-so (is_exogenous agent r.0) (Some r.0) action r.2 in
-      ap (action_text agent) (sym (same_Some r.0 action b.1)) ∙ (named-has (ground_count agent (action_args agent)) (action_text agent) text r.0 r.1).1
+  posted-only text action e = tested-only (is_exogenous agent) text action e
 
   -- runs
   label-only : (text : Text) (label : Label) → label_named agent text ≡ Some label → label_text agent label ≡ text
@@ -167,12 +167,7 @@ module _ (agent : Agent) where
 
   may-none : (e : Entry) → MayStand agent e None
   may-none (Do action) = tt
-  may-none Test = tt
-  may-none (Exo poster action) = tt
-  may-none (Sense poster place fluent value) = tt
-  may-none (Rest poster taken) = tt
-  may-none (Close poster reason taken) = tt
-  may-none (End answer) = tt
+  may-none _ = tt
 
   old-only : (poster place fluent value : ℕ) → fluent < length (ground_fluents agent) → (o : Option Text) → option_map_or (λ text. is_some (constant_named agent (fluent_sort agent fluent) text)) o true ≡ true
       → (old : Option ℕ) × (MayStand agent (Sense poster place fluent value) old) × (o ≡ option_map (value_text agent fluent) old)

@@ -35,12 +35,7 @@ module _ (agent : Agent) where
   entry_senses device fluent (Do action) h =
       let both = if-so (is_carried_by agent device action) (fluent_sensed agent action) fluent h in
       record { action = action; is = refl; carried = both.0; senses = both.1 }
-  entry_senses device fluent Test h = absurd (cc)
-  entry_senses device fluent (Exo poster action) h = absurd (cc)
-  entry_senses device fluent (Sense poster place f value) h = absurd (cc)
-  entry_senses device fluent (Rest poster taken) h = absurd (cc)
-  entry_senses device fluent (Close poster reason taken) h = absurd (cc)
-  entry_senses device fluent (End answer) h = absurd (cc)
+  entry_senses device fluent _ h = absurd (cc)
 
   pub record IsSensedAt (before : Journal) (device place fluent : ℕ) : Type 0 where
     pub entry : Entry

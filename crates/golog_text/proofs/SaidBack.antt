@@ -13,7 +13,7 @@ use Rattle.golog_semantics.proofs.Words.{and-both, and-left, and-right}
 use Rattle.golog_text.specs.Forms.{is_natural, is_constant, is_action, is_run}
 use Rattle.golog_text.specs.Said.{Said, Body, SaysDo, SaysTest, SaysExo, SaysSense, SaysRest, SaysClose, SaysEnd, with_prefix, body_said, said_text, is_body, is_said, if_so, behind, run_in, device_in, do_in, exo_in, old_in, value_in, place_in, sense_in, rest_in, reason_in, reason_and_taken, close_in, end_in, test_in, with_word, body_in, said_in}
 use Rattle.golog_text.proofs.Marks.{Lacks, marked, cut-marked}
-use Rattle.golog_text.proofs.WordBytes.{name-lacks, natural-lacks, constant-lacks, action-lacks}
+use Rattle.golog_text.proofs.WordBytes.{reason-lacks, name-lacks, natural-lacks, constant-lacks, action-lacks}
 
 -- a word and what stands behind the space after it
 pub two : (word rest : Text) → (word ++ codes " ") ++ rest ≡ word ++ 32 ∷ rest
@@ -136,21 +136,9 @@ reason_at device (word, rest) = option_and_then (λ reason. option_and_then (λ 
 abbrev close_at : Text × Option Text → Option Body
 close_at (device, rest) = if_so (is_name device) (option_and_then (reason_and_taken device) rest)
 
-reason-lacks : (reason : Reason) → Lacks 32 (reason_text reason)
-reason-lacks Ended = refl
-reason-lacks Bad = refl
-reason-lacks Full = refl
-reason-lacks Late = refl
-reason-lacks Stopped = refl
-reason-lacks Refused = refl
-
 reason-back : (reason : Reason) → reason_in (reason_text reason) ≡ Some reason
 reason-back Ended = refl
-reason-back Bad = refl
-reason-back Full = refl
-reason-back Late = refl
-reason-back Stopped = refl
-reason-back Refused = refl
+reason-back _ = refl
 
 close-back : (device : Text) (reason : Reason) (taken : Text) → is_name device ≡ true → is_natural taken ≡ true
     → close_in ((((device ++ codes " ") ++ reason_text reason) ++ codes " ") ++ taken) ≡ Some (SaysClose device reason taken)
@@ -160,21 +148,14 @@ close-back device reason taken h k =
     ap close_in (three device (reason_text reason) taken)
     ∙ ap close_at (cut-marked 32 device (Some rest) (name-lacks 32 refl device h))
     ∙ passed (is_name device) (reason_and_taken device rest) h
-    ∙ ap (reason_at device) (cut-marked 32 (reason_text reason) (Some taken) (reason-lacks reason))
+    ∙ ap (reason_at device) (cut-marked 32 (reason_text reason) (Some taken) (reason-lacks reason).1)
     ∙ ap (option_and_then (λ r. if_so (is_natural taken) (Some (SaysClose device r taken)))) (reason-back reason)
     ∙ passed (is_natural taken) (Some (SaysClose device reason taken)) k
 
 answer-back : (answer : Answer) → end_in (answer_text answer) ≡ Some (SaysEnd answer)
 unfolding end_in
 answer-back Done = refl
-answer-back Stuck = refl
-answer-back Unknown = refl
-answer-back Depth = refl
-answer-back Fuel = refl
-answer-back Unanswered = refl
-answer-back AnswerFull = refl
-answer-back Deep = refl
-answer-back Memory = refl
+answer-back _ = refl
 
 abbrev body_at : Text × Option Text → Option Body
 body_at (word, rest) = if bytes_eq word (codes "test") then test_in rest else option_and_then (with_word word) rest

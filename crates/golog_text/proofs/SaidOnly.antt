@@ -26,23 +26,33 @@ behind-only prefix text rest e =
     let back = same_Some (drop (length prefix) text) rest b.1 in
     sym (take-append-drop (length prefix) text) ∙ (λ i. front i ++ back i)
 
+-- a word of a form behind a prefix
+record Behind (form : Text → Bool) (prefix text : Text) (word : Option Text) : Type 0 where
+  one : Text
+  is : word ≡ Some one
+  fits : form one ≡ true
+  whole : text ≡ prefix ++ one
+
+word-behind : (form : Text → Bool) (prefix text : Text) (word : Option Text) → option_and_then (λ one. if_so (form one) (Some (Some one))) (behind prefix text) ≡ Some word
+    → Behind form prefix text word
+word-behind form prefix text word e =
+    let r = and-then (λ one. if_so (form one) (Some (Some one))) (behind prefix text) word e in
+    let b = if-so (form r.0) (Some (Some r.0)) word r.2 in
+    record { one = r.0; is = sym (same_Some (Some r.0) word b.1); fits = b.0; whole = behind-only prefix text r.0 r.1 }
+
 run-only : (o run : Option Text) → run_in o ≡ Some run → (option_map_or is_run run true ≡ true) × (o ≡ run_behind run)
 unfolding run_in
 run-only None run e = let same = same_Some None run e in (ap (λ r. option_map_or is_run r true) (sym same), ap run_behind same)
 run-only (Some text) run e =
-    let r = and-then (λ word. if_so (is_run word) (Some (Some word))) (behind (codes "run") text) run e in
-    let b = if-so (is_run r.0) (Some (Some r.0)) run r.2 in
-    let same = same_Some (Some r.0) run b.1 in
-    (ap (λ x. option_map_or is_run x true) (sym same) ∙ b.0, ap Some (behind-only (codes "run") text r.0 r.1) ∙ ap run_behind same)
+    let r = word-behind is_run (codes "run") text run e in
+    (ap (λ x. option_map_or is_run x true) r.is ∙ r.fits, ap Some r.whole ∙ ap run_behind (sym r.is))
 
 old-only : (o old : Option Text) → old_in o ≡ Some old → (option_map_or is_constant old true ≡ true) × (o ≡ old_behind old)
 unfolding old_in
 old-only None old e = let same = same_Some None old e in (ap (λ r. option_map_or is_constant r true) (sym same), ap old_behind same)
 old-only (Some text) old e =
-    let r = and-then (λ word. if_so (is_constant word) (Some (Some word))) (behind (codes "against ") text) old e in
-    let b = if-so (is_constant r.0) (Some (Some r.0)) old r.2 in
-    let same = same_Some (Some r.0) old b.1 in
-    (ap (λ x. option_map_or is_constant x true) (sym same) ∙ b.0, ap Some (behind-only (codes "against ") text r.0 r.1) ∙ ap old_behind same)
+    let r = word-behind is_constant (codes "against ") text old e in
+    (ap (λ x. option_map_or is_constant x true) r.is ∙ r.fits, ap Some r.whole ∙ ap old_behind (sym r.is))
 
 -- the device that a word is, if there is one, and what stands behind it
 abbrev device_at : Text → Option Text → Option Text × Option Text

@@ -9,7 +9,9 @@ use Rattle.std.proofs.lemmas.List.Folds.{list_all-append}
 use Rattle.std.proofs.lemmas.List.Splits.{join_with_byte-slice_split}
 use Rattle.golog_base.specs.Names.{is_digit, begins_name, continues_name, is_name}
 use Rattle.golog_base.specs.Numbers.{are_digits, is_zero, is_positive, without_sign, is_number}
-use Rattle.golog_semantics.specs.Text.{Text}
+use Rattle.golog_semantics.specs.declared.journal.Reason.{Reason}
+use Rattle.golog_semantics.specs.declared.journal.Reason.TheVariants.{Ended, Bad, Full, Late, Stopped, Refused}
+use Rattle.golog_semantics.specs.Text.{Text, reason_text}
 use Rattle.golog_semantics.specs.Ways.{is_empty}
 use Rattle.golog_semantics.proofs.Words.{IsWord, name-word, and-both, and-left, and-right}
 use Rattle.golog_text.specs.Forms.{cut, parts, is_natural, is_constant, is_action, is_closed, is_label, is_step, is_run}
@@ -145,3 +147,8 @@ unfolding is_run
 run-lacks mark none text h =
     lacks runs mark none text
     (sym (ap (list_all runs) (join_with_byte-slice_split 59 text)) ∙ all-joined runs 59 refl (parts 59 text) (steps-run (parts 59 text) h))
+
+-- a reason's word has no line feed and no space
+pub reason-lacks : (reason : Reason) → Lacks 10 (reason_text reason) × Lacks 32 (reason_text reason)
+reason-lacks Ended = (refl, refl)
+reason-lacks _ = (refl, refl)

@@ -3,7 +3,8 @@ use Rattle.std.specs.Prelude.{ℕ, ◌+◌, ◌==◌, ◌||◌, ◌&&◌, Bool, 
 use Rattle.std.specs.List.{list_all, slice_split}
 use Rattle.std.specs.Option.{option_map_or}
 use Rattle.golog_base.specs.Names.{is_name}
-use Rattle.golog_base.specs.Numbers.{is_number, is_zero, is_positive}
+pub use Rattle.golog_base.specs.Numbers.{is_natural}
+use Rattle.golog_base.specs.Numbers.{is_number}
 use Rattle.golog_semantics.specs.Text.{Text}
 use Rattle.golog_semantics.specs.Ways.{is_empty}
 
@@ -28,10 +29,6 @@ parts_behind mark (Some rest) = parts mark rest
 abbrev pub length_behind : Option Text → ℕ
 length_behind None = 0
 length_behind (Some rest) = length rest + 1
-
--- digits without a leading zero
-abbrev pub is_natural : Text → Bool
-is_natural word = is_zero word || is_positive word
 
 -- a name, or a number
 abbrev pub is_constant : Text → Bool

@@ -6,8 +6,7 @@ ghost use Rattle.golog_semantics.specs.Ways.{is_empty};
 ghost use Rattle.golog_text.specs.Forms.{cut, parts, parts_behind, length_behind, is_constant, is_closed, is_action, is_label, is_step, is_run};
 ghost use Rattle.golog_text.specs.Views.{lent};
 
-use crate::numbers::is_number;
-use golog_base::is_name;
+use golog_base::{is_name, is_number};
 
 // The bytes before the first of these marks, and those behind it, where there is one.
 pub(crate) fn cut(bytes: &[u8], mark: u8) -> (&[u8], Option<&[u8]>)

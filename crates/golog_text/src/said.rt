@@ -7,9 +7,8 @@ ghost use Rattle.golog_text.specs.Said.{behind, run_in, device_in, test_in, do_i
 ghost use Rattle.golog_text.specs.Views.{lent, body_of, said_of};
 
 use crate::forms::{cut, is_action, is_constant, is_run};
-use crate::numbers::is_natural;
 use crate::words::{answer_name, reason_name};
-use golog_base::is_name;
+use golog_base::{is_name, is_natural};
 use golog_semantics::{Answer, Reason};
 
 // What stands behind a line's number. Its texts are the words themselves, lent. A run is what stands behind

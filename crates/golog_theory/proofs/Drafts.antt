@@ -17,7 +17,7 @@ use Rattle.golog_theory.specs.declared.index.Numbers.{Numbers}
 use Rattle.golog_theory.specs.declared.index.Index.{Index}
 use Rattle.golog_theory.specs.Names.{same, sort_name, lists}
 use Rattle.golog_theory.specs.declared.draft.Draft.{Draft}
-use Rattle.golog_theory.specs.Draft.{IsDraftOf}
+use Rattle.golog_theory.specs.Draft.{IsDraft, IsDraftOf}
 use Rattle.golog_theory.specs.Effects.{has_poss}
 use Rattle.golog_theory.specs.Items.{built_in}
 use Rattle.golog_theory.specs.Started.{ground_cmp, starts_at}
@@ -27,41 +27,32 @@ use Rattle.golog_theory.proofs.Found.{finds_push}
 abbrev Adds : Numbers → Numbers → (List ℕ → Bool) → ℕ → Type 0
 Adds old new test n = (word : List ℕ) → number_at new word ≡ or_new (number_at old word) (test word) n
 
+-- one more item with a name
+named_pushed : {T : Type 0} (name : T → List ℕ) (old new : Numbers) (items : List T) (item : T) (n : ℕ) → Finds (λ word x. same word (name x)) old items → n ≡ length items
+    → Adds old new (λ word. same word (name item)) n → Finds (λ word x. same word (name x)) new (items ++ item ∷ [])
+named_pushed name old new items item n finds count adds =
+    finds_push (λ word x. same word (name x)) old new items item finds (λ word. adds word ∙ ap (or_new (number_at old word) (same word (name item))) count)
+
 pub fluent_pushed : (index : Index) (theory : DraftTheory) (numbers : Numbers) (fluent : DraftFluent) (n : ℕ) → IsIndexOf index theory → n ≡ length theory.fluents
     → Adds index.fluents numbers (λ word. same word fluent.name) n
     → IsIndexOf (record index { fluents = numbers }) (record theory { fluents = theory.fluents ++ fluent ∷ [] })
-fluent_pushed index theory numbers fluent n is count adds = record {
-  sorts = is.sorts;
-  constants = is.constants;
-  devices = is.devices;
-  fluents = finds_push (λ word (x : DraftFluent). same word x.name) index.fluents numbers theory.fluents fluent is.fluents
-      (λ word. adds word ∙ ap (or_new (number_at index.fluents word) (same word fluent.name)) count);
-  actions = is.actions;
-}
+fluent_pushed index theory numbers fluent n is count adds =
+    let fluents = named_pushed (λ (x : DraftFluent). x.name) index.fluents numbers theory.fluents fluent n is.fluents count adds in
+    record { sorts = is.sorts; constants = is.constants; devices = is.devices; fluents = fluents; actions = is.actions }
 
 pub action_pushed : (index : Index) (theory : DraftTheory) (numbers : Numbers) (action : DraftAction) (n : ℕ) → IsIndexOf index theory → n ≡ length theory.actions
     → Adds index.actions numbers (λ word. same word action.name) n
     → IsIndexOf (record index { actions = numbers }) (record theory { actions = theory.actions ++ action ∷ [] })
-action_pushed index theory numbers action n is count adds = record {
-  sorts = is.sorts;
-  constants = is.constants;
-  devices = is.devices;
-  fluents = is.fluents;
-  actions = finds_push (λ word (x : DraftAction). same word x.name) index.actions numbers theory.actions action is.actions
-      (λ word. adds word ∙ ap (or_new (number_at index.actions word) (same word action.name)) count);
-}
+action_pushed index theory numbers action n is count adds =
+    let actions = named_pushed (λ (x : DraftAction). x.name) index.actions numbers theory.actions action n is.actions count adds in
+    record { sorts = is.sorts; constants = is.constants; devices = is.devices; fluents = is.fluents; actions = actions }
 
 pub device_pushed : (index : Index) (theory : DraftTheory) (numbers : Numbers) (device : DraftDevice) (n : ℕ) → IsIndexOf index theory → n ≡ length theory.devices
     → Adds index.devices numbers (λ word. same word device.name) n
     → IsIndexOf (record index { devices = numbers }) (record theory { devices = theory.devices ++ device ∷ [] })
-device_pushed index theory numbers device n is count adds = record {
-  sorts = is.sorts;
-  constants = is.constants;
-  devices = finds_push (λ word (x : DraftDevice). same word x.name) index.devices numbers theory.devices device is.devices
-      (λ word. adds word ∙ ap (or_new (number_at index.devices word) (same word device.name)) count);
-  fluents = is.fluents;
-  actions = is.actions;
-}
+device_pushed index theory numbers device n is count adds =
+    let devices = named_pushed (λ (x : DraftDevice). x.name) index.devices numbers theory.devices device n is.devices count adds in
+    record { sorts = is.sorts; constants = is.constants; devices = devices; fluents = is.fluents; actions = is.actions }
 
 pub sort_pushed : (index new : Index) (theory : DraftTheory) (sort : DraftSort) (n : ℕ) → IsIndexOf index theory → n ≡ length theory.sorts
     → Adds index.sorts new.sorts (λ word. same word (sort_name sort)) n
@@ -88,6 +79,18 @@ index_kept index theory other is sorts devices fluents actions = record {
   devices = rw devices is.devices;
   fluents = rw fluents is.fluents;
   actions = rw actions is.actions;
+}
+
+-- so is a draft, with an index of what is declared, where preconditions and start values stay as they are
+pub draft_kept : (draft : Draft) (index : Index) (theory : DraftTheory) → IsDraft draft → IsIndexOf index theory
+    → draft.theory.poss ≡ theory.poss → draft.theory.starts ≡ theory.starts → IsDraftOf (record draft { index = index; theory = theory }) theory
+draft_kept draft index theory is of_index poss starts = record {
+  same = refl;
+  kept = record {
+    index = of_index;
+    restricted = λ action. is.restricted action ∙ ap (λ items. has_poss items action) poss;
+    started = λ cell. is.started cell ∙ ap (list_any (starts_at cell)) starts;
+  };
 }
 
 -- the action of a new precondition is in the set

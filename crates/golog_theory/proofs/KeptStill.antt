@@ -1,10 +1,7 @@
 -- What a term, a condition or an item keeps, it keeps where more is declared.
-use Rattle.std.proofs.Common.{◌≡◌, ℕ, ◌+◌, ◌<◌, ◌≤◌, zero, suc, Bool, true, false, not, ◌&&◌, ◌||◌, ◌==◌, List, [], ◌∷◌, ◌++◌, length, map, Option, Some, None, refl, sym, ap, subst, ◌∙◌, arith}
-use Rattle.std.proofs.lemmas.List.{length_push, get_or_append_left}
-use Rattle.std.proofs.lemmas.Option.{slice_get-map, slice_get-get_or, slice_get_past}
-use Rattle.std.specs.Prelude.{nat_le, nat_lt, slice_get, get_or}
+use Rattle.std.proofs.Common.{◌≡◌, ℕ, ◌+◌, ◌≤◌, true, ◌&&◌, List, [], ◌∷◌, length, map, refl, sym, subst, ◌∙◌, arith}
+use Rattle.std.specs.Prelude.{nat_lt}
 use Rattle.std.specs.List.{list_all}
-use Rattle.std.specs.Option.{option_map_or}
 use Rattle.golog_tree.specs.declared.draft.DraftTheory.{DraftTheory}
 use Rattle.golog_tree.specs.declared.draft.DraftFluent.{DraftFluent}
 use Rattle.golog_tree.specs.declared.draft_cond.DraftArg.{DraftArg}
@@ -22,7 +19,7 @@ use Rattle.golog_draft.specs.Drafts.{signature, fluent_keeps, term_keeps, binder
 use Rattle.golog_semantics.specs.Written.{is_amount}
 use Rattle.golog_theory.proofs.KeptTerms as terms
 use Rattle.golog_theory.proofs.KeptConds as conds
-use Rattle.golog_theory.proofs.KeptTheory.{and_still}
+use Rattle.golog_theory.proofs.Kept.{and_still}
 
 -- the other declares as much
 pub record DeclaresMore (theory other : DraftTheory) : Type 0 where

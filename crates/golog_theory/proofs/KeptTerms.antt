@@ -1,10 +1,8 @@
 -- What terms and conditions keep: fluents and sorts are declared, and there are as many arguments as declared.
-use Rattle.std.proofs.Common.{◌≡◌, ℕ, ◌+◌, ◌<◌, ◌≤◌, zero, suc, Bool, true, false, not, ◌&&◌, ◌||◌, ◌==◌, IsTrue, ℤ, List, [], ◌∷◌, ◌++◌, length, map, Option, Some, None, Result, Ok, Err, refl, sym, ap, subst, ◌∙◌, arith}
+use Rattle.std.proofs.Common.{◌≡◌, ℕ, ◌+◌, ◌<◌, zero, suc, Bool, true, false, not, ◌&&◌, ◌||◌, ◌==◌, ℤ, List, [], ◌∷◌, length, map, Option, Some, None, refl, sym, ap, subst, ◌∙◌, arith}
 use Rattle.std.proofs.lemmas.Option.{slice_get-map, slice_get-get_or}
-use Rattle.std.proofs.lemmas.List.Folds.{list_all-map}
 use Rattle.std.proofs.lemmas.List.Quantifiers.{position-Some}
-use Rattle.std.specs.Prelude.{if◌then◌else◌, codes, nat_le, nat_lt, slice_get, neg_ℤ, pos, negsuc, get_or, ◌^◌}
-use Rattle.std.specs.List.{list_all}
+use Rattle.std.specs.Prelude.{if◌then◌else◌, codes, nat_lt, slice_get, neg_ℤ, pos, get_or, ◌^◌}
 use Rattle.std.specs.Option.{option_map_or}
 use Rattle.golog_base.specs.Names.{is_name}
 use Rattle.golog_form.specs.declared.form.Form.{Form}
@@ -14,29 +12,27 @@ use Rattle.golog_tree.specs.declared.draft.DraftFluent.{DraftFluent}
 use Rattle.golog_tree.specs.declared.draft_cond.DraftArg.{DraftArg}
 use Rattle.golog_tree.specs.declared.draft_cond.DraftTerm.{DraftTerm}
 use Rattle.golog_tree.specs.declared.draft_cond.DraftTerm.TheVariants as term
-use Rattle.golog_tree.specs.declared.draft_cond.DraftTerm.TheOpen.{DraftTerm-F, Arg, Fluent, Shift}
+use Rattle.golog_tree.specs.declared.draft_cond.DraftTerm.TheOpen.{Arg, Fluent, Shift}
 use Rattle.golog_tree.specs.declared.draft_cond.DraftTerm.TheFolds.{fold-roll-DraftTerm}
 use Rattle.golog_tree.specs.declared.draft_cond.DraftCond.{DraftCond}
 use Rattle.golog_tree.specs.declared.draft_cond.DraftCond.TheVariants as cond
-use Rattle.golog_tree.specs.declared.draft_cond.DraftCond.TheOpen.{DraftCond-F, Truth, Is, Equal, Less, AtMost, Not, And, Or, ForSome, ForAll}
 use Rattle.golog_tree.specs.declared.draft_cond.DraftCond.TheFolds.{fold-roll-DraftCond}
 use Rattle.golog_theory.specs.declared.heads.Called.{Called}
 use Rattle.golog_theory.specs.declared.conditions.Sides.{Sides}
 use Rattle.golog_theory.specs.declared.conditions.Binder.{Binder}
 use Rattle.golog_theory.specs.declared.conditions.Bound.{Bound}
-use Rattle.golog_theory.specs.Reading.{Row, Reading, gives, refused, row, ◌>>=◌, found, each}
+use Rattle.golog_theory.specs.Reading.{Reading, gives, refused, row, ◌>>=◌, found, each}
 use Rattle.golog_theory.specs.Names.{same, fluent_no, fluent_arity, fluent_args}
 use Rattle.golog_base.specs.Numbers.{is_number, has_sign, amount, value}
-use Rattle.golog_theory.specs.Parts.{word, parts, short_name, sort_of, arg_of}
+use Rattle.golog_theory.specs.Parts.{word, parts, arg_of}
 use Rattle.golog_theory.specs.Heads.{head_word, head_place, arguments, args_of, has_others, called, fluent_called}
-use Rattle.golog_theory.specs.Recursion.{Part}
 use Rattle.golog_theory.specs.Terms.{step_of, plus_of, minus_of, fluent_term, atom_term, term_list, term_by, term_of, term_part}
-use Rattle.golog_draft.specs.Drafts.{Signature, signature, fluent_keeps, term_keeps_step, term_keeps, binder_keeps, cond_keeps_step, cond_keeps}
+use Rattle.golog_draft.specs.Drafts.{signature, fluent_keeps, term_keeps_step, term_keeps}
 use Rattle.golog_semantics.specs.Written.{is_amount}
 use Rattle.golog_theory.proofs.Inside.{Each, by_parts}
 use Rattle.golog_theory.proofs.Descent.{term_of-parts}
-use Rattle.golog_theory.proofs.Yields.{Yields, On, gives-yields, refused-yields, row-yields, found-yields, if-yields, then-yields, each-yields}
-use Rattle.golog_theory.proofs.Kept.{sort_of-yields, or_left, or_right}
+use Rattle.golog_theory.proofs.Yields.{Yields, gives-yields, refused-yields, row-yields, found-yields, if-yields, then-yields, each-yields}
+use Rattle.golog_theory.proofs.Kept.{or_right}
 
 -- what is called is declared, with as many arguments
 pub record IsCalled (f : Form) (arity : ℕ → ℕ) (item : Option ℕ) (n : ℕ) : Type 0 where
@@ -140,23 +136,19 @@ module _ (theory : DraftTheory) where
   shifted : (t : DraftTerm) (by : ℤ) (at : ℕ) → TermKeeps t → is_amount by ≡ true → TermKeeps (term.Shift t by at)
   shifted t by at k a = keeps-Shift t by at ∙ rw (k, a) refl
 
-  plus_of-yields : (at : ℕ) (fs : List Form) → Each IsKept fs → Yields TermKeeps (plus_of at (map (term_part theory) fs))
-  unfolding plus_of
-  plus_of-yields at [] e = refused-yields TermKeeps 20 at
-  plus_of-yields at (one ∷ []) e = refused-yields TermKeeps 20 at
-  plus_of-yields at (one ∷ step ∷ []) e =
-      then-yields _ _ (term_of theory one).outcome _ e.0 (λ t k.
-      then-yields _ _ (step_of step).outcome _ (step_of-yields step) (λ by is. gives-yields TermKeeps (term.Shift t by at) (shifted t by at k is.0)))
-  plus_of-yields at (one ∷ step ∷ other ∷ fs) e = refused-yields TermKeeps 20 at
+  -- a term and a number, added or taken away
+  shift-yields : (change : ℤ → ℤ) (at : ℕ) (one step : Form) → IsKept one → ((by : ℤ) → (is_amount by ≡ true) × (is_amount (neg_ℤ by) ≡ true) → is_amount (change by) ≡ true)
+      → Yields TermKeeps (term_of theory one >>= λ t. step_of step >>= λ by. gives (term.Shift t (change by) at))
+  shift-yields change at one step known amount =
+      then-yields _ _ (term_of theory one).outcome _ known (λ t k.
+      then-yields _ _ (step_of step).outcome _ (step_of-yields step) (λ by is. gives-yields TermKeeps (term.Shift t (change by) at) (shifted t (change by) at k (amount by is))))
 
-  minus_of-yields : (at : ℕ) (fs : List Form) → Each IsKept fs → Yields TermKeeps (minus_of at (map (term_part theory) fs))
-  unfolding minus_of
-  minus_of-yields at [] e = refused-yields TermKeeps 20 at
-  minus_of-yields at (one ∷ []) e = refused-yields TermKeeps 20 at
-  minus_of-yields at (one ∷ step ∷ []) e =
-      then-yields _ _ (term_of theory one).outcome _ e.0 (λ t k.
-      then-yields _ _ (step_of step).outcome _ (step_of-yields step) (λ by is. gives-yields TermKeeps (term.Shift t (neg_ℤ by) at) (shifted t (neg_ℤ by) at k is.1)))
-  minus_of-yields at (one ∷ step ∷ other ∷ fs) e = refused-yields TermKeeps 20 at
+  shifts-yields : (at : ℕ) (fs : List Form) → Each IsKept fs → Yields TermKeeps (plus_of at (map (term_part theory) fs)) × Yields TermKeeps (minus_of at (map (term_part theory) fs))
+  unfolding plus_of minus_of
+  shifts-yields at [] e = (refused-yields TermKeeps 20 at, refused-yields TermKeeps 20 at)
+  shifts-yields at (one ∷ []) e = (refused-yields TermKeeps 20 at, refused-yields TermKeeps 20 at)
+  shifts-yields at (one ∷ step ∷ []) e = (shift-yields (λ by. by) at one step e.0 (λ by is. is.0), shift-yields neg_ℤ at one step e.0 (λ by is. is.1))
+  shifts-yields at (one ∷ step ∷ other ∷ fs) e = (refused-yields TermKeeps 20 at, refused-yields TermKeeps 20 at)
 
   fluent_term-yields : (f : Form) → Yields TermKeeps (fluent_term theory f)
   unfolding fluent_term
@@ -173,9 +165,9 @@ module _ (theory : DraftTheory) where
   term_list-yields f keyword fs e =
       if-yields TermKeeps (same keyword (codes "+")) (plus_of (place_of f) (map (term_part theory) fs))
       (if same keyword (codes "-") then minus_of (place_of f) (map (term_part theory) fs) else fluent_term theory f)
-      (λ _. plus_of-yields (place_of f) fs e)
+      (λ _. (shifts-yields (place_of f) fs e).0)
       (λ _. if-yields TermKeeps (same keyword (codes "-")) (minus_of (place_of f) (map (term_part theory) fs)) (fluent_term theory f)
-      (λ _. minus_of-yields (place_of f) fs e) (λ _. fluent_term-yields f))
+      (λ _. (shifts-yields (place_of f) fs e).1) (λ _. fluent_term-yields f))
 
   term_by-yields : (f : Form) (fs : List Form) → Each IsKept fs → Yields TermKeeps (term_by theory f (map (term_part theory) fs))
   term_by-yields f [] e = atom_term-yields f

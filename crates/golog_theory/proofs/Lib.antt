@@ -1,4 +1,3 @@
-pub mod Amounts
 pub mod Conds
 pub mod Each
 pub mod Descent
@@ -23,7 +22,8 @@ pub mod KeptTheory
 pub mod KeptEffects
 pub mod KeptStill
 pub mod KeptRest
-pub mod KeptWhole
+pub mod KeptSorts
+pub mod Grown
 pub mod KeptOnce
 pub mod Laws
 pub mod Amid

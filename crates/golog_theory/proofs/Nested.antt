@@ -1,5 +1,5 @@
 -- The rows of a term and of a condition stand in order, within the places of its form.
-use Rattle.std.proofs.Common.{◌≡◌, ℕ, ◌+◌, ◌*◌, ◌<◌, ◌≤◌, Bool, true, false, IsTrue, ℤ, List, [], ◌∷◌, ◌++◌, map, Option, Some, None, Result, Ok, Err, refl, sym, ap, subst, ◌∙◌, arith}
+use Rattle.std.proofs.Common.{ℕ, ◌+◌, ◌*◌, ◌<◌, ◌≤◌, true, false, ℤ, List, [], ◌∷◌, map, Option, Some, None, refl, sym, subst, arith}
 use Rattle.std.specs.Prelude.{if◌then◌else◌, codes, neg_ℤ}
 use Rattle.golog_form.specs.declared.form.Form.{Form}
 use Rattle.golog_form.specs.Shape.{place_of}
@@ -12,7 +12,7 @@ use Rattle.golog_tree.specs.declared.draft_cond.DraftCond.TheVariants as cond
 use Rattle.golog_theory.specs.declared.conditions.Sides.{Sides}
 use Rattle.golog_theory.specs.declared.conditions.Binder.{Binder}
 use Rattle.golog_theory.specs.declared.conditions.Bound.{Bound}
-use Rattle.golog_theory.specs.Reading.{Row, Reading, gives, refused, row, ◌>>=◌, found, each}
+use Rattle.golog_theory.specs.Reading.{Reading, gives, refused, row, ◌>>=◌, found, each}
 use Rattle.golog_theory.specs.Names.{same}
 use Rattle.golog_base.specs.Numbers.{value}
 use Rattle.golog_theory.specs.Parts.{word, parts, short_name, sort_of, arg_of}
@@ -23,9 +23,9 @@ use Rattle.golog_theory.specs.Keywords.{cond_keyword}
 use Rattle.golog_theory.specs.declared.keyword.CondKeyword.{CondKeyword}
 use Rattle.golog_theory.specs.declared.keyword.CondKeyword.TheVariants as keyword
 use Rattle.golog_theory.specs.Conditions.{InScope, truth_of, fluent_cond, sides_of, equal_of, less_of, at_most_of, not_of, conds_of, and_of, or_of, binder_by, binder_of, bound_of, some_of, all_of, keyword_cond, cond_list, cond_by, cond_of, cond_part}
-use Rattle.golog_rows.proofs.Chain.{key, Chain, chain-low, chain-high, Spans, then-chain, then-spans, gives-spans, found-chain, Parts, ReadsFrom, each-spans, if-chain, wider}
-use Rattle.golog_theory.proofs.Inside.{Each, by_parts, end_of, Between, Stands, stands, between-from, between-to}
-use Rattle.golog_theory.proofs.Tables.{Covers, between-le, short_name-behind, sort_of-covers, arg_of-covers, fluent_called-covers}
+use Rattle.golog_rows.proofs.Chain.{key, Chain, chain-low, Spans, then-chain, then-spans, gives-spans, Parts, ReadsFrom, each-spans, if-chain, wider}
+use Rattle.golog_theory.proofs.Inside.{Each, by_parts, end_of, Between, stands, between-from}
+use Rattle.golog_theory.proofs.Tables.{Covers, row-chain, found-covers, between-le, short_name-behind, sort_of-covers, arg_of-covers, fluent_called-covers}
 use Rattle.golog_theory.proofs.Descent.{term_of-parts}
 use Rattle.golog_theory.proofs.Conds.{cond_of-parts}
 
@@ -52,13 +52,7 @@ refused-covers A from to code size some small = (omega arith, some, small, omega
 
 step_of-covers : (f : Form) → IsInOrder f → Covers f (step_of f)
 unfolding step_of
-step_of-covers f order =
-    let size = (stands f order).size in (
-      omega arith,
-      omega arith,
-      omega arith,
-      found-chain (key (place_of f) 20) (64 * end_of f) 26 (place_of f) (value (word f)) (omega arith) (omega arith) (omega arith) (omega arith),
-    )
+step_of-covers f order = found-covers 26 f (value (word f)) refl order
 
 atom_term-covers : (f : Form) → IsInOrder f → Covers f (atom_term f)
 unfolding atom_term
@@ -82,23 +76,17 @@ module _ (theory : DraftTheory) where
       (within from (end_of one) one (term_of theory one) b.0 (omega arith) (covers b.1))
       (λ term. gives-spans (end_of one) to (step_of step) (made term) (within (end_of one) to step (step_of step) b.2.0 b.2.2 (step_of-covers step b.2.1)))
 
-  plus_of-spans : (at : ℕ) (fs : List Form) (from to : ℕ) → at < from → Between from fs to → Each TermCovers fs → Spans at to (plus_of at (map (term_part theory) fs))
-  unfolding plus_of
-  plus_of-spans at [] from to lt b e = refused-covers DraftTerm at to 20 (omega (arith, b)) (omega arith) (omega arith)
-  plus_of-spans at (one ∷ []) from to lt b e = refused-covers DraftTerm at to 20 (omega (arith, between-le from (one ∷ []) to b)) (omega arith) (omega arith)
-  plus_of-spans at (one ∷ step ∷ []) from to lt b e =
-      shift-spans at to one step (λ t by. term.Shift t by at) (between-from at from (one ∷ step ∷ []) to (omega arith) b) e.0
-  plus_of-spans at (one ∷ step ∷ other ∷ fs) from to lt b e =
-      refused-covers DraftTerm at to 20 (omega (arith, between-le from (one ∷ step ∷ other ∷ fs) to b)) (omega arith) (omega arith)
-
-  minus_of-spans : (at : ℕ) (fs : List Form) (from to : ℕ) → at < from → Between from fs to → Each TermCovers fs → Spans at to (minus_of at (map (term_part theory) fs))
-  unfolding minus_of
-  minus_of-spans at [] from to lt b e = refused-covers DraftTerm at to 20 (omega (arith, b)) (omega arith) (omega arith)
-  minus_of-spans at (one ∷ []) from to lt b e = refused-covers DraftTerm at to 20 (omega (arith, between-le from (one ∷ []) to b)) (omega arith) (omega arith)
-  minus_of-spans at (one ∷ step ∷ []) from to lt b e =
-      shift-spans at to one step (λ t by. term.Shift t (neg_ℤ by) at) (between-from at from (one ∷ step ∷ []) to (omega arith) b) e.0
-  minus_of-spans at (one ∷ step ∷ other ∷ fs) from to lt b e =
-      refused-covers DraftTerm at to 20 (omega (arith, between-le from (one ∷ step ∷ other ∷ fs) to b)) (omega arith) (omega arith)
+  shifts-spans : (at : ℕ) (fs : List Form) (from to : ℕ) → at < from → Between from fs to → Each TermCovers fs
+      → Spans at to (plus_of at (map (term_part theory) fs)) × Spans at to (minus_of at (map (term_part theory) fs))
+  unfolding plus_of minus_of
+  shifts-spans at [] from to lt b e = let none = refused-covers DraftTerm at to 20 (omega (arith, b)) (omega arith) (omega arith) in (none, none)
+  shifts-spans at (one ∷ []) from to lt b e =
+      let none = refused-covers DraftTerm at to 20 (omega (arith, between-le from (one ∷ []) to b)) (omega arith) (omega arith) in (none, none)
+  shifts-spans at (one ∷ step ∷ []) from to lt b e =
+      let b' = between-from at from (one ∷ step ∷ []) to (omega arith) b in
+      (shift-spans at to one step (λ t by. term.Shift t by at) b' e.0, shift-spans at to one step (λ t by. term.Shift t (neg_ℤ by) at) b' e.0)
+  shifts-spans at (one ∷ step ∷ other ∷ fs) from to lt b e =
+      let none = refused-covers DraftTerm at to 20 (omega (arith, between-le from (one ∷ step ∷ other ∷ fs) to b)) (omega arith) (omega arith) in (none, none)
 
   term_list-covers : (f : Form) (keyword : List ℕ) (fs : List Form) (from : ℕ) → IsInOrder f → place_of f < from → Between from fs (end_of f) → Each TermCovers fs
       → Covers f (term_list theory f keyword (map (term_part theory) fs))
@@ -107,9 +95,9 @@ module _ (theory : DraftTheory) where
       let low = 64 * place_of f in let high = 64 * end_of f in let parts = map (term_part theory) fs in
       let minus = if same keyword (codes "-") then minus_of (place_of f) parts else fluent_term theory f in
       if-chain low high (same keyword (codes "+")) (plus_of (place_of f) parts) minus
-      (plus_of-spans (place_of f) fs from (end_of f) lt b e)
+      (shifts-spans (place_of f) fs from (end_of f) lt b e).0
       (if-chain low high (same keyword (codes "-")) (minus_of (place_of f) parts) (fluent_term theory f)
-      (minus_of-spans (place_of f) fs from (end_of f) lt b e) (fluent_term-covers theory f order))
+      (shifts-spans (place_of f) fs from (end_of f) lt b e).1 (fluent_term-covers theory f order))
 
   term_by-covers : (f : Form) (fs : List Form) → IsInOrder f → Between (place_of f + 1) fs (end_of f) → Each TermCovers fs
       → Covers f (term_by theory f (map (term_part theory) fs))
@@ -183,16 +171,12 @@ module _ (theory : DraftTheory) where
   binder_by-spans at (var ∷ []) to lt b = refused-covers Binder at to 20 lt (omega arith) (omega arith)
   binder_by-spans at (var ∷ sort ∷ []) to lt b =
       let size = (stands var b.1).size in
-      let size' = (stands sort b.2.1).size in (
-        omega (arith, b.0),
-        omega arith,
-        omega arith,
-        then-chain (key (place_of var) 20) (64 * end_of var) (64 * to) (short_name var) (λ var. sort_of theory sort >>= λ sort. gives (record { var = var; sort = sort }))
-            (omega (arith, b.2.0, size', b.2.2))
-            (chain-low (key (place_of var) 20) (key (place_of var) 25) (64 * end_of var) (short_name var).rows (omega arith) (short_name-behind var size))
-            (λ name. gives-spans (end_of var) to (sort_of theory sort) (λ sort. record { var = name; sort = sort })
-            (within (end_of var) to sort (sort_of theory sort) b.2.0 b.2.2 (sort_of-covers theory sort b.2.1))),
-      )
+      let size' = (stands sort b.2.1).size in
+      row-chain (64 * at) (key (place_of var) 25) (64 * to) 20 (place_of var) _ refl (omega (arith, b.0)) (omega arith)
+      (then-chain (key (place_of var) 25) (64 * end_of var) (64 * to) (short_name var) (λ var. sort_of theory sort >>= λ sort. gives (record { var = var; sort = sort }))
+      (omega (arith, b.2.0, size', b.2.2)) (short_name-behind var size)
+      (λ name. gives-spans (end_of var) to (sort_of theory sort) (λ sort. record { var = name; sort = sort })
+      (within (end_of var) to sort (sort_of theory sort) b.2.0 b.2.2 (sort_of-covers theory sort b.2.1))))
   binder_by-spans at (var ∷ sort ∷ other ∷ fs) to lt b = refused-covers Binder at to 20 lt (omega arith) (omega arith)
 
   -- the rows of a binder stand within its places
@@ -206,17 +190,12 @@ module _ (theory : DraftTheory) where
   bound_of-spans scope at (binder ∷ []) from to lt b e =
       refused-covers Bound at to 20 (omega (arith, between-le from (binder ∷ []) to b)) (omega arith) (omega arith)
   bound_of-spans scope at (binder ∷ body ∷ []) from to lt b e =
-      let size = (stands body b.2.1).size in (
-        omega arith,
-        omega arith,
-        omega arith,
-        then-chain (key at 25) (64 * end_of binder) (64 * to) (binder_of theory binder)
-            (λ binder. cond_of theory body (scope + 1) >>= λ body. gives (record { binder = binder; body = body }))
-            (omega (arith, b.2.0, size, b.2.2))
-            (chain-low (key at 25) (64 * place_of binder) (64 * end_of binder) (binder_of theory binder).rows (omega (arith, b.0)) (binder_of-covers binder b.1))
-            (λ binder'. gives-spans (end_of binder) to (cond_of theory body (scope + 1)) (λ body. record { binder = binder'; body = body })
-            (within (end_of binder) to body (cond_of theory body (scope + 1)) b.2.0 b.2.2 (e.1.0 b.2.1 (scope + 1)))),
-      )
+      let size = (stands body b.2.1).size in
+      row-chain (64 * at) (64 * place_of binder) (64 * to) 25 at _ refl (omega arith) (omega (arith, lt, b.0))
+      (then-chain (64 * place_of binder) (64 * end_of binder) (64 * to) (binder_of theory binder)
+      (λ binder. cond_of theory body (scope + 1) >>= λ body. gives (record { binder = binder; body = body })) (omega (arith, b.2.0, size, b.2.2)) (binder_of-covers binder b.1)
+      (λ binder'. gives-spans (end_of binder) to (cond_of theory body (scope + 1)) (λ body. record { binder = binder'; body = body })
+      (within (end_of binder) to body (cond_of theory body (scope + 1)) b.2.0 b.2.2 (e.1.0 b.2.1 (scope + 1)))))
   bound_of-spans scope at (binder ∷ body ∷ other ∷ fs) from to lt b e =
       refused-covers Bound at to 20 (omega (arith, between-le from (binder ∷ body ∷ other ∷ fs) to b)) (omega arith) (omega arith)
 

@@ -1,8 +1,8 @@
--- A name that may be declared is none of the names so far and no keyword; and each item declares such names.
+-- A name that may be declared is none of the names so far and no keyword; and a sort's constants are such names.
 use Rattle.std.proofs.Common.{◌≡◌, ℕ, ◌+◌, suc, Bool, true, false, not, ◌||◌, List, [], ◌∷◌, ◌++◌, length, map, Some, None, refl, sym, ◌∙◌, arith}
 use Rattle.std.proofs.lemmas.Map.Keys.{IsDistinct-push}
 use Rattle.std.proofs.lemmas.Cmp.{nat_list_eq_equiv}
-use Rattle.std.specs.Prelude.{cond, codes, nat_lt, nat_le, is_some, position}
+use Rattle.std.specs.Prelude.{cond, codes, nat_lt, is_some, position}
 use Rattle.std.specs.List.{list_any, flat_map, AllByRecursion, IsDistinct, position_or_len}
 use Rattle.golog_base.specs.Names.{is_name}
 use Rattle.golog_form.specs.declared.form.Form.{Form}
@@ -13,16 +13,13 @@ use Rattle.golog_tree.specs.declared.draft.DraftSort.TheVariants.{Range, Listed}
 use Rattle.golog_tree.specs.declared.draft.DraftFluent.{DraftFluent}
 use Rattle.golog_tree.specs.declared.draft.DraftAction.{DraftAction}
 use Rattle.golog_tree.specs.declared.draft.DraftDevice.{DraftDevice}
-use Rattle.golog_theory.specs.Reading.{each}
 use Rattle.golog_theory.specs.Names.{same, is_reserved, is_taken, is_constant, lists, sort_name, sort_no, device_no, fluent_no, action_no}
-use Rattle.golog_base.specs.Numbers.{is_number}
-use Rattle.golog_theory.specs.Parts.{word, short_name, new_name, number_of}
-use Rattle.golog_theory.specs.Sorts.{bound, is_above, is_too_wide, range_of, is_taken_beside, constant_of, listed_of, range_by, sort_by, sort_item}
+use Rattle.golog_theory.specs.Parts.{word, short_name}
+use Rattle.golog_theory.specs.Sorts.{is_taken_beside, constant_of}
 use Rattle.golog_semantics.specs.BuiltIn.{is_keyword, same_text}
 use Rattle.golog_draft.specs.Drafts.{draft_sort_names, theory_names}
-use Rattle.golog_theory.proofs.Yields.{Yields, gives-yields, refused-yields, row-yields, if-yields, then-yields, each-yields}
-use Rattle.golog_theory.proofs.Kept.{or_left, or_right, not_true, new_name-yields}
-use Rattle.golog_theory.proofs.KeptItems.{IsNew}
+use Rattle.golog_theory.proofs.Yields.{Yields, gives-yields, row-yields}
+use Rattle.golog_theory.proofs.Kept.{IsNew, or_left, or_right, not_true}
 use Rattle.golog_theory.proofs.Amid.{all-append, Absent, any-absent}
 
 -- what is found nowhere
@@ -127,26 +124,13 @@ pub one-new : (theory : DraftTheory) (name : List ℕ) → IsNew theory name →
 unfolding IsDistinct
 one-new theory name new = record { each_is = (new, tt); differ = (tt, tt) }
 
-abbrev pub SortIsNew : DraftTheory → DraftSort → Type 0
-SortIsNew theory item = AreNew theory (draft_sort_names item)
-
 module _ (theory : DraftTheory) where
-  range_of-new : (at : ℕ) (name low high : Form) → Yields (SortIsNew theory) (range_of theory at name low high)
-  unfolding range_of
-  range_of-new at name low high =
-      row-yields _ (nat_le 64 (length theory.sorts) || is_too_wide (bound low) (bound high)) (25, at) _ (λ few.
-      row-yields _ (is_above (bound low) (bound high)) (26, at) _ (λ above.
-      then-yields _ _ (new_name theory name).outcome _ (new_name-yields theory name) (λ name' named.
-      then-yields (λ _. Unit {0}) _ (number_of low).outcome _ (λ x e. tt) (λ low' _.
-      then-yields (λ _. Unit {0}) _ (number_of high).outcome _ (λ x e. tt) (λ high' _.
-      gives-yields (SortIsNew theory) (Range name' low' high' at) (one-new theory name' (record { word = named.0; free = named.1 })))))))
-
   -- the sort's own name and the constants before
-  record AreBefore (own : List ℕ) (before : List (List ℕ)) : Type 0 where
-    each_is : AllByRecursion (IsNew theory) before
-    differ : IsDistinct same_text (own ∷ before)
+  pub record AreBefore (own : List ℕ) (before : List (List ℕ)) : Type 0 where
+    pub each_is : AllByRecursion (IsNew theory) before
+    pub differ : IsDistinct same_text (own ∷ before)
 
-  constant_of-new : (own : List ℕ) (before : List (List ℕ)) (f : Form) → AreBefore own before → Yields (λ name. AreBefore own (before ++ name ∷ [])) (constant_of theory own before f)
+  pub constant_of-new : (own : List ℕ) (before : List (List ℕ)) (f : Form) → AreBefore own before → Yields (λ name. AreBefore own (before ++ name ∷ [])) (constant_of theory own before f)
   unfolding constant_of short_name is_taken_beside
   constant_of-new own before f held =
       row-yields _ (not (is_name (word f))) (20, place_of f) _ (λ named.
@@ -165,29 +149,4 @@ module _ (theory : DraftTheory) where
         differ = IsDistinct-push nat_list_eq_equiv (own ∷ before) (word f) held.differ not_beside;
       }))))
 
-  listed_of-new : (at : ℕ) (name : Form) (constants : List Form) → Yields (SortIsNew theory) (listed_of theory at name constants)
-  unfolding listed_of IsDistinct
-  listed_of-new at name constants =
-      row-yields _ (nat_le 64 (length theory.sorts) || nat_lt 255 (length constants)) (25, at) _ (λ few.
-      then-yields _ _ (new_name theory name).outcome _ (new_name-yields theory name) (λ own named.
-      then-yields (λ names. AreBefore own names × (length names ≡ 0 + length constants)) _ (each (constant_of theory own) [] constants).outcome _
-      (each-yields (AreBefore own) (constant_of theory own) (λ before part held. constant_of-new own before part held) [] constants (record { each_is = tt; differ = (tt, tt) })) (λ names all.
-      gives-yields (SortIsNew theory) (Listed own names at) (record { each_is = (record { word = named.0; free = named.1 }, all.0.each_is); differ = all.0.differ }))))
-
-  range_by-new : (at : ℕ) (name low : Form) (fs : List Form) → Yields (SortIsNew theory) (range_by theory at name low fs)
-  range_by-new at name low [] = refused-yields (SortIsNew theory) 20 at
-  range_by-new at name low (high ∷ []) = range_of-new at name low high
-  range_by-new at name low (high ∷ other ∷ fs) = refused-yields (SortIsNew theory) 20 at
-
-  sort_by-new : (at : ℕ) (name : Form) (fs : List Form) → Yields (SortIsNew theory) (sort_by theory at name fs)
-  sort_by-new at name [] = refused-yields (SortIsNew theory) 20 at
-  sort_by-new at name (f ∷ fs) =
-      if-yields (SortIsNew theory) (is_number (word f)) (range_by theory at name f fs) (listed_of theory at name (f ∷ fs))
-      (λ is. range_by-new at name f fs) (λ is. listed_of-new at name (f ∷ fs))
-
-  pub sort_item-new : (at : ℕ) (fs : List Form) → Yields (SortIsNew theory) (sort_item theory at fs)
-  unfolding sort_item
-  sort_item-new at [] = refused-yields (SortIsNew theory) 20 at
-  sort_item-new at (name ∷ fs) = sort_by-new at name fs
-
-pub ruleset laws = (new-absent, new-free, sort_item-new)
+pub ruleset laws = (new-absent, new-free)

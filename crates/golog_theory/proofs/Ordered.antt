@@ -1,9 +1,9 @@
 -- The rows of every item stand in order, within the places of the item, and so do those of a theory.
-use Rattle.std.proofs.Common.{◌≡◌, ℕ, ◌+◌, ◌*◌, ◌<◌, ◌≤◌, Bool, true, false, not, ◌||◌, List, [], ◌∷◌, ◌++◌, map, length, Option, Some, None, Result, Ok, Err, refl, sym, ap, subst, ◌∙◌, arith}
-use Rattle.std.specs.Prelude.{if◌then◌else◌, codes, nat_le, nat_lt, is_none}
+use Rattle.std.proofs.Common.{ℕ, ◌+◌, ◌*◌, ◌<◌, Bool, true, false, not, List, [], ◌∷◌, ◌++◌, length, Option, Some, None, Result, refl, arith}
+use Rattle.std.specs.Prelude.{if◌then◌else◌, codes}
 use Rattle.golog_base.specs.Names.{is_name}
 use Rattle.golog_form.specs.declared.form.Form.{Form}
-use Rattle.golog_form.specs.Shape.{place_of, items_of}
+use Rattle.golog_form.specs.Shape.{place_of}
 use Rattle.golog_form.specs.Places.{IsInOrder}
 use Rattle.golog_tree.specs.declared.draft.DraftTheory.{DraftTheory}
 use Rattle.golog_tree.specs.declared.draft.DraftSort.{DraftSort}
@@ -24,7 +24,7 @@ use Rattle.golog_theory.specs.declared.fault.TheoryFault.{TheoryFault}
 use Rattle.golog_theory.specs.declared.names.Actions.TheVariants.{OfProgram, All}
 use Rattle.golog_theory.specs.declared.fluents.FluentItem.{FluentItem}
 use Rattle.golog_theory.specs.declared.effects.Effect.{Effect}
-use Rattle.golog_theory.specs.Reading.{Row, Reading, Answers, gives, refused, row, ◌>>=◌, found, each, code_at}
+use Rattle.golog_theory.specs.Reading.{Reading, Answers, gives, refused, row, ◌>>=◌, found, each, code_at}
 use Rattle.golog_theory.specs.Names.{same, is_constant, fluent_no, fluent_arity, device_no}
 use Rattle.golog_base.specs.Numbers.{is_number}
 use Rattle.golog_theory.specs.Parts.{word, parts, short_name, new_name, sort_of, number_of, arg_of}
@@ -40,31 +40,22 @@ use Rattle.golog_theory.specs.declared.keyword.ItemKeyword.{ItemKeyword}
 use Rattle.golog_theory.specs.declared.keyword.ItemKeyword.TheVariants.{Sort, Device, Fluent, Start, Action, Exo, Poss, Causes, Senses, Proc, Main}
 use Rattle.golog_theory.specs.Items.{built_in, with_fluent, sort_read, device_read, fluent_read, start_read, action_read, exo_read, poss_read, causes_read, senses_read, read_as, read_by, item_read, items_read, theory_of}
 use Rattle.golog_theory.specs.Order.{StandIn, TablesAreOrdered, IsLeastRow}
-use Rattle.golog_rows.proofs.Chain.{key, Chain, chain-low, chain-high, Spans, then-chain, then-spans, gives-spans, found-chain, Parts, ReadsFrom, each-spans, if-chain, chain-ordered, chain-within, least_row}
+use Rattle.golog_rows.proofs.Chain.{key, Chain, chain-high, Spans, then-chain, then-spans, gives-spans, if-chain, chain-ordered, chain-within, least_row}
 use Rattle.golog_theory.proofs.Theory.{first_row}
-use Rattle.golog_theory.proofs.Inside.{end_of, Between, Stands, stands, between-drop, between-from, arguments-between}
-use Rattle.golog_theory.proofs.Tables.{Covers, each-covers, between-le, short_name-behind, named-covers, new_name-covers, sort_of-covers, number_of-covers, arg_of-covers, called-covers, fluent_called-covers, action_called-covers, schema_of-covers}
+use Rattle.golog_theory.proofs.Inside.{end_of, Between, stands, arguments-between}
+use Rattle.golog_theory.proofs.Tables.{Covers, row-chain, two-rows, found-covers, each-covers, between-le, short_name-behind, named-covers, new_name-covers, sort_of-covers, number_of-covers, called-covers, fluent_called-covers, action_called-covers, schema_of-covers}
 use Rattle.golog_theory.proofs.Nested.{within, refused-covers, first-spans, last-spans, term_of-covers, cond_of-covers}
 
 module _ (theory : DraftTheory) where
   range_of-spans : (at : ℕ) (name low high : Form) (from to : ℕ) → at < from → Between from (name ∷ low ∷ high ∷ []) to
       → Spans at to (range_of theory at name low high)
   unfolding range_of
-  range_of-spans at name low high from to lt b = (
-    omega arith,
-    omega arith,
-    omega arith,
-    (
-      omega arith,
-      omega arith,
-      omega arith,
-      chain-low (key at 26) (64 * from) (64 * to) _ (omega arith)
-          (first-spans from name (low ∷ high ∷ []) to (new_name theory name) (λ name. number_of low >>= λ low. number_of high >>= λ high. gives (Range name low high at)) b
-          (new_name-covers theory name b.1)
-          (λ name. first-spans (end_of _) low (high ∷ []) to (number_of low) (λ low. number_of high >>= λ high. gives (Range name low high at)) b.2 (number_of-covers low b.2.1)
-          (λ low'. last-spans (end_of low) high to (number_of high) (λ high. Range name low' high at) b.2.2 (number_of-covers high b.2.2.1)))),
-    ),
-  )
+  range_of-spans at name low high from to lt b =
+      two-rows (64 * at) (64 * from) (64 * to) 25 26 at _ refl (omega arith) (omega arith)
+      (first-spans from name (low ∷ high ∷ []) to (new_name theory name) (λ name. number_of low >>= λ low. number_of high >>= λ high. gives (Range name low high at)) b
+      (new_name-covers theory name b.1)
+      (λ name. first-spans (end_of _) low (high ∷ []) to (number_of low) (λ low. number_of high >>= λ high. gives (Range name low high at)) b.2 (number_of-covers low b.2.1)
+      (λ low'. last-spans (end_of low) high to (number_of high) (λ high. Range name low' high at) b.2.2 (number_of-covers high b.2.2.1))))
 
   constant_of-covers : (own : List ℕ) (before : List (List ℕ)) (f : Form) → IsInOrder f → Covers f (constant_of theory own before f)
   unfolding constant_of
@@ -73,16 +64,12 @@ module _ (theory : DraftTheory) where
   listed_of-spans : (at : ℕ) (name : Form) (constants : List Form) (from to : ℕ) → at < from → Between from (name ∷ constants) to
       → Spans at to (listed_of theory at name constants)
   unfolding listed_of
-  listed_of-spans at name constants from to lt b = (
-    omega arith,
-    omega arith,
-    omega arith,
-    chain-low (key at 25) (64 * from) (64 * to) _ (omega arith)
-        (first-spans from name constants to (new_name theory name) (λ own. each (constant_of theory own) [] constants >>= λ names. gives (Listed own names at)) b
-        (new_name-covers theory name b.1)
-        (λ own. gives-spans (end_of name) to (each (constant_of theory own) [] constants) (λ names. Listed own names at)
-        (each-covers (constant_of theory own) (constant_of-covers own) [] (end_of name) constants to b.2))),
-  )
+  listed_of-spans at name constants from to lt b =
+      row-chain (64 * at) (64 * from) (64 * to) 25 at _ refl (omega arith) (omega arith)
+      (first-spans from name constants to (new_name theory name) (λ own. each (constant_of theory own) [] constants >>= λ names. gives (Listed own names at)) b
+      (new_name-covers theory name b.1)
+      (λ own. gives-spans (end_of name) to (each (constant_of theory own) [] constants) (λ names. Listed own names at)
+      (each-covers (constant_of theory own) (constant_of-covers own) [] (end_of name) constants to b.2)))
 
   range_by-spans : (at : ℕ) (name low : Form) (fs : List Form) (from to : ℕ) → at < from → Between from (name ∷ low ∷ fs) to
       → Spans at to (range_by theory at name low fs)
@@ -109,32 +96,21 @@ module _ (theory : DraftTheory) where
   sorts_of-covers : (f : Form) → IsInOrder f → Covers f (sorts_of theory f)
   unfolding sorts_of
   sorts_of-covers f order =
-      let s = stands f order in let size = s.size in (
-        omega arith,
-        omega arith,
-        omega arith,
-        (
-          omega arith,
-          omega arith,
-          omega arith,
-          chain-low (key (place_of f) 25) (64 * (place_of f + 1)) (64 * end_of f) _ (omega arith)
-              (each-covers (λ (_ : List ℕ). sort_of theory) (λ _. sort_of-covers theory) [] (place_of f + 1) (parts f) (end_of f) s.inner),
-        ),
-      )
+      let s = stands f order in
+      let at = place_of f in
+      let to = end_of f in
+      let size = s.size in
+      two-rows (64 * at) (64 * (at + 1)) (64 * to) 20 25 at _ refl (omega arith) (omega arith)
+      (each-covers (λ (_ : List ℕ). sort_of theory) (λ _. sort_of-covers theory) [] (at + 1) (parts f) to s.inner)
 
   constant_by-covers : (f : Form) (is_word fits : Bool) → IsInOrder f
       → Covers f (if is_word
       then row fits 23 (place_of f) (if is_word then short_name f >>= (λ word. gives (Word word (place_of f))) else number_of f >>= (λ number. gives (Number number (place_of f))))
       else if is_word then short_name f >>= (λ word. gives (Word word (place_of f))) else number_of f >>= (λ number. gives (Number number (place_of f))))
   constant_by-covers f true fits order =
-      let size = (stands f order).size in (
-        omega arith,
-        omega arith,
-        omega arith,
-        then-chain (key (place_of f) 23) (64 * end_of f) (64 * end_of f) (short_name f) (λ word. gives (Word word (place_of f))) (omega arith)
-            (chain-low (key (place_of f) 23) (key (place_of f) 25) (64 * end_of f) (short_name f).rows (omega arith) (short_name-behind f size))
-            (λ name. omega arith),
-      )
+      let size = (stands f order).size in
+      row-chain (64 * place_of f) (key (place_of f) 25) (64 * end_of f) 23 (place_of f) _ refl (omega arith) (omega arith)
+      (then-chain (key (place_of f) 25) (64 * end_of f) (64 * end_of f) (short_name f) (λ word. gives (Word word (place_of f))) (omega arith) (short_name-behind f size) (λ name. omega arith))
   constant_by-covers f false fits order =
       gives-spans (place_of f) (end_of f) (number_of f) (λ number. Number number (place_of f)) (number_of-covers f order)
 
@@ -194,38 +170,24 @@ module _ (theory : DraftTheory) where
   unfolding start_item
   start_item-spans at [] to lt b = none DraftStart at to lt
   start_item-spans at (fluent ∷ []) to lt b = none DraftStart at to lt
-  start_item-spans at (fluent ∷ value ∷ []) to lt b = (
-    omega arith,
-    omega arith,
-    omega arith,
-    chain-low (key at 21) (64 * (at + 1)) (64 * to) _ (omega arith)
-        (first-spans (at + 1) fluent (value ∷ []) to (ground_of theory fluent) (λ called. start_value theory value >>= λ value. gives (One called.item called.args value at)) b
-        (ground_of-covers fluent b.1)
-        (λ called. last-spans (end_of fluent) value to (start_value theory value) (λ value. One called.item called.args value at) b.2 (start_value-covers value b.2.1))),
-  )
+  start_item-spans at (fluent ∷ value ∷ []) to lt b =
+      row-chain (64 * at) (64 * (at + 1)) (64 * to) 21 at _ refl (omega arith) (omega arith)
+      (first-spans (at + 1) fluent (value ∷ []) to (ground_of theory fluent) (λ called. start_value theory value >>= λ value. gives (One called.item called.args value at)) b
+      (ground_of-covers fluent b.1)
+      (λ called. last-spans (end_of fluent) value to (start_value theory value) (λ value. One called.item called.args value at) b.2 (start_value-covers value b.2.1)))
   start_item-spans at (fluent ∷ value ∷ other ∷ fs) to lt b = none DraftStart at to lt
 
   device_item-spans : (at : ℕ) (fs : List Form) (to : ℕ) → at < to → Between (at + 1) fs to → Spans at to (device_item theory at fs)
   unfolding device_item
   device_item-spans at [] to lt b = none DraftDevice at to lt
-  device_item-spans at (name ∷ []) to lt b = (
-    omega arith,
-    omega arith,
-    omega arith,
-    chain-low (key at 25) (64 * (at + 1)) (64 * to) _ (omega arith)
-        (last-spans (at + 1) name to (new_name theory name) (λ name. record { name = name; at = at }) b (new_name-covers theory name b.1)),
-  )
+  device_item-spans at (name ∷ []) to lt b =
+      row-chain (64 * at) (64 * (at + 1)) (64 * to) 25 at _ refl (omega arith) (omega arith)
+      (last-spans (at + 1) name to (new_name theory name) (λ name. record { name = name; at = at }) b (new_name-covers theory name b.1))
   device_item-spans at (name ∷ other ∷ fs) to lt b = none DraftDevice at to lt
 
   device_of-covers : (f : Form) → IsInOrder f → Covers f (device_of theory f)
   unfolding device_of
-  device_of-covers f order =
-      let size = (stands f order).size in (
-        omega arith,
-        omega arith,
-        omega arith,
-        found-chain (key (place_of f) 20) (64 * end_of f) 23 (place_of f) (device_no theory (word f)) (omega arith) (omega arith) (omega arith) (omega arith),
-      )
+  device_of-covers f order = found-covers 23 f (device_no theory (word f)) refl order
 
   action_of-spans : (at : ℕ) (name sorts : Form) (from : ℕ) → Between from (name ∷ sorts ∷ []) (end_of sorts) → Spans from (end_of sorts) (action_of theory at name sorts)
   unfolding action_of
@@ -267,17 +229,13 @@ module _ (theory : DraftTheory) where
   unfolding poss_item
   poss_item-spans at [] to lt b = none DraftPoss at to lt
   poss_item-spans at (schema ∷ []) to lt b = none DraftPoss at to lt
-  poss_item-spans at (schema ∷ cond ∷ []) to lt b = (
-    omega arith,
-    omega arith,
-    omega arith,
-    chain-low (key at 21) (64 * (at + 1)) (64 * to) _ (omega arith)
-        (first-spans (at + 1) schema (cond ∷ []) to (schema_of theory OfProgram schema)
-        (λ schema. cond_of theory cond (length schema.vars) >>= λ cond. gives (record { action = schema.action; vars = schema.vars; cond = cond; at = at })) b
-        (schema_of-covers theory OfProgram schema b.1)
-        (λ schema'. last-spans (end_of schema) cond to (cond_of theory cond (length schema'.vars)) (λ cond. record { action = schema'.action; vars = schema'.vars; cond = cond; at = at }) b.2
-        (cond_of-covers theory cond b.2.1 (length schema'.vars)))),
-  )
+  poss_item-spans at (schema ∷ cond ∷ []) to lt b =
+      row-chain (64 * at) (64 * (at + 1)) (64 * to) 21 at _ refl (omega arith) (omega arith)
+      (first-spans (at + 1) schema (cond ∷ []) to (schema_of theory OfProgram schema)
+      (λ schema. cond_of theory cond (length schema.vars) >>= λ cond. gives (record { action = schema.action; vars = schema.vars; cond = cond; at = at })) b
+      (schema_of-covers theory OfProgram schema b.1)
+      (λ schema'. last-spans (end_of schema) cond to (cond_of theory cond (length schema'.vars)) (λ cond. record { action = schema'.action; vars = schema'.vars; cond = cond; at = at }) b.2
+      (cond_of-covers theory cond b.2.1 (length schema'.vars))))
   poss_item-spans at (schema ∷ cond ∷ other ∷ fs) to lt b = none DraftPoss at to lt
 
   effect_of-spans : (action fluent term : Form) (from : ℕ) → Between from (action ∷ fluent ∷ term ∷ []) (end_of term) → Spans from (end_of term) (effect_of theory action fluent term)
@@ -296,27 +254,19 @@ module _ (theory : DraftTheory) where
   causes_item-spans at [] to lt b = none DraftCause at to lt
   causes_item-spans at (action ∷ []) to lt b = none DraftCause at to lt
   causes_item-spans at (action ∷ fluent ∷ []) to lt b = none DraftCause at to lt
-  causes_item-spans at (action ∷ fluent ∷ term ∷ []) to lt b = (
-    omega arith,
-    omega arith,
-    omega arith,
-    chain-low (key at 25) (64 * (at + 1)) (64 * to) _ (omega arith)
-        (then-spans (at + 1) (end_of term) to (effect_of theory action fluent term) (λ effect. gives (cause_of at effect (Truth true at))) b.2.2.2
-        (effect_of-spans action fluent term (at + 1) (b.0, b.1, (b.2.0, b.2.1, (b.2.2.0, b.2.2.1, omega arith))))
-        (λ effect. omega (arith, b.2.2.2))),
-  )
-  causes_item-spans at (action ∷ fluent ∷ term ∷ cond ∷ []) to lt b = (
-    omega arith,
-    omega arith,
-    omega arith,
-    chain-low (key at 25) (64 * (at + 1)) (64 * to) _ (omega arith)
-        (then-spans (at + 1) (end_of term) to (effect_of theory action fluent term)
-        (λ effect. cond_of theory cond (variable_count theory effect) >>= λ cond. gives (cause_of at effect cond))
-        (between-le (end_of term) (cond ∷ []) to b.2.2.2)
-        (effect_of-spans action fluent term (at + 1) (b.0, b.1, (b.2.0, b.2.1, (b.2.2.0, b.2.2.1, omega arith))))
-        (λ effect. last-spans (end_of term) cond to (cond_of theory cond (variable_count theory effect)) (λ cond. cause_of at effect cond) b.2.2.2
-        (cond_of-covers theory cond b.2.2.2.1 (variable_count theory effect)))),
-  )
+  causes_item-spans at (action ∷ fluent ∷ term ∷ []) to lt b =
+      row-chain (64 * at) (64 * (at + 1)) (64 * to) 25 at _ refl (omega arith) (omega arith)
+      (then-spans (at + 1) (end_of term) to (effect_of theory action fluent term) (λ effect. gives (cause_of at effect (Truth true at))) b.2.2.2
+      (effect_of-spans action fluent term (at + 1) (b.0, b.1, (b.2.0, b.2.1, (b.2.2.0, b.2.2.1, omega arith))))
+      (λ effect. omega (arith, b.2.2.2)))
+  causes_item-spans at (action ∷ fluent ∷ term ∷ cond ∷ []) to lt b =
+      row-chain (64 * at) (64 * (at + 1)) (64 * to) 25 at _ refl (omega arith) (omega arith)
+      (then-spans (at + 1) (end_of term) to (effect_of theory action fluent term)
+      (λ effect. cond_of theory cond (variable_count theory effect) >>= λ cond. gives (cause_of at effect cond))
+      (between-le (end_of term) (cond ∷ []) to b.2.2.2)
+      (effect_of-spans action fluent term (at + 1) (b.0, b.1, (b.2.0, b.2.1, (b.2.2.0, b.2.2.1, omega arith))))
+      (λ effect. last-spans (end_of term) cond to (cond_of theory cond (variable_count theory effect)) (λ cond. cause_of at effect cond) b.2.2.2
+      (cond_of-covers theory cond b.2.2.2.1 (variable_count theory effect))))
   causes_item-spans at (action ∷ fluent ∷ term ∷ cond ∷ other ∷ fs) to lt b = none DraftCause at to lt
 
   senses_item-spans : (at : ℕ) (fs : List Form) (to : ℕ) → at < to → Between (at + 1) fs to → Spans at to (senses_item theory at fs)
@@ -372,13 +322,9 @@ items_read-spans theory from (f ∷ fs) to b =
 pub theory_of-covers : (f : Form) → IsInOrder f → Covers f (theory_of f)
 unfolding theory_of
 theory_of-covers f order =
-    let size = (stands f order).size in (
-      omega arith,
-      omega arith,
-      omega arith,
-      chain-low (key (place_of f) 20) (64 * (place_of f + 1)) (64 * end_of f) _ (omega arith)
-          (items_read-spans built_in (place_of f + 1) (arguments f) (end_of f) (arguments-between f order)),
-    )
+    let size = (stands f order).size in
+    row-chain (64 * place_of f) (64 * (place_of f + 1)) (64 * end_of f) 20 (place_of f) _ refl (omega arith) (omega arith)
+    (items_read-spans built_in (place_of f + 1) (arguments f) (end_of f) (arguments-between f order))
 
 stand : {A : Type 0} (f : Form) (reading : Reading A) → Covers f reading → StandIn f reading.rows
 stand f reading c = record {

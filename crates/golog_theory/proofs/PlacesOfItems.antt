@@ -1,5 +1,5 @@
 -- The places in an item ascend, and a fluent and an action have the place of their item.
-use Rattle.std.proofs.Common.{◌≡◌, ℕ, ◌+◌, ◌<◌, ◌≤◌, true, List, [], ◌∷◌, ◌++◌, length, Some, None, refl, sym, subst, arith}
+use Rattle.std.proofs.Common.{ℕ, ◌+◌, ◌<◌, ◌≤◌, true, List, [], ◌∷◌, ◌++◌, length, None, sym, subst, arith}
 use Rattle.std.specs.Prelude.{nat_le}
 use Rattle.golog_form.specs.declared.form.Form.{Form}
 use Rattle.golog_form.specs.Shape.{place_of}
@@ -17,11 +17,8 @@ use Rattle.golog_draft.specs.DraftOrder.{Ascend, IsAscending}
 use Rattle.golog_theory.specs.declared.names.Actions.TheVariants.{OfProgram, All}
 use Rattle.golog_theory.specs.declared.fluents.FluentItem.{FluentItem}
 use Rattle.golog_theory.specs.declared.effects.Effect.{Effect}
-use Rattle.golog_theory.specs.Reading.{each}
-use Rattle.golog_theory.specs.Parts.{new_name, sort_of}
 use Rattle.golog_theory.specs.Heads.{head_word, fluent_called, action_called, schema_of}
-use Rattle.golog_theory.specs.Fluents.{sorts_of, start_value, fluent_of, fluent_item, ground_of, is_started_again, start_item}
-use Rattle.golog_theory.specs.Actions.{device_of, action_of, action_item, exo_item}
+use Rattle.golog_theory.specs.Fluents.{start_value, fluent_of, fluent_item, ground_of, is_started_again, start_item}
 use Rattle.golog_theory.specs.Terms.{term_of}
 use Rattle.golog_theory.specs.Conditions.{cond_of}
 use Rattle.golog_theory.specs.Effects.{is_restricted, poss_item, variable_count, effect_of, cause_of, causes_item, senses_item}
@@ -37,36 +34,23 @@ behind : (f : Form) (ones others : List ℕ) (from to : ℕ) → from ≤ place_
 behind f ones others from to le a b =
     ascend-append from (end_of f) to ones others (ascend-low from (place_of f) (end_of f) ones le a) b
 
--- the place of a fluent, and those of its start value
-pub record FluentAscends (at : ℕ) (item : FluentItem) : Type 0 where
-  pub at_item : item.fluent.at ≡ at
-  pub value : IsAscending (value_places item.value)
-
 module _ (theory : DraftTheory) where
-  abbrev FluentAt : ℕ → DraftFluent → Type 0
-  FluentAt at fluent = fluent.at ≡ at
+  abbrev pub ValueAscends : FluentItem → Type 0
+  ValueAscends item = IsAscending (value_places item.value)
 
-  fluent_of-place : (at : ℕ) (name sorts sort : Form) → Yields (FluentAt at) (fluent_of theory at name sorts sort)
-  unfolding fluent_of
-  fluent_of-place at name sorts sort =
-      then-yields (λ _. Unit {0}) _ (new_name theory name).outcome _ (λ x e. tt) (λ name' _.
-      then-yields (λ _. Unit {0}) _ (sorts_of theory sorts).outcome _ (λ x e. tt) (λ args' _.
-      then-yields (λ _. Unit {0}) _ (sort_of theory sort).outcome _ (λ x e. tt) (λ sort' _.
-      gives-yields (FluentAt at) (record { name = name'; args = args'; sort = sort'; at = at }) refl)))
-
-  pub fluent_item-ascend : (at : ℕ) (fs : List Form) (from to : ℕ) → Between from fs to → Yields (FluentAscends at) (fluent_item theory at fs)
+  pub fluent_item-ascend : (at : ℕ) (fs : List Form) (from to : ℕ) → Between from fs to → Yields ValueAscends (fluent_item theory at fs)
   unfolding fluent_item
-  fluent_item-ascend at [] from to b = refused-yields (FluentAscends at) 20 at
-  fluent_item-ascend at (name ∷ []) from to b = refused-yields (FluentAscends at) 20 at
-  fluent_item-ascend at (name ∷ sorts ∷ []) from to b = refused-yields (FluentAscends at) 20 at
+  fluent_item-ascend at [] from to b = refused-yields ValueAscends 20 at
+  fluent_item-ascend at (name ∷ []) from to b = refused-yields ValueAscends 20 at
+  fluent_item-ascend at (name ∷ sorts ∷ []) from to b = refused-yields ValueAscends 20 at
   fluent_item-ascend at (name ∷ sorts ∷ sort ∷ []) from to b =
-      then-yields _ _ (fluent_of theory at name sorts sort).outcome _ (fluent_of-place at name sorts sort) (λ fluent is.
-      gives-yields (FluentAscends at) (record { fluent = fluent; value = None }) (record { at_item = is; value = is_ascending 0 [] 0 (omega arith) }))
+      then-yields (λ _. Unit {0}) _ (fluent_of theory at name sorts sort).outcome _ (λ x e. tt) (λ fluent _.
+      gives-yields ValueAscends (record { fluent = fluent; value = None }) (is_ascending 0 [] 0 (omega arith)))
   fluent_item-ascend at (name ∷ sorts ∷ sort ∷ value ∷ []) from to b =
-      then-yields _ _ (fluent_of theory at name sorts sort).outcome _ (fluent_of-place at name sorts sort) (λ fluent is.
+      then-yields (λ _. Unit {0}) _ (fluent_of theory at name sorts sort).outcome _ (λ x e. tt) (λ fluent _.
       then-yields _ _ (start_value theory value).outcome _ (start_value-ascend theory value b.2.2.2.1) (λ v a.
-      gives-yields (FluentAscends at) (record { fluent = fluent; value = v }) (record { at_item = is; value = is_ascending (place_of value) (value_places v) (end_of value) a })))
-  fluent_item-ascend at (name ∷ sorts ∷ sort ∷ value ∷ other ∷ fs) from to b = refused-yields (FluentAscends at) 20 at
+      gives-yields ValueAscends (record { fluent = fluent; value = v }) (is_ascending (place_of value) (value_places v) (end_of value) a)))
+  fluent_item-ascend at (name ∷ sorts ∷ sort ∷ value ∷ other ∷ fs) from to b = refused-yields ValueAscends 20 at
 
   abbrev StartAscends : DraftStart → Type 0
   StartAscends item = IsAscending (start_places item)
@@ -83,37 +67,6 @@ module _ (theory : DraftTheory) where
       (is_ascending from (arg_places c.args ++ value_places v) (end_of value)
       (behind fluent (arg_places c.args) (value_places v) from (end_of value) b.0 is (ascend-low (end_of fluent) (place_of value) (end_of value) (value_places v) b.2.0 is'))))))
   start_item-ascend at (fluent ∷ value ∷ other ∷ fs) from to b = refused-yields StartAscends 20 at
-
-  abbrev pub ActionAt : ℕ → DraftAction → Type 0
-  ActionAt at action = action.at ≡ at
-
-  action_of-place : (at : ℕ) (name sorts : Form) → Yields (ActionAt at) (action_of theory at name sorts)
-  unfolding action_of
-  action_of-place at name sorts =
-      then-yields (λ _. Unit {0}) _ (new_name theory name).outcome _ (λ x e. tt) (λ name' _.
-      then-yields (λ _. Unit {0}) _ (sorts_of theory sorts).outcome _ (λ x e. tt) (λ args' _.
-      gives-yields (ActionAt at) (record { name = name'; args = args'; device = None; posters = []; at = at }) refl))
-
-  pub action_item-place : (at : ℕ) (fs : List Form) → Yields (ActionAt at) (action_item theory at fs)
-  unfolding action_item
-  action_item-place at [] = refused-yields (ActionAt at) 20 at
-  action_item-place at (name ∷ []) = refused-yields (ActionAt at) 20 at
-  action_item-place at (name ∷ sorts ∷ []) = action_of-place at name sorts
-  action_item-place at (name ∷ sorts ∷ device ∷ []) =
-      then-yields _ _ (action_of theory at name sorts).outcome _ (action_of-place at name sorts) (λ action is.
-      then-yields (λ _. Unit {0}) _ (device_of theory device).outcome _ (λ x e. tt) (λ device' _.
-      gives-yields (ActionAt at) (record action { device = Some device' }) is))
-  action_item-place at (name ∷ sorts ∷ device ∷ other ∷ fs) = refused-yields (ActionAt at) 20 at
-
-  pub exo_item-place : (at : ℕ) (fs : List Form) → Yields (ActionAt at) (exo_item theory at fs)
-  unfolding exo_item
-  exo_item-place at [] = refused-yields (ActionAt at) 20 at
-  exo_item-place at (name ∷ []) = refused-yields (ActionAt at) 20 at
-  exo_item-place at (name ∷ sorts ∷ []) = refused-yields (ActionAt at) 20 at
-  exo_item-place at (name ∷ sorts ∷ device ∷ devices) =
-      then-yields _ _ (action_of theory at name sorts).outcome _ (action_of-place at name sorts) (λ action is.
-      then-yields (λ _. Unit {0}) _ (each (λ (_ : List ℕ). device_of theory) [] (device ∷ devices)).outcome _ (λ x e. tt) (λ posters _.
-      gives-yields (ActionAt at) (record action { posters = posters }) is))
 
   abbrev PossAscends : DraftPoss → Type 0
   PossAscends item = IsAscending (poss_places item)

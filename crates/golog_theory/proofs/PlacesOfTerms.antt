@@ -130,27 +130,22 @@ module _ (theory : DraftTheory) where
             (ascend-high (place_of one) (end_of one) to (term_places t) (omega (arith, b.2.0, (stands step b.2.1).size, b.2.2)) is),
       )
 
-  plus_of-ascend : (at : ℕ) (fs : List Form) (from to : ℕ) → at < from → Between from fs to → Each TermAscends fs
-      → Yields (Within at to) (plus_of at (map (term_part theory) fs))
-  unfolding plus_of
-  plus_of-ascend at [] from to lt b e = refused-yields (Within at to) 20 at
-  plus_of-ascend at (one ∷ []) from to lt b e = refused-yields (Within at to) 20 at
-  plus_of-ascend at (one ∷ step ∷ []) from to lt b e =
-      then-yields _ _ (term_of theory one).outcome _ (e.0 b.1) (λ t is.
+  -- a term and a number, added or taken away
+  shift-ascend : (change : ℤ → ℤ) (at : ℕ) (one step : Form) (from to : ℕ) → at < from → Between from (one ∷ step ∷ []) to → TermAscends one
+      → Yields (Within at to) (term_of theory one >>= λ t. step_of step >>= λ by. gives (term.Shift t (change by) at))
+  shift-ascend change at one step from to lt b known =
+      then-yields _ _ (term_of theory one).outcome _ (known b.1) (λ t is.
       then-yields (λ _. Unit {0}) _ (step_of step).outcome _ (λ x e. tt) (λ by _.
-      gives-yields (Within at to) (term.Shift t by at) (shifted at one step from to t by lt b is)))
-  plus_of-ascend at (one ∷ step ∷ other ∷ fs) from to lt b e = refused-yields (Within at to) 20 at
+      gives-yields (Within at to) (term.Shift t (change by) at) (shifted at one step from to t (change by) lt b is)))
 
-  minus_of-ascend : (at : ℕ) (fs : List Form) (from to : ℕ) → at < from → Between from fs to → Each TermAscends fs
-      → Yields (Within at to) (minus_of at (map (term_part theory) fs))
-  unfolding minus_of
-  minus_of-ascend at [] from to lt b e = refused-yields (Within at to) 20 at
-  minus_of-ascend at (one ∷ []) from to lt b e = refused-yields (Within at to) 20 at
-  minus_of-ascend at (one ∷ step ∷ []) from to lt b e =
-      then-yields _ _ (term_of theory one).outcome _ (e.0 b.1) (λ t is.
-      then-yields (λ _. Unit {0}) _ (step_of step).outcome _ (λ x e. tt) (λ by _.
-      gives-yields (Within at to) (term.Shift t (neg_ℤ by) at) (shifted at one step from to t (neg_ℤ by) lt b is)))
-  minus_of-ascend at (one ∷ step ∷ other ∷ fs) from to lt b e = refused-yields (Within at to) 20 at
+  shifts-ascend : (at : ℕ) (fs : List Form) (from to : ℕ) → at < from → Between from fs to → Each TermAscends fs
+      → Yields (Within at to) (plus_of at (map (term_part theory) fs)) × Yields (Within at to) (minus_of at (map (term_part theory) fs))
+  unfolding plus_of minus_of
+  shifts-ascend at [] from to lt b e = (refused-yields (Within at to) 20 at, refused-yields (Within at to) 20 at)
+  shifts-ascend at (one ∷ []) from to lt b e = (refused-yields (Within at to) 20 at, refused-yields (Within at to) 20 at)
+  shifts-ascend at (one ∷ step ∷ []) from to lt b e =
+      (shift-ascend (λ by. by) at one step from to lt b e.0, shift-ascend neg_ℤ at one step from to lt b e.0)
+  shifts-ascend at (one ∷ step ∷ other ∷ fs) from to lt b e = (refused-yields (Within at to) 20 at, refused-yields (Within at to) 20 at)
 
   fluent_term-ascend : (f : Form) → IsInOrder f → Ascends term_places f (fluent_term theory f)
   unfolding fluent_term
@@ -172,9 +167,9 @@ module _ (theory : DraftTheory) where
       let choose = if-yields (Within (place_of f) (end_of f)) in
       let parts = map (term_part theory) fs in
       let minus = if same keyword (codes "-") then minus_of (place_of f) parts else fluent_term theory f in
-      choose (same keyword (codes "+")) (plus_of (place_of f) parts) minus (λ _. plus_of-ascend (place_of f) fs from (end_of f) lt b e)
+      choose (same keyword (codes "+")) (plus_of (place_of f) parts) minus (λ _. (shifts-ascend (place_of f) fs from (end_of f) lt b e).0)
       (λ _. choose (same keyword (codes "-")) (minus_of (place_of f) parts) (fluent_term theory f)
-      (λ _. minus_of-ascend (place_of f) fs from (end_of f) lt b e) (λ _. fluent_term-ascend f order))
+      (λ _. (shifts-ascend (place_of f) fs from (end_of f) lt b e).1) (λ _. fluent_term-ascend f order))
 
   term_by-ascend : (f : Form) (fs : List Form) → IsInOrder f → Between (place_of f + 1) fs (end_of f) → Each TermAscends fs
       → Ascends term_places f (term_by theory f (map (term_part theory) fs))

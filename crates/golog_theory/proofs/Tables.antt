@@ -1,6 +1,7 @@
 -- The rows of each part of a form stand in order, within the places of the form.
-use Rattle.std.proofs.Common.{◌≡◌, ℕ, ◌+◌, ◌*◌, ◌<◌, ◌≤◌, Bool, true, false, IsTrue, List, [], ◌∷◌, ◌++◌, map, drop, length, Option, Some, None, Result, Ok, Err, refl, sym, ap, subst, ◌∙◌, arith}
-use Rattle.std.specs.Prelude.{if◌then◌else◌}
+use Rattle.std.proofs.Common.{◌≡◌, ℕ, ◌+◌, ◌*◌, ◌<◌, ◌≤◌, true, false, List, [], ◌∷◌, drop, length, Option, refl, arith}
+use Rattle.std.specs.Prelude.{if◌then◌else◌, ◌&&◌, nat_lt}
+use Rattle.std.proofs.lemmas.Bool.{ltb-true}
 use Rattle.golog_base.specs.Names.{is_name}
 use Rattle.golog_form.specs.declared.form.Form.{Form}
 use Rattle.golog_form.specs.Shape.{place_of}
@@ -12,9 +13,10 @@ use Rattle.golog_theory.specs.Reading.{Row, Reading, gives, refused, row, ◌>>=
 use Rattle.golog_theory.specs.Names.{sort_no, fluent_no, fluent_arity, action_no, action_arity}
 use Rattle.golog_base.specs.Numbers.{value}
 use Rattle.golog_theory.specs.Parts.{word, parts, short_name, new_name, sort_of, number_of, arg_of}
-use Rattle.golog_theory.specs.Heads.{first_word, first_place, head_word, head_place, arguments, args_of, has_others, called, allowed, fluent_called, action_called, var_of, schema_of}
+use Rattle.golog_theory.specs.Heads.{first_word, first_place, head_word, arguments, args_of, has_others, called, allowed, fluent_called, action_called, var_of, schema_of}
+use Rattle.golog_semantics.proofs.Words.{and-left, and-right}
 use Rattle.golog_rows.proofs.Chain.{key, Chain, chain-low, Spans, then-spans, gives-spans, found-chain, Parts, ReadsFrom, each-spans, if-chain}
-use Rattle.golog_theory.proofs.Inside.{end_of, Between, Stands, stands, between-drop, between-from}
+use Rattle.golog_theory.proofs.Inside.{end_of, Between, stands}
 
 -- a part of a form, and the places of the form
 abbrev pub Covers : {A : Type 0} → Form → Reading A → Type 0
@@ -39,20 +41,43 @@ pub short_name-behind : (f : Form) → place_of f < end_of f → Chain (key (pla
 unfolding short_name
 short_name-behind f size = (omega arith, omega arith, omega arith, omega arith)
 
+-- a row, and those behind it
+pub row-chain : (low later high code at : ℕ) (rows : List Row) → (nat_lt 0 code && nat_lt code 64) ≡ true → low ≤ key at code → key at code ≤ later
+    → Chain later high rows → Chain low high ((false, code, at) ∷ rows)
+row-chain low later high code at rows small le le' c = (
+  le,
+  ltb-true 0 code (and-left (nat_lt 0 code) (nat_lt code 64) small),
+  ltb-true code 64 (and-right (nat_lt 0 code) (nat_lt code 64) small),
+  chain-low (key at code) later high rows le' c,
+)
+
+-- two rows at one place, and those behind them
+pub two-rows : (low later high code other at : ℕ) (rows : List Row) → (nat_lt 0 code && nat_lt code other && nat_lt other 64) ≡ true → low ≤ key at code → key at other ≤ later
+    → Chain later high rows → Chain low high ((false, code, at) ∷ (false, other, at) ∷ rows)
+two-rows low later high code other at rows small le le' c =
+    let front = and-left (nat_lt 0 code && nat_lt code other) (nat_lt other 64) small in
+    let some : 0 < code = ltb-true 0 code (and-left (nat_lt 0 code) (nat_lt code other) front) in
+    let more : code < other = ltb-true code other (and-right (nat_lt 0 code) (nat_lt code other) front) in
+    let few : other < 64 = ltb-true other 64 (and-right (nat_lt 0 code && nat_lt code other) (nat_lt other 64) small) in
+    (le, some, omega (arith, more, few), (omega (arith, more), omega (arith, some, more), few, chain-low (key at other) later high rows le' c))
+
+-- what is not one of a kind, 20, or not found
+pub found-covers : {A : Type 0} (code : ℕ) (f : Form) (o : Option A) → (nat_lt 20 code && nat_lt code 64) ≡ true → IsInOrder f
+    → Covers f (row false 20 (place_of f) (found code (place_of f) o))
+found-covers code f o small order =
+    let size = (stands f order).size in
+    let more : 20 < code = ltb-true 20 code (and-left (nat_lt 20 code) (nat_lt code 64) small) in
+    let few : code < 64 = ltb-true code 64 (and-right (nat_lt 20 code) (nat_lt code 64) small) in
+    let at = place_of f in
+    row-chain (64 * at) (key at 20) (64 * end_of f) 20 at (found code at o).rows refl (omega arith) (omega arith)
+    (found-chain (key at 20) (64 * end_of f) code at o (omega (arith, more)) (omega (arith, more)) few (omega (arith, few, size)))
+
 -- a name that is none, 20, or that may not stand there, 21, and its length: whether these rows fit or not
 pub named-covers : (f : Form) → IsInOrder f → Covers f (row false 20 (place_of f) (row false 21 (place_of f) (short_name f)))
 named-covers f order =
-    let size = (stands f order).size in (
-      omega arith,
-      omega arith,
-      omega arith,
-      (
-        omega arith,
-        omega arith,
-        omega arith,
-        chain-low (key (place_of f) 21) (key (place_of f) 25) (64 * end_of f) (short_name f).rows (omega arith) (short_name-behind f size),
-      ),
-    )
+    let size = (stands f order).size in
+    let at = place_of f in
+    two-rows (64 * at) (key at 25) (64 * end_of f) 20 21 at (short_name f).rows refl (omega arith) (omega arith) (short_name-behind f size)
 
 pub new_name-covers : (theory : DraftTheory) (f : Form) → IsInOrder f → Covers f (new_name theory f)
 unfolding new_name
@@ -60,23 +85,11 @@ new_name-covers theory f order = named-covers f order
 
 pub sort_of-covers : (theory : DraftTheory) (f : Form) → IsInOrder f → Covers f (sort_of theory f)
 unfolding sort_of
-sort_of-covers theory f order =
-    let size = (stands f order).size in (
-      omega arith,
-      omega arith,
-      omega arith,
-      found-chain (key (place_of f) 20) (64 * end_of f) 22 (place_of f) (sort_no theory (word f)) (omega arith) (omega arith) (omega arith) (omega arith),
-    )
+sort_of-covers theory f order = found-covers 22 f (sort_no theory (word f)) refl order
 
 pub number_of-covers : (f : Form) → IsInOrder f → Covers f (number_of f)
 unfolding number_of
-number_of-covers f order =
-    let size = (stands f order).size in (
-      omega arith,
-      omega arith,
-      omega arith,
-      found-chain (key (place_of f) 20) (64 * end_of f) 26 (place_of f) (value (word f)) (omega arith) (omega arith) (omega arith) (omega arith),
-    )
+number_of-covers f order = found-covers 26 f (value (word f)) refl order
 
 pub short_name-covers : (f : Form) → IsInOrder f → Covers f (short_name f)
 short_name-covers f order =

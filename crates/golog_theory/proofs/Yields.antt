@@ -1,8 +1,8 @@
 -- What holds of the value of a part, where the part is read.
-use Rattle.std.proofs.Common.{◌≡◌, ℕ, ◌+◌, length, Bool, true, false, not, List, [], ◌∷◌, ◌++◌, Option, Some, None, Result, Ok, Err, refl, sym, ap, subst, ◌∙◌, arith}
+use Rattle.std.proofs.Common.{◌≡◌, ℕ, ◌+◌, length, Bool, true, false, List, [], ◌∷◌, ◌++◌, Option, Some, None, Result, Ok, Err, refl, sym, ap, subst, arith}
 use Rattle.std.proofs.lemmas.List.{length_push}
 use Rattle.std.specs.Prelude.{if◌then◌else◌}
-use Rattle.golog_theory.specs.Reading.{Row, Reading, gives, refused, row, unless, ◌>>=◌, outcome_behind, found, each}
+use Rattle.golog_theory.specs.Reading.{Reading, gives, refused, row, unless, outcome_behind, found, each}
 
 -- where there is a value, this holds of it
 abbrev pub On : {A : Type 0} → (A → Type 0) → Result A (ℕ × ℕ) → Type 0
@@ -46,6 +46,10 @@ module _ {A : Type 0} (P : A → Type 0) where
   pub if-yields : (b : Bool) (one other : Reading A) → (b ≡ true → Yields P one) → (b ≡ false → Yields P other) → Yields P (if b then one else other)
   if-yields true one other h k = h refl
   if-yields false one other h k = k refl
+
+-- two things that hold of a value
+pub both-yields : {A : Type 0} (P Q : A → Type 0) (outcome : Result A (ℕ × ℕ)) → On P outcome → On Q outcome → On (λ x. P x × Q x) outcome
+both-yields P Q outcome p q x e = (p x e, q x e)
 
 behind-yields : {A B : Type 0} (Q : A → Type 0) (P : B → Type 0) (outcome : Result A (ℕ × ℕ)) (next : A → Reading B)
     → ((x : A) → outcome ≡ Ok x → Q x) → ((x : A) → Q x → Yields P (next x)) → (y : B) → outcome_behind outcome next ≡ Ok y → P y

@@ -7,7 +7,7 @@ use crate::fluents::sorts_of;
 use crate::indexed::Indexed;
 use crate::limits::DEVICES;
 use crate::parts::{item_no, new_name, word};
-use golog_base::{List, is_name};
+use golog_base::{List, both, is_name};
 use golog_form::Form;
 use golog_tree::{DraftAction, DraftDevice, Place};
 use std::alloc::Global;
@@ -87,8 +87,9 @@ pub fn action_item(
     match parts {
         [name, sorts] => action_of(alloc, theory, at, name, sorts),
         [name, sorts, device] => {
-            let mut action = action_of(alloc, theory, at, name, sorts)?;
-            action.device = Some(device_of(theory, device)?);
+            let action = action_of(alloc, theory, at, name, sorts);
+            let (mut action, device) = both(action, device_of(theory, device))?;
+            action.device = Some(device);
             Ok(action)
         }
         _ => Err(unknown_form(at)),
@@ -107,8 +108,9 @@ pub fn exo_item(
 {
     match parts {
         [name, sorts, devices @ ..] if !devices.is_empty() => {
-            let mut action = action_of(alloc, theory, at, name, sorts)?;
-            action.posters = devices_of(alloc, theory, devices)?;
+            let action = action_of(alloc, theory, at, name, sorts);
+            let (mut action, posters) = both(action, devices_of(alloc, theory, devices))?;
+            action.posters = posters;
             Ok(action)
         }
         _ => Err(unknown_form(at)),

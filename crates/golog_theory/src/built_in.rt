@@ -20,9 +20,7 @@ fn word_of(text: &[u8]) -> Word
 fn bool_sort(alloc: Global) -> Result<DraftSort, NoMemory>
     ensures { IfOk result (λ sort. sort ≡ DraftSort.Listed (codes "bool") bool_constants 0) }
 {
-    let mut constants = List::new(alloc);
-    constants.push(word_of(b"false"))?;
-    constants.push(word_of(b"true"))?;
+    let constants = pair(alloc, word_of(b"false"), word_of(b"true"))?;
     Ok(DraftSort::Listed {
         name: word_of(b"bool"),
         constants,

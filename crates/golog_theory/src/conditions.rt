@@ -9,7 +9,7 @@ use crate::keyword::{CondKeyword, cond_keyword};
 use crate::limits::VARIABLES;
 use crate::parts::{parts, short_name, sort_of, split_list, word};
 use crate::terms::term_of;
-use golog_base::{Boxed, List, Word, is_name};
+use golog_base::{Boxed, List, Word, both, is_name};
 use golog_form::Form;
 use golog_tree::{DraftCond, DraftTerm, Place};
 use std::alloc::Global;
@@ -61,8 +61,7 @@ fn sides_of(
     let [one, other] = parts else {
         return Err(unknown_form(at));
     };
-    let one = term_of(alloc, theory, one)?;
-    let other = term_of(alloc, theory, other)?;
+    let (one, other) = both(term_of(alloc, theory, one), term_of(alloc, theory, other))?;
     Ok(Sides { one, other })
 }
 
@@ -189,11 +188,23 @@ fn not_of(
     let [part] = parts else {
         return Err(unknown_form(at));
     };
-    let cond = cond_of(alloc, theory, part, scope)?;
-    Ok(DraftCond::Not {
-        cond: Boxed::new(alloc, cond)?,
-        at,
-    })
+    let cond = boxed_of(alloc, theory, part, scope)?;
+    Ok(DraftCond::Not { cond, at })
+}
+
+/// A condition in memory of its own.
+#[cycle(conditions)]
+#[tactic(auto, using(crate::proofs::Conds::laws))]
+fn boxed_of(
+    alloc: Global,
+    theory: &Indexed<'_>,
+    form: &Form,
+    scope: usize,
+) -> Result<Boxed<DraftCond>, TheoryFault>
+    ensures { Answers result (cond_of theory.now form.now scope) }
+{
+    let cond = cond_of(alloc, theory, form, scope)?;
+    Ok(Boxed::new(alloc, cond)?)
 }
 
 #[cycle(conditions)]
@@ -249,7 +260,7 @@ fn or_of(
 #[derive(Drop)]
 pub struct Bound {
     pub binder: Binder,
-    pub body: DraftCond,
+    pub body: Boxed<DraftCond>,
 }
 
 /// `(VAR SORT)` and a COND, where the variable is not one too many.
@@ -269,7 +280,7 @@ fn bound_of(
     };
     refuse_where(scope >= VARIABLES, COUNT, at)?;
     let binder = binder_of(theory, binder)?;
-    let body = cond_of(alloc, theory, body, scope + 1)?;
+    let body = boxed_of(alloc, theory, body, scope + 1)?;
     Ok(Bound { binder, body })
 }
 
@@ -290,7 +301,7 @@ fn some_of(
     Ok(DraftCond::ForSome {
         var,
         sort,
-        body: Boxed::new(alloc, body)?,
+        body,
         at,
     })
 }
@@ -312,7 +323,7 @@ fn all_of(
     Ok(DraftCond::ForAll {
         var,
         sort,
-        body: Boxed::new(alloc, body)?,
+        body,
         at,
     })
 }

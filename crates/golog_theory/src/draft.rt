@@ -1,9 +1,10 @@
-ghost use Rattle.std.specs.Prelude.{◌≡◌, ◌||◌, [], ◌∷◌, ◌++◌, IfOk, OnOk};
+ghost use Rattle.std.specs.Prelude.{◌≡◌, ◌||◌, IfOk, OnOk};
 ghost use Rattle.std.specs.BTreeSet.{contains};
 ghost use Rattle.golog_theory.specs.Draft.{IsDraft, IsDraftOf};
 ghost use Rattle.golog_theory.specs.Effects.{has_poss};
 ghost use Rattle.golog_theory.specs.Fluents.{is_started};
 ghost use Rattle.golog_theory.specs.declared.started.Ground.{Ground};
+ghost use Rattle.golog_theory.specs.Index.{IsIndexOf};
 ghost use Rattle.golog_theory.specs.Items.{built_in};
 ghost use Rattle.golog_theory.specs.Started.{ground_cmp, starts_at};
 
@@ -37,14 +38,28 @@ impl Draft {
         ensures { IfOk result (λ draft. IsDraftOf draft built_in) }
     {
         let theory = built_in(alloc)?;
-        let index = Index::of(alloc, &theory)?;
-        Ok(Draft {
+        match Index::of(alloc, &theory) {
+            Ok(index) => Ok(Draft::begun(alloc, theory, index)),
+            Err(NoMemory) => {
+                drop(theory);
+                Err(NoMemory)
+            }
+        }
+    }
+
+    /// What is built in, with its index.
+    fn begun(alloc: Global, theory: DraftTheory, index: Index) -> Draft
+        requires same { theory ≡ built_in }
+        requires index { IsIndexOf index theory }
+        ensures { IsDraftOf result built_in }
+    {
+        Draft {
             alloc,
             theory,
             index,
             restricted: BTreeSet::new(alloc),
             started: BTreeSet::new(alloc),
-        })
+        }
     }
 
     /// The theory so far.
@@ -86,94 +101,118 @@ impl Draft {
         let cell = Ground::of(self.alloc, fluent, args)?;
         Ok(self.started.contains(&cell))
     }
+}
 
-    /// Adds a sort.
-    pub fn push_sort(&mut self, sort: DraftSort) -> Result<(), NoMemory>
-        requires { IsDraft self.old }
-        ensures { OnOk result (IsDraftOf self.new
-            (record self.old.theory { sorts = self.old.theory.sorts ++ sort ∷ [] })) }
-    {
-        let number = self.theory.sorts.len();
-        self.index.add_sort(self.alloc, &sort, number)?;
-        self.theory.sorts.push(sort)?;
+/// What an item of an agent file adds to a theory.
+pub trait Entry {
+    ghost use Rattle.std.specs.Prelude.{OnOk};
+    ghost use Rattle.golog_tree.specs.declared.draft.DraftTheory.{DraftTheory};
+    ghost use Rattle.golog_theory.specs.Draft.{IsDraft, IsDraftOf};
+
+    /// The theory with it.
+    ghost added: { DraftTheory → Self → DraftTheory };
+
+    /// Adds it to the draft.
+    fn add_to(self, draft: &mut Draft) -> Result<(), NoMemory>
+        requires { IsDraft draft.old }
+        ensures { OnOk result (IsDraftOf draft.new (added draft.old.theory self)) };
+}
+
+impl Entry for DraftSort {
+    ghost use Rattle.std.specs.Prelude.{[], ◌∷◌, ◌++◌};
+
+    ghost added = { λ theory entry. record theory { sorts = theory.sorts ++ entry ∷ [] } };
+
+    fn add_to(self, draft: &mut Draft) -> Result<(), NoMemory> {
+        let number = draft.theory.sorts.len();
+        draft.index.add_sort(draft.alloc, &self, number)?;
+        draft.theory.sorts.push(self)?;
         Ok(())
     }
+}
 
-    /// Adds a device.
-    pub fn push_device(&mut self, device: DraftDevice) -> Result<(), NoMemory>
-        requires { IsDraft self.old }
-        ensures { OnOk result (IsDraftOf self.new
-            (record self.old.theory { devices = self.old.theory.devices ++ device ∷ [] })) }
-    {
-        let number = self.theory.devices.len();
-        self.index.devices.add(self.alloc, device.name(), number)?;
-        self.theory.devices.push(device)?;
+impl Entry for DraftDevice {
+    ghost use Rattle.std.specs.Prelude.{[], ◌∷◌, ◌++◌};
+
+    ghost added = { λ theory entry. record theory { devices = theory.devices ++ entry ∷ [] } };
+
+    fn add_to(self, draft: &mut Draft) -> Result<(), NoMemory> {
+        let number = draft.theory.devices.len();
+        draft.index.devices.add(draft.alloc, self.name(), number)?;
+        draft.theory.devices.push(self)?;
         Ok(())
     }
+}
 
-    /// Adds a fluent.
-    pub fn push_fluent(&mut self, fluent: DraftFluent) -> Result<(), NoMemory>
-        requires { IsDraft self.old }
-        ensures { OnOk result (IsDraftOf self.new
-            (record self.old.theory { fluents = self.old.theory.fluents ++ fluent ∷ [] })) }
-    {
-        let number = self.theory.fluents.len();
-        self.index.fluents.add(self.alloc, fluent.name(), number)?;
-        self.theory.fluents.push(fluent)?;
+impl Entry for DraftFluent {
+    ghost use Rattle.std.specs.Prelude.{[], ◌∷◌, ◌++◌};
+
+    ghost added = { λ theory entry. record theory { fluents = theory.fluents ++ entry ∷ [] } };
+
+    fn add_to(self, draft: &mut Draft) -> Result<(), NoMemory> {
+        let number = draft.theory.fluents.len();
+        draft.index.fluents.add(draft.alloc, self.name(), number)?;
+        draft.theory.fluents.push(self)?;
         Ok(())
     }
+}
 
-    /// Adds an action.
-    pub fn push_action(&mut self, action: DraftAction) -> Result<(), NoMemory>
-        requires { IsDraft self.old }
-        ensures { OnOk result (IsDraftOf self.new
-            (record self.old.theory { actions = self.old.theory.actions ++ action ∷ [] })) }
-    {
-        let number = self.theory.actions.len();
-        self.index.actions.add(self.alloc, action.name(), number)?;
-        self.theory.actions.push(action)?;
+impl Entry for DraftAction {
+    ghost use Rattle.std.specs.Prelude.{[], ◌∷◌, ◌++◌};
+
+    ghost added = { λ theory entry. record theory { actions = theory.actions ++ entry ∷ [] } };
+
+    fn add_to(self, draft: &mut Draft) -> Result<(), NoMemory> {
+        let number = draft.theory.actions.len();
+        draft.index.actions.add(draft.alloc, self.name(), number)?;
+        draft.theory.actions.push(self)?;
         Ok(())
     }
+}
 
-    /// Adds a precondition.
-    pub fn push_poss(&mut self, poss: DraftPoss) -> Result<(), NoMemory>
-        requires { IsDraft self.old }
-        ensures { OnOk result (IsDraftOf self.new
-            (record self.old.theory { poss = self.old.theory.poss ++ poss ∷ [] })) }
-    {
-        self.restricted.insert(poss.action as usize)?;
-        self.theory.poss.push(poss)?;
+impl Entry for DraftPoss {
+    ghost use Rattle.std.specs.Prelude.{[], ◌∷◌, ◌++◌};
+
+    ghost added = { λ theory entry. record theory { poss = theory.poss ++ entry ∷ [] } };
+
+    fn add_to(self, draft: &mut Draft) -> Result<(), NoMemory> {
+        let action = self.action as usize;
+        draft.theory.poss.push(self)?;
+        draft.restricted.insert(action)?;
         Ok(())
     }
+}
 
-    /// Adds an effect.
-    pub fn push_cause(&mut self, cause: DraftCause) -> Result<(), NoMemory>
-        requires { IsDraft self.old }
-        ensures { OnOk result (IsDraftOf self.new
-            (record self.old.theory { causes = self.old.theory.causes ++ cause ∷ [] })) }
-    {
-        self.theory.causes.push(cause)?;
+impl Entry for DraftCause {
+    ghost use Rattle.std.specs.Prelude.{[], ◌∷◌, ◌++◌};
+
+    ghost added = { λ theory entry. record theory { causes = theory.causes ++ entry ∷ [] } };
+
+    fn add_to(self, draft: &mut Draft) -> Result<(), NoMemory> {
+        draft.theory.causes.push(self)?;
         Ok(())
     }
+}
 
-    /// Adds what an action's result tells.
-    pub fn push_sense(&mut self, sense: DraftSense) -> Result<(), NoMemory>
-        requires { IsDraft self.old }
-        ensures { OnOk result (IsDraftOf self.new
-            (record self.old.theory { senses = self.old.theory.senses ++ sense ∷ [] })) }
-    {
-        self.theory.senses.push(sense)?;
+impl Entry for DraftSense {
+    ghost use Rattle.std.specs.Prelude.{[], ◌∷◌, ◌++◌};
+
+    ghost added = { λ theory entry. record theory { senses = theory.senses ++ entry ∷ [] } };
+
+    fn add_to(self, draft: &mut Draft) -> Result<(), NoMemory> {
+        draft.theory.senses.push(self)?;
         Ok(())
     }
+}
 
-    /// Adds a start value.
-    pub fn push_start(&mut self, start: DraftStart) -> Result<(), NoMemory>
-        requires { IsDraft self.old }
-        ensures { OnOk result (IsDraftOf self.new
-            (record self.old.theory { starts = self.old.theory.starts ++ start ∷ [] })) }
-    {
-        add_started(&mut self.started, self.alloc, &start)?;
-        self.theory.starts.push(start)?;
+impl Entry for DraftStart {
+    ghost use Rattle.std.specs.Prelude.{[], ◌∷◌, ◌++◌};
+
+    ghost added = { λ theory entry. record theory { starts = theory.starts ++ entry ∷ [] } };
+
+    fn add_to(self, draft: &mut Draft) -> Result<(), NoMemory> {
+        add_started(&mut draft.started, draft.alloc, &self)?;
+        draft.theory.starts.push(self)?;
         Ok(())
     }
 }

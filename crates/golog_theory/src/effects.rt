@@ -46,7 +46,8 @@ pub fn poss_item(
     refuse_where(is_restricted(draft, head_word(schema)), DUPLICATE, at)?;
     let theory = draft.indexed();
     let Schema { action, vars } = schema_of(alloc, &theory, Actions::OfProgram, schema)?;
-    let cond = cond_of(alloc, &theory, cond, vars.len())?;
+    let cond = cond_of(alloc, &theory, cond, vars.len());
+    let (vars, cond) = both(Ok(vars), cond)?;
     Ok(DraftPoss {
         action,
         vars,
@@ -219,13 +220,13 @@ pub fn senses_item(
     let [schema, fluent] = parts else {
         return Err(unknown_form(at));
     };
-    let Schema { action, vars } = schema_of(alloc, theory, Actions::All, schema)?;
-    let Called { item, args } = fluent_called(alloc, theory, fluent)?;
+    let schema = schema_of(alloc, theory, Actions::All, schema);
+    let (schema, fluent) = both(schema, fluent_called(alloc, theory, fluent))?;
     Ok(DraftSense {
-        action,
-        vars,
-        fluent: item,
-        args,
+        action: schema.action,
+        vars: schema.vars,
+        fluent: fluent.item,
+        args: fluent.args,
         at,
     })
 }

@@ -1,7 +1,7 @@
 ghost use Rattle.std.specs.Prelude.{◌≡◌, []};
-ghost use Rattle.golog_theory.specs.Reading.{Answers, each};
+ghost use Rattle.golog_theory.specs.Reading.{Answers, each, row};
 ghost use Rattle.golog_theory.specs.Draft.{IsDraft};
-ghost use Rattle.golog_theory.specs.Fluents.{sorts_of, constant_arg, start_value, fluent_of, fluent_item, constants_of, ground_of, start_item};
+ghost use Rattle.golog_theory.specs.Fluents.{sorts_of, constant_arg, start_value, fluent_of, fluent_item, constants_of, ground_of, is_started, start_item};
 ghost use Rattle.golog_theory.specs.Parts.{sort_of};
 
 use crate::draft::Draft;
@@ -13,7 +13,7 @@ use crate::heads::{Called, arguments, head_place, head_word};
 use crate::indexed::Indexed;
 use crate::limits::ARGUMENTS;
 use crate::parts::{arg_of, item_no, new_name, parts, sort_of, word};
-use golog_base::{List, is_name};
+use golog_base::{List, both, is_name};
 use golog_form::Form;
 use golog_tree::{DraftArg, DraftFluent, DraftStart, Place};
 use std::alloc::Global;
@@ -82,8 +82,7 @@ fn fluent_of(
     ensures { Answers result (fluent_of theory.now at name.now sorts.now sort.now) }
 {
     let name = new_name(theory, name)?;
-    let args = sorts_of(alloc, theory, sorts)?;
-    let sort = sort_of(theory, sort)?;
+    let (args, sort) = both(sorts_of(alloc, theory, sorts), sort_of(theory, sort))?;
     Ok(DraftFluent {
         name,
         args,
@@ -118,8 +117,8 @@ pub fn fluent_item(
             })
         }
         [name, sorts, sort, value] => {
-            let fluent = fluent_of(alloc, theory, at, name, sorts, sort)?;
-            let value = start_value(theory, value)?;
+            let fluent = fluent_of(alloc, theory, at, name, sorts, sort);
+            let (fluent, value) = both(fluent, start_value(theory, value))?;
             Ok(FluentItem { fluent, value })
         }
         _ => Err(unknown_form(at)),
@@ -153,9 +152,26 @@ fn ground_of(alloc: Global, theory: &Indexed<'_>, form: &Form) -> Result<Called,
     };
     let arity = theory.fluent_arity(fluent);
     refuse_where(arguments(form).len() != arity, ARITY, form.at())?;
-    let args = constants_of(alloc, theory, arguments(form))?;
     let item = item_no(fluent)?;
+    let args = constants_of(alloc, theory, arguments(form))?;
     Ok(Called { item, args })
+}
+
+/// The value that a `start` item gives its fluent at these constants, where no item before gives one.
+fn value_of(
+    draft: &Draft,
+    at: Place,
+    fluent: u32,
+    args: &[DraftArg],
+    value: &Form,
+) -> Result<Option<DraftArg>, TheoryFault>
+    requires { IsDraft draft.now }
+    ensures { Answers result (row (is_started draft.now.theory fluent args.now) DUPLICATE at
+        (start_value draft.now.theory value.now)) }
+{
+    let started = draft.is_started(fluent, args)?;
+    refuse_where(started, DUPLICATE, at)?;
+    start_value(&draft.indexed(), value)
 }
 
 /// `(start (FLUENT CONSTANTS) CONSTANT)`
@@ -173,9 +189,8 @@ pub fn start_item(
         return Err(unknown_form(at));
     };
     let Called { item, args } = ground_of(alloc, &draft.indexed(), fluent)?;
-    let started = draft.is_started(item, args.as_slice())?;
-    refuse_where(started, DUPLICATE, at)?;
-    let value = start_value(&draft.indexed(), value)?;
+    let value = value_of(draft, at, item, args.as_slice(), value);
+    let (args, value) = both(Ok(args), value)?;
     Ok(DraftStart::One {
         fluent: item,
         args,

@@ -77,8 +77,8 @@ pub fn fluent_called(
     };
     let arity = theory.fluent_arity(fluent);
     refuse_where(arguments(form).len() != arity, ARITY, form.at())?;
-    let args = args_of(alloc, arguments(form))?;
     let item = item_no(fluent)?;
+    let args = args_of(alloc, arguments(form))?;
     Ok(Called { item, args })
 }
 
@@ -97,8 +97,8 @@ pub fn action_called(
     };
     let arity = theory.action_arity(action);
     refuse_where(arguments(form).len() != arity, ARITY, form.at())?;
-    let args = args_of(alloc, arguments(form))?;
     let item = item_no(action)?;
+    let args = args_of(alloc, arguments(form))?;
     Ok(Called { item, args })
 }
 
@@ -157,7 +157,7 @@ pub fn schema_of(
     )?;
     let arity = theory.action_arity(action);
     refuse_where(arguments(form).len() != arity, ARITY, form.at())?;
-    let vars = vars_of(alloc, theory, arguments(form))?;
     let action = item_no(action)?;
+    let vars = vars_of(alloc, theory, arguments(form))?;
     Ok(Schema { action, vars })
 }

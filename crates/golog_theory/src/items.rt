@@ -1,4 +1,5 @@
-ghost use Rattle.std.specs.Prelude.{◌≡◌, OnOk, IfOk};
+ghost use Rattle.std.specs.Prelude.{◌≡◌, OnOk, IfOk, MatchResult, Err};
+ghost use Rattle.golog_theory.specs.declared.fault.TheoryFault.TheVariants.{Memory};
 ghost use Rattle.golog_draft.specs.Drafts.{TheoryKeeps, CondKeeps};
 ghost use Rattle.golog_draft.specs.DraftOrder.{IsAscending, TheoryInOrder};
 ghost use Rattle.golog_draft.specs.DraftPlaces.{cond_places};
@@ -7,11 +8,11 @@ ghost use Rattle.golog_form.specs.Places.{IsInOrder};
 ghost use Rattle.golog_theory.specs.Order.{IsLeastRow};
 ghost use Rattle.golog_theory.specs.Conditions.{cond_of};
 ghost use Rattle.golog_theory.specs.Draft.{IsDraft};
-ghost use Rattle.golog_theory.specs.Items.{sort_read, device_read, fluent_read, start_read, action_read, exo_read, poss_read, causes_read, senses_read, read_as, item_read, items_read, built_in, theory_of};
+ghost use Rattle.golog_theory.specs.Items.{fluent_read, read_as, item_read, items_read, built_in, theory_of};
 
 use crate::actions::{action_item, device_item, exo_item};
 use crate::conditions::cond_of;
-use crate::draft::Draft;
+use crate::draft::{Draft, Entry};
 use crate::effects::{causes_item, poss_item, senses_item};
 use crate::fault::{TheoryFault, UNKNOWN_FORM, refuse_where, unknown_form};
 use crate::fluents::{FluentItem, fluent_item, start_item};
@@ -25,27 +26,19 @@ use golog_form::Form;
 use golog_tree::{DraftCond, DraftStart, DraftTheory, Place};
 use std::alloc::Global;
 
-/// Adds a `sort` item.
-#[tactic(auto, unfolding(crate::specs::Items::sort_read))]
-fn read_sort(alloc: Global, draft: &mut Draft, at: Place, parts: &[Form]) -> Result<(), TheoryFault>
+/// Adds what an item spells, unless it is refused.
+fn read<T: Entry + Drop>(
+    draft: &mut Draft,
+    entry: Result<T, TheoryFault>,
+) -> Result<(), TheoryFault>
     requires { IsDraft draft.old }
-    ensures read { Leaves result draft.new.theory (sort_read draft.old.theory at parts.now) }
+    ensures added { MatchResult entry
+        (λ entry. MatchResult result (λ _. draft.new.theory ≡ T.added draft.old.theory entry) (λ fault. fault ≡ Memory))
+        (λ fault. result ≡ Err fault) }
     ensures kept { OnOk result (IsDraft draft.new) }
 {
-    let item = sort_item(alloc, &draft.indexed(), at, parts)?;
-    draft.push_sort(item)?;
-    Ok(())
-}
-
-/// Adds a `device` item.
-#[tactic(auto, unfolding(crate::specs::Items::device_read))]
-fn read_device(draft: &mut Draft, at: Place, parts: &[Form]) -> Result<(), TheoryFault>
-    requires { IsDraft draft.old }
-    ensures read { Leaves result draft.new.theory (device_read draft.old.theory at parts.now) }
-    ensures kept { OnOk result (IsDraft draft.new) }
-{
-    let item = device_item(&draft.indexed(), at, parts)?;
-    draft.push_device(item)?;
+    let entry = entry?;
+    entry.add_to(draft)?;
     Ok(())
 }
 
@@ -61,111 +54,20 @@ fn read_fluent(
     ensures read { Leaves result draft.new.theory (fluent_read draft.old.theory at parts.now) }
     ensures kept { OnOk result (IsDraft draft.new) }
 {
-    let FluentItem { fluent, value } = fluent_item(alloc, &draft.indexed(), at, parts)?;
     let number = item_no(draft.theory().fluents.len())?;
-    draft.push_fluent(fluent)?;
-    draft.push_start(DraftStart::Each {
+    let FluentItem { fluent, value } = fluent_item(alloc, &draft.indexed(), at, parts)?;
+    fluent.add_to(draft)?;
+    let start = DraftStart::Each {
         fluent: number,
         value,
         at,
-    })?;
-    Ok(())
-}
-
-/// Adds a `start` item.
-#[tactic(auto, unfolding(crate::specs::Items::start_read))]
-fn read_start(
-    alloc: Global,
-    draft: &mut Draft,
-    at: Place,
-    parts: &[Form],
-) -> Result<(), TheoryFault>
-    requires { IsDraft draft.old }
-    ensures read { Leaves result draft.new.theory (start_read draft.old.theory at parts.now) }
-    ensures kept { OnOk result (IsDraft draft.new) }
-{
-    let item = start_item(alloc, draft, at, parts)?;
-    draft.push_start(item)?;
-    Ok(())
-}
-
-/// Adds an `action` item.
-#[tactic(auto, unfolding(crate::specs::Items::action_read))]
-fn read_action(
-    alloc: Global,
-    draft: &mut Draft,
-    at: Place,
-    parts: &[Form],
-) -> Result<(), TheoryFault>
-    requires { IsDraft draft.old }
-    ensures read { Leaves result draft.new.theory (action_read draft.old.theory at parts.now) }
-    ensures kept { OnOk result (IsDraft draft.new) }
-{
-    let item = action_item(alloc, &draft.indexed(), at, parts)?;
-    draft.push_action(item)?;
-    Ok(())
-}
-
-/// Adds an `exo` item.
-#[tactic(auto, unfolding(crate::specs::Items::exo_read))]
-fn read_exo(alloc: Global, draft: &mut Draft, at: Place, parts: &[Form]) -> Result<(), TheoryFault>
-    requires { IsDraft draft.old }
-    ensures read { Leaves result draft.new.theory (exo_read draft.old.theory at parts.now) }
-    ensures kept { OnOk result (IsDraft draft.new) }
-{
-    let item = exo_item(alloc, &draft.indexed(), at, parts)?;
-    draft.push_action(item)?;
-    Ok(())
-}
-
-/// Adds a `poss` item.
-#[tactic(auto, unfolding(crate::specs::Items::poss_read))]
-fn read_poss(alloc: Global, draft: &mut Draft, at: Place, parts: &[Form]) -> Result<(), TheoryFault>
-    requires { IsDraft draft.old }
-    ensures read { Leaves result draft.new.theory (poss_read draft.old.theory at parts.now) }
-    ensures kept { OnOk result (IsDraft draft.new) }
-{
-    let item = poss_item(alloc, draft, at, parts)?;
-    draft.push_poss(item)?;
-    Ok(())
-}
-
-/// Adds a `causes` item.
-#[tactic(auto, unfolding(crate::specs::Items::causes_read))]
-fn read_causes(
-    alloc: Global,
-    draft: &mut Draft,
-    at: Place,
-    parts: &[Form],
-) -> Result<(), TheoryFault>
-    requires { IsDraft draft.old }
-    ensures read { Leaves result draft.new.theory (causes_read draft.old.theory at parts.now) }
-    ensures kept { OnOk result (IsDraft draft.new) }
-{
-    let item = causes_item(alloc, &draft.indexed(), at, parts)?;
-    draft.push_cause(item)?;
-    Ok(())
-}
-
-/// Adds a `senses` item.
-#[tactic(auto, unfolding(crate::specs::Items::senses_read))]
-fn read_senses(
-    alloc: Global,
-    draft: &mut Draft,
-    at: Place,
-    parts: &[Form],
-) -> Result<(), TheoryFault>
-    requires { IsDraft draft.old }
-    ensures read { Leaves result draft.new.theory (senses_read draft.old.theory at parts.now) }
-    ensures kept { OnOk result (IsDraft draft.new) }
-{
-    let item = senses_item(alloc, &draft.indexed(), at, parts)?;
-    draft.push_sense(item)?;
+    };
+    start.add_to(draft)?;
     Ok(())
 }
 
 /// Adds an item by its keyword. A `proc` or a `main` is passed over.
-#[tactic(auto, unfolding(crate::specs::Items::read_as))]
+#[tactic(auto, unfolding(crate::specs::Items::read_as, crate::specs::Items::sort_read, crate::specs::Items::device_read, crate::specs::Items::start_read, crate::specs::Items::action_read, crate::specs::Items::exo_read, crate::specs::Items::poss_read, crate::specs::Items::causes_read, crate::specs::Items::senses_read))]
 fn read_item(
     alloc: Global,
     draft: &mut Draft,
@@ -178,15 +80,39 @@ fn read_item(
     ensures kept { OnOk result (IsDraft draft.new) }
 {
     match keyword {
-        ItemKeyword::Sort => read_sort(alloc, draft, at, parts),
-        ItemKeyword::Device => read_device(draft, at, parts),
+        ItemKeyword::Sort => {
+            let sort = sort_item(alloc, &draft.indexed(), at, parts);
+            read(draft, sort)
+        }
+        ItemKeyword::Device => {
+            let device = device_item(&draft.indexed(), at, parts);
+            read(draft, device)
+        }
         ItemKeyword::Fluent => read_fluent(alloc, draft, at, parts),
-        ItemKeyword::Start => read_start(alloc, draft, at, parts),
-        ItemKeyword::Action => read_action(alloc, draft, at, parts),
-        ItemKeyword::Exo => read_exo(alloc, draft, at, parts),
-        ItemKeyword::Poss => read_poss(alloc, draft, at, parts),
-        ItemKeyword::Causes => read_causes(alloc, draft, at, parts),
-        ItemKeyword::Senses => read_senses(alloc, draft, at, parts),
+        ItemKeyword::Start => {
+            let start = start_item(alloc, draft, at, parts);
+            read(draft, start)
+        }
+        ItemKeyword::Action => {
+            let action = action_item(alloc, &draft.indexed(), at, parts);
+            read(draft, action)
+        }
+        ItemKeyword::Exo => {
+            let action = exo_item(alloc, &draft.indexed(), at, parts);
+            read(draft, action)
+        }
+        ItemKeyword::Poss => {
+            let poss = poss_item(alloc, draft, at, parts);
+            read(draft, poss)
+        }
+        ItemKeyword::Causes => {
+            let cause = causes_item(alloc, &draft.indexed(), at, parts);
+            read(draft, cause)
+        }
+        ItemKeyword::Senses => {
+            let sense = senses_item(alloc, &draft.indexed(), at, parts);
+            read(draft, sense)
+        }
         ItemKeyword::Proc | ItemKeyword::Main => Ok(()),
     }
 }
@@ -203,17 +129,31 @@ fn read_form(alloc: Global, draft: &mut Draft, form: &Form) -> Result<(), Theory
     }
 }
 
+/// Adds items, one after another.
+#[tactic(auto, using(crate::proofs::Theory::laws))]
+fn read_forms(alloc: Global, draft: &mut Draft, items: &[Form]) -> Result<(), TheoryFault>
+    requires { IsDraft draft.old }
+    ensures { Leaves result draft.new.theory (items_read draft.old.theory items.now) }
+{
+    for item in items {
+        read_form(alloc, draft, item)?;
+    }
+    Ok(())
+}
+
 /// The theory that these items make of what is built in, one after another. It is refused as by `theory_of`.
 /// `Memory` where memory runs out.
-#[tactic(auto, using(crate::proofs::Theory::laws))]
 pub fn theory_of_items(alloc: Global, items: &[Form]) -> Result<DraftTheory, TheoryFault>
     ensures { Answers result (items_read built_in items.now) }
 {
     let mut draft = Draft::built_in(alloc)?;
-    for item in items {
-        read_form(alloc, &mut draft, item)?;
+    match read_forms(alloc, &mut draft, items) {
+        Ok(()) => Ok(draft.into_theory()),
+        Err(fault) => {
+            drop(draft);
+            Err(fault)
+        }
     }
-    Ok(draft.into_theory())
 }
 
 /// The theory that an agent's form spells.

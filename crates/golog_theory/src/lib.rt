@@ -15,7 +15,6 @@ mod items;
 mod keyword;
 pub mod limits;
 pub mod names;
-mod numbers;
 pub mod parts;
 mod placed;
 mod sorts;

@@ -8,8 +8,7 @@ use crate::fault::{
     COUNT, DUPLICATE, NUMBER_RANGE, TheoryFault, UNKNOWN_FORM, UNKNOWN_SORT, refuse_where,
 };
 use crate::indexed::Indexed;
-use crate::numbers::{is_number, value};
-use golog_base::{Word, is_name};
+use golog_base::{Word, is_name, is_number, value};
 use golog_form::Form;
 use golog_tree::DraftArg;
 

@@ -8,9 +8,8 @@ use crate::fault::{
 use crate::indexed::Indexed;
 use crate::limits::{CONSTANTS, SORTS};
 use crate::names::is_among;
-use crate::numbers::{is_number, value};
 use crate::parts::{new_name, number_of, short_name, word};
-use golog_base::{List, Word, is_name};
+use golog_base::{List, Word, is_name, is_number, value};
 use golog_form::Form;
 use golog_tree::{DraftSort, Place};
 use std::alloc::Global;

@@ -1,14 +1,12 @@
 ghost use Rattle.std.specs.Prelude.{◌≡◌, ◌≤ℤ◌, pos, IfOk};
-ghost use Rattle.golog_tree.specs.declared.draft_cond.DraftTerm.TheVariants.{Shift};
 ghost use Rattle.golog_theory.specs.Reading.{Answers};
 ghost use Rattle.golog_theory.specs.Terms.{step_of, plus_of, minus_of, fluent_term, atom_term, term_list, term_of, term_parts};
 
 use crate::fault::{NUMBER_RANGE, TheoryFault, UNKNOWN_FORM, refuse_where, unknown_form};
 use crate::heads::{Called, fluent_called};
 use crate::indexed::Indexed;
-use crate::numbers::{has_sign, is_number, value};
 use crate::parts::{arg_of, split_list, word};
-use golog_base::{Boxed, NoMemory, both};
+use golog_base::{Boxed, both, has_sign, is_number, value};
 use golog_form::Form;
 use golog_tree::{DraftTerm, Place};
 use std::alloc::Global;
@@ -24,16 +22,6 @@ fn step_of(form: &Form) -> Result<i32, TheoryFault>
     value(text).ok_or(TheoryFault::Refused {
         code: NUMBER_RANGE,
         at: form.at(),
-    })
-}
-
-fn shifted(alloc: Global, term: DraftTerm, by: i32, at: Place) -> Result<DraftTerm, NoMemory>
-    ensures { IfOk result (λ shift. shift ≡ Shift term by at) }
-{
-    Ok(DraftTerm::Shift {
-        term: Boxed::new(alloc, term)?,
-        by,
-        at,
     })
 }
 
@@ -78,6 +66,20 @@ fn term_list(
     }
 }
 
+/// A term in memory of its own.
+#[cycle(terms)]
+#[tactic(auto, using(crate::proofs::Descent::laws))]
+fn boxed_of(
+    alloc: Global,
+    theory: &Indexed<'_>,
+    form: &Form,
+) -> Result<Boxed<DraftTerm>, TheoryFault>
+    ensures { Answers result (term_of theory.now form.now) }
+{
+    let term = term_of(alloc, theory, form)?;
+    Ok(Boxed::new(alloc, term)?)
+}
+
 /// `(+ TERM NUMBER)`
 #[cycle(terms)]
 #[tactic(auto, using(crate::proofs::Descent::laws), unfolding(crate::specs::Terms::plus_of))]
@@ -92,8 +94,8 @@ fn plus_of(
     let [one, step] = parts else {
         return Err(unknown_form(at));
     };
-    let (term, by) = both(term_of(alloc, theory, one), step_of(step))?;
-    Ok(shifted(alloc, term, by, at)?)
+    let (term, by) = both(boxed_of(alloc, theory, one), step_of(step))?;
+    Ok(DraftTerm::Shift { term, by, at })
 }
 
 /// `(- TERM NUMBER)`
@@ -110,8 +112,8 @@ fn minus_of(
     let [one, step] = parts else {
         return Err(unknown_form(at));
     };
-    let (term, by) = both(term_of(alloc, theory, one), step_of(step))?;
-    Ok(shifted(alloc, term, -by, at)?)
+    let (term, by) = both(boxed_of(alloc, theory, one), step_of(step))?;
+    Ok(DraftTerm::Shift { term, by: -by, at })
 }
 
 /// `(FLUENT ARGS)` as a term.

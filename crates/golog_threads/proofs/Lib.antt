@@ -5,4 +5,3 @@ pub mod Turning
 pub mod Driving
 pub mod Gathering
 pub mod Crossing
-pub mod TwoSeats

@@ -2,7 +2,7 @@
 use Rattle.std.proofs.Common.{◌≡◌, ℕ, zero, suc, ◌+◌, ◌<◌, ◌≤◌, List, [], ◌∷◌, ◌++◌, length, map, take, Option, Some, refl, sym, ap, ◌∙◌, subst, arith}
 use Rattle.std.specs.Prelude.{slice_get, sum_by}
 use Rattle.std.specs.List.{range_with_len}
-use Rattle.std.proofs.lemmas.List.{length-append}
+use Rattle.std.proofs.lemmas.List.{length-append, length-map}
 use Rattle.std.proofs.lemmas.List.Sums.{sum_by-cons}
 use Rattle.std.proofs.lemmas.Option.{slice_get_within}
 use Rattle.std.proofs.lemmas.List.FromFn.{length-map-range_with_len}
@@ -24,6 +24,9 @@ get_mapped : {A : Type 0} (f : ℕ → A) (a n i : ℕ) → i < n → slice_get 
 get_mapped f a zero i h = absurd (omega (arith, h))
 get_mapped f a (suc n) zero h = ap (λ k. Some (f k)) (omega arith)
 get_mapped f a (suc n) (suc i) h = get_mapped f (a + 1) n i (omega (arith, h)) ∙ ap (λ k. Some (f k)) (omega arith)
+
+pub below-map : {A : Type 0} (items : List A) (f : A → List ℕ) (item : ℕ) → item < length items → item < length (map f items)
+below-map items f item lt = omega (arith, lt, length-map items f)
 
 module _ (agent : Agent) where
   abbrev count : List ℕ → ℕ

@@ -1,4 +1,5 @@
 pub mod Ground
+pub mod Joined
 pub mod Nest
 pub mod Numbered
 pub mod Substitute

@@ -43,7 +43,8 @@ impl HasArgs for ActionItem {
     }
 }
 
-fn item_size(item: &SortItem) -> u32
+/// How many constants a sort has.
+pub fn item_size(item: &SortItem) -> u32
     requires { spec_item_size item.now ≤ 255 }
     ensures { result ≡ spec_item_size item.now }
 {

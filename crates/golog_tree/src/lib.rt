@@ -8,6 +8,7 @@ mod draft;
 mod draft_cond;
 mod draft_prog;
 mod ground;
+mod join;
 mod nesting;
 mod prog;
 mod same;
@@ -26,8 +27,9 @@ pub use draft::{
 pub use draft_cond::{DraftArg, DraftCond, DraftTerm, Place};
 pub use draft_prog::DraftProg;
 pub use ground::{
-    Ground, HasArgs, action_count, action_no, action_of, fluent_no, fluent_of, sort_size,
+    Ground, HasArgs, action_count, action_no, action_of, fluent_no, fluent_of, item_size, sort_size,
 };
+pub use join::{Join, join_two};
 pub use nesting::nest;
 pub use prog::{Label, Prog, Way};
 pub use same::{are_same_ways, is_same_cond, is_same_prog, is_same_term, is_same_way};

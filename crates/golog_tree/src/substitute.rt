@@ -2,6 +2,7 @@ ghost use Rattle.std.specs.Prelude.{◌≡◌, ◌++◌, map, take, IfOk, Some, 
 ghost use Rattle.golog_tree.specs.Substitute.{arg_put, within as spec_within, term_put, cond_put, prog_put, way_put};
 
 use crate::cond::{Arg, Cond, Term};
+use crate::join::{Join, join_parts};
 use crate::prog::{Prog, Way};
 use golog_base::{Boxed, List, NoMemory, both};
 use std::alloc::Global;
@@ -119,7 +120,7 @@ pub(crate) fn cond_with(alloc: Global, cond: &Cond, put: Put) -> Result<Cond, No
             let (one, other) = both(term_with(alloc, one, put), term_with(alloc, other, put))?;
             Ok(Cond::AtMost { sort, one, other })
         }
-        Cond::Not(cond) => Ok(Cond::Not(body_with(alloc, cond, put)?)),
+        Cond::Not(cond) => body_with(alloc, cond, put).map(Cond::Not),
         Cond::And(conds) => Ok(Cond::And(conds_with(alloc, conds.as_slice(), put)?)),
         Cond::Or(conds) => Ok(Cond::Or(conds_with(alloc, conds.as_slice(), put)?)),
         Cond::ForSome { var, sort, body } => Ok(Cond::ForSome {
@@ -177,24 +178,21 @@ pub(crate) fn prog_with(alloc: Global, prog: &Prog, put: Put) -> Result<Prog, No
             action: *action,
             args: args_with(alloc, args.as_slice(), put)?,
         }),
-        Prog::Test(cond) => Ok(Prog::Test(cond_with(alloc, cond, put)?)),
+        Prog::Test(cond) => cond_with(alloc, cond, put).map(Prog::Test),
         Prog::Seq(first, second) => {
-            let (first, second) = both(
-                part_with(alloc, first, put),
-                part_with(alloc, second, put),
-            )?;
-            Ok(Prog::Seq(first, second))
+            let first = part_with(alloc, first, put);
+            join_parts(Join::Seq, first, part_with(alloc, second, put))
         }
         Prog::Choice(one, other) => {
-            let (one, other) = both(part_with(alloc, one, put), part_with(alloc, other, put))?;
-            Ok(Prog::Choice(one, other))
+            let one = part_with(alloc, one, put);
+            join_parts(Join::Choice, one, part_with(alloc, other, put))
         }
         Prog::Pick { var, sort, body } => Ok(Prog::Pick {
             var: *var,
             sort: *sort,
             body: part_with(alloc, body, within(*var, put))?,
         }),
-        Prog::Star(body) => Ok(Prog::Star(part_with(alloc, body, put)?)),
+        Prog::Star(body) => part_with(alloc, body, put).map(Prog::Star),
         Prog::If { cond, yes, no } => {
             let parts = both(part_with(alloc, yes, put), part_with(alloc, no, put));
             let (cond, (yes, no)) = both(cond_with(alloc, cond, put), parts)?;
@@ -205,14 +203,14 @@ pub(crate) fn prog_with(alloc: Global, prog: &Prog, put: Put) -> Result<Prog, No
             Ok(Prog::While { cond, body })
         }
         Prog::Conc(one, other) => {
-            let (one, other) = both(part_with(alloc, one, put), part_with(alloc, other, put))?;
-            Ok(Prog::Conc(one, other))
+            let one = part_with(alloc, one, put);
+            join_parts(Join::Conc, one, part_with(alloc, other, put))
         }
         Prog::Prio(high, low) => {
-            let (high, low) = both(part_with(alloc, high, put), part_with(alloc, low, put))?;
-            Ok(Prog::Prio(high, low))
+            let high = part_with(alloc, high, put);
+            join_parts(Join::Prio, high, part_with(alloc, low, put))
         }
-        Prog::Cstar(body) => Ok(Prog::Cstar(part_with(alloc, body, put)?)),
+        Prog::Cstar(body) => part_with(alloc, body, put).map(Prog::Cstar),
         Prog::Call { item, args } => Ok(Prog::Call {
             item: *item,
             args: args_with(alloc, args.as_slice(), put)?,

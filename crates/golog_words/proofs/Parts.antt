@@ -28,66 +28,65 @@ flag_is text flag false is set unset = unset is
 
 -- ---- each list of words spells a command of one kind, or none
 
-abbrev Runs : Option CommandLine → Type 0
-Runs None = ⊤
-Runs (Some (run agent devices inline)) = ⊤
-Runs (Some other) = ⊥
+abbrev Spells : (CommandLine → Type 0) → Option CommandLine → Type 0
+Spells Is None = ⊤
+Spells Is (Some command) = Is command
 
-abbrev Checks : Option CommandLine → Type 0
-Checks None = ⊤
-Checks (Some (check agent)) = ⊤
-Checks (Some other) = ⊥
+abbrev IsRun : CommandLine → Type 0
+IsRun (run agent devices inline) = ⊤
+IsRun other = ⊥
 
-abbrev Replays : Option CommandLine → Type 0
-Replays None = ⊤
-Replays (Some (replay agent journal)) = ⊤
-Replays (Some other) = ⊥
+abbrev IsCheck : CommandLine → Type 0
+IsCheck (check agent) = ⊤
+IsCheck other = ⊥
 
-abbrev Asks : Option CommandLine → Type 0
-Asks None = ⊤
-Asks (Some (ask agent journal condition)) = ⊤
-Asks (Some other) = ⊥
+abbrev IsReplay : CommandLine → Type 0
+IsReplay (replay agent journal) = ⊤
+IsReplay other = ⊥
 
-abbrev Demos : Option CommandLine → Type 0
-Demos None = ⊤
-Demos (Some (demo size)) = ⊤
-Demos (Some other) = ⊥
+abbrev IsAsk : CommandLine → Type 0
+IsAsk (ask agent journal condition) = ⊤
+IsAsk other = ⊥
 
-runs_of : (files : List Text) (inline : Bool) → Runs (run_with files inline)
+abbrev IsDemo : CommandLine → Type 0
+IsDemo (demo size) = ⊤
+IsDemo other = ⊥
+
+runs_of : (files : List Text) (inline : Bool) → Spells IsRun (run_with files inline)
 runs_of [] inline = tt
 runs_of (agent ∷ []) inline = tt
 runs_of (agent ∷ devices ∷ []) inline = tt
 runs_of (agent ∷ devices ∷ other ∷ more) inline = tt
 
-runs_in : (words : List Text) → Runs (run_in words)
-runs_in words = holds_under Runs (are_run_words words) (run_with (files_in words) (list_any is_inline words)) tt
+runs_in : (words : List Text) → Spells IsRun (run_in words)
+runs_in words = holds_under (Spells IsRun) (are_run_words words) (run_with (files_in words) (list_any is_inline words)) tt
     (λ _. runs_of (files_in words) (list_any is_inline words))
 
-checks_in : (words : List Text) → Checks (check_in words)
+checks_in : (words : List Text) → Spells IsCheck (check_in words)
 checks_in [] = tt
-checks_in (agent ∷ []) = holds_under Checks (is_file_word agent) (Some (check agent)) tt (λ _. tt)
+checks_in (agent ∷ []) = holds_under (Spells IsCheck) (is_file_word agent) (Some (check agent)) tt (λ _. tt)
 checks_in (agent ∷ other ∷ more) = tt
 
-replays_in : (words : List Text) → Replays (replay_in words)
+replays_in : (words : List Text) → Spells IsReplay (replay_in words)
 replays_in [] = tt
 replays_in (agent ∷ []) = tt
 replays_in (agent ∷ journal ∷ []) =
-    holds_under Replays (is_file_word agent && is_file_word journal) (Some (replay agent journal)) tt (λ _. tt)
+    holds_under (Spells IsReplay) (is_file_word agent && is_file_word journal) (Some (replay agent journal)) tt (λ _. tt)
 replays_in (agent ∷ journal ∷ other ∷ more) = tt
 
-asks_in : (words : List Text) → Asks (ask_in words)
+asks_in : (words : List Text) → Spells IsAsk (ask_in words)
 asks_in [] = tt
 asks_in (agent ∷ []) = tt
 asks_in (agent ∷ journal ∷ []) = tt
 asks_in (agent ∷ journal ∷ condition ∷ []) =
-    holds_under Asks (is_file_word agent && is_file_word journal && is_file_word condition)
+    holds_under (Spells IsAsk) (is_file_word agent && is_file_word journal && is_file_word condition)
     (Some (ask agent journal condition)) tt (λ _. tt)
 asks_in (agent ∷ journal ∷ condition ∷ other ∷ more) = tt
 
-demos_in : (words : List Text) → Demos (demo_in words)
+demos_in : (words : List Text) → Spells IsDemo (demo_in words)
 demos_in [] = tt
 demos_in (word ∷ []) =
-    holds_under (λ (size : Option ℕ). Demos (demo_of size)) (is_size word) (Some (digits_value 10 word)) tt (λ _. tt)
+    holds_under (λ (size : Option ℕ). Spells IsDemo (demo_of size)) (is_size word) (Some (digits_value 10 word)) tt (λ _. tt)
 demos_in (word ∷ other ∷ more) = tt
 
 -- ---- the parts
@@ -133,61 +132,56 @@ pub record DemoParts (found : ArgMatches) (spelled : Option CommandLine) : Type 
 abbrev FindsIt : ArgMatches → Option CommandLine → Type 0
 FindsIt found spelled = (command : CommandLine) → spelled ≡ Some command → Finds found command
 
+-- the command that is spelled, which was found
+record Found (Is : CommandLine → Type 0) (found : ArgMatches) (spelled : Option CommandLine) : Type 0 where
+  command : CommandLine
+  is : spelled ≡ Some command
+  kind : Is command
+  finds : Finds found command
+
 module _ (found : ArgMatches) where
-  run_parts_of : (spelled : Option CommandLine) → Runs spelled → IsSome spelled → FindsIt found spelled
-      → RunParts found spelled
-  run_parts_of None kind some finds = absurd (true≢false (sym some))
-  run_parts_of (Some (run a d i)) kind some finds =
-      let h = finds (run a d i) refl in
-      record { agent = a; devices = d; is_inline = i; is = refl; agent_is = h.0; devices_is = h.1; inline_is = h.2 }
-  run_parts_of (Some other) kind some finds = absurd kind
+  found_one : (Is : CommandLine → Type 0) (spelled : Option CommandLine) → Spells Is spelled → IsSome spelled → FindsIt found spelled → Found Is found spelled
+  found_one Is None kind some finds = absurd (true≢false (sym some))
+  found_one Is (Some command) kind some finds = record { command = command; is = refl; kind = kind; finds = finds command refl }
 
-  check_parts_of : (spelled : Option CommandLine) → Checks spelled → IsSome spelled → FindsIt found spelled
-      → CheckParts found spelled
-  check_parts_of None kind some finds = absurd (true≢false (sym some))
-  check_parts_of (Some (check a)) kind some finds = record { agent = a; is = refl; agent_is = finds (check a) refl }
-  check_parts_of (Some other) kind some finds = absurd kind
+  run_parts_of : (spelled : Option CommandLine) (command : CommandLine) → spelled ≡ Some command → IsRun command → Finds found command → RunParts found spelled
+  run_parts_of spelled (run a d i) is kind h =
+      record { agent = a; devices = d; is_inline = i; is = is; agent_is = h.0; devices_is = h.1; inline_is = h.2 }
+  run_parts_of spelled other is kind h = absurd kind
 
-  replay_parts_of : (spelled : Option CommandLine) → Replays spelled → IsSome spelled → FindsIt found spelled
-      → ReplayParts found spelled
-  replay_parts_of None kind some finds = absurd (true≢false (sym some))
-  replay_parts_of (Some (replay a j)) kind some finds =
-      let h = finds (replay a j) refl in
-      record { agent = a; journal = j; is = refl; agent_is = h.0; journal_is = h.1 }
-  replay_parts_of (Some other) kind some finds = absurd kind
+  check_parts_of : (spelled : Option CommandLine) (command : CommandLine) → spelled ≡ Some command → IsCheck command → Finds found command → CheckParts found spelled
+  check_parts_of spelled (check a) is kind h = record { agent = a; is = is; agent_is = h }
+  check_parts_of spelled other is kind h = absurd kind
 
-  ask_parts_of : (spelled : Option CommandLine) → Asks spelled → IsSome spelled → FindsIt found spelled
-      → AskParts found spelled
-  ask_parts_of None kind some finds = absurd (true≢false (sym some))
-  ask_parts_of (Some (ask a j q)) kind some finds =
-      let h = finds (ask a j q) refl in
-      record { agent = a; journal = j; condition = q; is = refl; agent_is = h.0; journal_is = h.1; condition_is = h.2 }
-  ask_parts_of (Some other) kind some finds = absurd kind
+  replay_parts_of : (spelled : Option CommandLine) (command : CommandLine) → spelled ≡ Some command → IsReplay command → Finds found command → ReplayParts found spelled
+  replay_parts_of spelled (replay a j) is kind h = record { agent = a; journal = j; is = is; agent_is = h.0; journal_is = h.1 }
+  replay_parts_of spelled other is kind h = absurd kind
 
-  demo_parts_of : (spelled : Option CommandLine) → Demos spelled → IsSome spelled → FindsIt found spelled
-      → DemoParts found spelled
-  demo_parts_of None kind some finds = absurd (true≢false (sym some))
-  demo_parts_of (Some (demo n)) kind some finds =
-      let h = finds (demo n) refl in
-      record { word = h.0; size = n; is = refl; word_is = h.1; size_is = h.2 }
-  demo_parts_of (Some other) kind some finds = absurd kind
+  ask_parts_of : (spelled : Option CommandLine) (command : CommandLine) → spelled ≡ Some command → IsAsk command → Finds found command → AskParts found spelled
+  ask_parts_of spelled (ask a j q) is kind h =
+      record { agent = a; journal = j; condition = q; is = is; agent_is = h.0; journal_is = h.1; condition_is = h.2 }
+  ask_parts_of spelled other is kind h = absurd kind
 
-  pub run_parts : (words : List Text) → IsSome (run_in words) → FindsIt found (run_in words)
-      → RunParts found (run_in words)
-  run_parts words = run_parts_of (run_in words) (runs_in words)
+  demo_parts_of : (spelled : Option CommandLine) (command : CommandLine) → spelled ≡ Some command → IsDemo command → Finds found command → DemoParts found spelled
+  demo_parts_of spelled (demo n) is kind h = record { word = h.0; size = n; is = is; word_is = h.1; size_is = h.2 }
+  demo_parts_of spelled other is kind h = absurd kind
 
-  pub check_parts : (words : List Text) → IsSome (check_in words) → FindsIt found (check_in words)
-      → CheckParts found (check_in words)
-  check_parts words = check_parts_of (check_in words) (checks_in words)
+  pub run_parts : (words : List Text) → IsSome (run_in words) → FindsIt found (run_in words) → RunParts found (run_in words)
+  run_parts words some finds =
+      let one = found_one IsRun (run_in words) (runs_in words) some finds in run_parts_of (run_in words) one.command one.is one.kind one.finds
 
-  pub replay_parts : (words : List Text) → IsSome (replay_in words) → FindsIt found (replay_in words)
-      → ReplayParts found (replay_in words)
-  replay_parts words = replay_parts_of (replay_in words) (replays_in words)
+  pub check_parts : (words : List Text) → IsSome (check_in words) → FindsIt found (check_in words) → CheckParts found (check_in words)
+  check_parts words some finds =
+      let one = found_one IsCheck (check_in words) (checks_in words) some finds in check_parts_of (check_in words) one.command one.is one.kind one.finds
 
-  pub ask_parts : (words : List Text) → IsSome (ask_in words) → FindsIt found (ask_in words)
-      → AskParts found (ask_in words)
-  ask_parts words = ask_parts_of (ask_in words) (asks_in words)
+  pub replay_parts : (words : List Text) → IsSome (replay_in words) → FindsIt found (replay_in words) → ReplayParts found (replay_in words)
+  replay_parts words some finds =
+      let one = found_one IsReplay (replay_in words) (replays_in words) some finds in replay_parts_of (replay_in words) one.command one.is one.kind one.finds
 
-  pub demo_parts : (words : List Text) → IsSome (demo_in words) → FindsIt found (demo_in words)
-      → DemoParts found (demo_in words)
-  demo_parts words = demo_parts_of (demo_in words) (demos_in words)
+  pub ask_parts : (words : List Text) → IsSome (ask_in words) → FindsIt found (ask_in words) → AskParts found (ask_in words)
+  ask_parts words some finds =
+      let one = found_one IsAsk (ask_in words) (asks_in words) some finds in ask_parts_of (ask_in words) one.command one.is one.kind one.finds
+
+  pub demo_parts : (words : List Text) → IsSome (demo_in words) → FindsIt found (demo_in words) → DemoParts found (demo_in words)
+  demo_parts words some finds =
+      let one = found_one IsDemo (demo_in words) (demos_in words) some finds in demo_parts_of (demo_in words) one.command one.is one.kind one.finds

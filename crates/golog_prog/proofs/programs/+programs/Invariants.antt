@@ -26,6 +26,12 @@ decreases-conc_of l = 5 * deepest l.parts.now + 3
 abbrev pub decreases-prio_of : goal.decreases-prio_of
 decreases-prio_of l = 5 * deepest l.parts.now + 3
 
+abbrev pub decreases-star_of : goal.decreases-star_of
+decreases-star_of l = 5 * deepest l.parts.now + 3
+
+abbrev pub decreases-cstar_of : goal.decreases-cstar_of
+decreases-cstar_of l = 5 * deepest l.parts.now + 3
+
 abbrev pub decreases-several_of : goal.decreases-several_of
 decreases-several_of l = 5 * deepest l.parts.now + 2
 
@@ -38,14 +44,11 @@ decreases-pick_of l = 5 * deepest l.parts.now + 3
 abbrev pub decreases-one_of : goal.decreases-one_of
 decreases-one_of l = 5 * deepest l.parts.now + 2
 
-abbrev pub decreases-star_of : goal.decreases-star_of
-decreases-star_of l = 5 * deepest l.parts.now + 3
-
-abbrev pub decreases-cstar_of : goal.decreases-cstar_of
-decreases-cstar_of l = 5 * deepest l.parts.now + 3
+abbrev pub decreases-boxed_of : goal.decreases-boxed_of
+decreases-boxed_of l = 5 * nest l.form.now + 1
 
 abbrev pub decreases-guarded_of : goal.decreases-guarded_of
-decreases-guarded_of l = 5 * nest l.body.now + 1
+decreases-guarded_of l = 5 * nest l.body.now + 2
 
 abbrev pub decreases-if_of : goal.decreases-if_of
 decreases-if_of l = 5 * deepest l.parts.now + 3

@@ -8,31 +8,34 @@ use Rattle.golog_theory.proofs.Descent.{deepest}
 use Rattle.golog_theory.proofs.conditions.+conditions.Given as goal
 
 abbrev pub decreases-cond_of : goal.decreases-cond_of
-decreases-cond_of l = 4 * nest l.form.now
+decreases-cond_of l = 5 * nest l.form.now
 
 abbrev pub decreases-keyword_cond : goal.decreases-keyword_cond
-decreases-keyword_cond l = 4 * deepest l.parts.now + 3
+decreases-keyword_cond l = 5 * deepest l.parts.now + 4
 
 abbrev pub decreases-not_of : goal.decreases-not_of
-decreases-not_of l = 4 * deepest l.parts.now + 2
+decreases-not_of l = 5 * deepest l.parts.now + 2
 
 abbrev pub decreases-and_of : goal.decreases-and_of
-decreases-and_of l = 4 * deepest l.parts.now + 2
+decreases-and_of l = 5 * deepest l.parts.now + 2
 
 abbrev pub decreases-or_of : goal.decreases-or_of
-decreases-or_of l = 4 * deepest l.parts.now + 2
+decreases-or_of l = 5 * deepest l.parts.now + 2
 
 abbrev pub decreases-some_of : goal.decreases-some_of
-decreases-some_of l = 4 * deepest l.parts.now + 2
+decreases-some_of l = 5 * deepest l.parts.now + 3
 
 abbrev pub decreases-all_of : goal.decreases-all_of
-decreases-all_of l = 4 * deepest l.parts.now + 2
+decreases-all_of l = 5 * deepest l.parts.now + 3
+
+abbrev pub decreases-boxed_of : goal.decreases-boxed_of
+decreases-boxed_of l = 5 * nest l.form.now + 1
 
 abbrev pub decreases-conds_of : goal.decreases-conds_of
-decreases-conds_of l = 4 * deepest l.forms.now + 1
+decreases-conds_of l = 5 * deepest l.forms.now + 1
 
 abbrev pub decreases-bound_of : goal.decreases-bound_of
-decreases-bound_of l = 4 * deepest l.parts.now + 1
+decreases-bound_of l = 5 * deepest l.parts.now + 2
 
 abbrev pub invariant-conds_of-loop-form : goal.invariant-conds_of-loop-form
 invariant-conds_of-loop-form l =
