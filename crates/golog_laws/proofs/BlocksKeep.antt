@@ -23,6 +23,24 @@ use Rattle.golog_semantics.proofs.FrontParts.{Claim}
 use Rattle.golog_semantics.proofs.Among.{Among}
 use Rattle.golog_semantics.proofs.StepsKeep.{Keeps, OfLefts, moves_keep}
 
+pub each-among : {A : Type 0} (Q : A → Type 0) (xs : List A) (x : A) → OfEach Q xs → Among xs x → Q x
+each-among Q [] x h k = absurd k
+each-among Q (y ∷ xs) x h (inl e) = subst Q e h.0
+each-among Q (y ∷ xs) x h (inr k) = each-among Q xs x h.1 k
+
+pub if_empty : (b : Bool) (run : Run) → Among (if b then [] ∷ [] else []) run → [] ≡ run
+if_empty true run (inl e) = e
+if_empty true run (inr h) = absurd h
+if_empty false run h = absurd h
+
+-- what is said of a program is said of what its ways leave
+pub plain_keep : (agent : Agent) (claim : Claim) → Keeps agent claim → (values : Values) (m : Mode) (p : Prog) → claim.of_prog p
+    → OfEach (λ (w : Way). claim.of_prog w.left) (plain_ways agent values m p)
+unfolding plain_ways
+plain_keep agent claim keeps values m p h =
+    each-map (λ (move : Move). claim.of_prog move.left) (λ (w : Way). claim.of_prog w.left) way_of (λ move k. k) (moves_with agent no_blocks values m p)
+    (moves_keep agent claim keeps values no_blocks (λ k depth fuel q rest x. tt) (front agent p).height m p h)
+
 module _ (agent : Agent) (P : Prog → Type 0) where
   abbrev pub OfRun : List Way → Type 0
   OfRun = OfEach (λ (w : Way). P w.left)
@@ -32,22 +50,6 @@ module _ (agent : Agent) (P : Prog → Type 0) where
   along_runs = record { of_prog = P; of_block = λ depth fuel p rest. P p × OfRun rest }
 
   module _ (keeps : Keeps agent along_runs) (follows : (depth fuel : ℕ) (p : Prog) (rest : List Way) → P p → OfRun rest → P (prog.Follow depth fuel p rest)) where
-    plain_keep : (values : Values) (m : Mode) (p : Prog) → P p → OfRun (plain_ways agent values m p)
-    unfolding plain_ways
-    plain_keep values m p h =
-        each-map (λ (move : Move). P move.left) (λ (w : Way). P w.left) way_of (λ move k. k) (moves_with agent no_blocks values m p)
-        (moves_keep agent along_runs keeps values no_blocks (λ k depth fuel q rest x. tt) (front agent p).height m p h)
-
-    each-among : {A : Type 0} (Q : A → Type 0) (xs : List A) (x : A) → OfEach Q xs → Among xs x → Q x
-    each-among Q [] x h k = absurd k
-    each-among Q (y ∷ xs) x h (inl e) = subst Q e h.0
-    each-among Q (y ∷ xs) x h (inr k) = each-among Q xs x h.1 k
-
-    if_empty : (b : Bool) (run : Run) → Among (if b then [] ∷ [] else []) run → [] ≡ run
-    if_empty true run (inl e) = e
-    if_empty true run (inr h) = absurd h
-    if_empty false run h = absurd h
-
     none_left : (m : Mode) (p : Prog) (values : Values) (run : Run) → Among (runs agent m zero p values) run → OfRun run
     unfolding runs
     none_left m p values run h = subst OfRun (if_empty _ run h) tt
@@ -56,7 +58,7 @@ module _ (agent : Agent) (P : Prog → Type 0) where
     runs_keep m zero p values run h k = none_left m p values run k
     runs_keep m (suc n) p values run h k =
         let b = longer agent m n p values run k in
-        let e = each-among (λ (w : Way). P w.left) (plain_ways agent values m p) b.way (plain_keep values m p h) b.step in
+        let e = each-among (λ (w : Way). P w.left) (plain_ways agent values m p) b.way (plain_keep agent along_runs keeps values m p h) b.step in
         subst OfRun b.is (e, runs_keep m n b.way.left (after agent values b.way.label) b.rest e b.later)
 
     first_keeps : (depth fuel : ℕ) (begun_run : Option (List Label)) (run : Run) → OfRun run → OfLefts agent along_runs (first_step depth fuel begun_run run)
@@ -83,10 +85,10 @@ module _ (agent : Agent) (P : Prog → Type 0) where
     blocks_keep values Must depth fuel p rest h = certain_keeps (is_kept agent values p rest) depth fuel p values rest h.0 h.1
     blocks_keep values Near depth fuel p rest h =
         searching_keeps depth fuel (filter (begins_run agent values depth) (plain_ways agent values Near p))
-        (each-filter (λ (w : Way). P w.left) (begins_run agent values depth) (plain_ways agent values Near p) (plain_keep values Near p h.0))
+        (each-filter (λ (w : Way). P w.left) (begins_run agent values depth) (plain_ways agent values Near p) (plain_keep agent along_runs keeps values Near p h.0))
     blocks_keep values May depth fuel p rest h =
         searching_keeps depth fuel (filter (may_succeed agent values depth) (plain_ways agent values Near p))
-        (each-filter (λ (w : Way). P w.left) (may_succeed agent values depth) (plain_ways agent values Near p) (plain_keep values Near p h.0))
+        (each-filter (λ (w : Way). P w.left) (may_succeed agent values depth) (plain_ways agent values Near p) (plain_keep agent along_runs keeps values Near p h.0))
 
     pub steps_keep : (values : Values) (m : Mode) (p : Prog) → P p → OfLefts agent along_runs (moves agent values m p)
     unfolding moves

@@ -71,12 +71,7 @@ module _ (agent : Agent) (apart : TellsApart agent) (before : Journal) (small : 
   kind-is : (e : Entry) (run : Option (List Label)) (s : Text) → kind_of (body_text agent values run e ++ s) ≡ kind e
   unfolding kind kind_of kind_of_e
   kind-is (Do action) run s = refl
-  kind-is Test run s = refl
-  kind-is (Exo poster action) run s = refl
-  kind-is (Sense poster place fluent value) run s = refl
-  kind-is (Rest poster taken) run s = refl
-  kind-is (Close poster reason taken) run s = refl
-  kind-is (End answer) run s = refl
+  kind-is _ run s = refl
 
   -- the same entry, and at a step the same run, with the same text after it
   pub record SameBody (e f : Entry) (run other : Option (List Label)) (s t : Text) : Type 0 where

@@ -53,13 +53,7 @@ ran-nest =
     (record { of_layer = nest_step-same; of_way = λ a b c label h. tt })
 
 ignores : IgnoresPut Ran Ran ran_step (λ w. w.left)
-ignores = record {
-  act_same = λ action args put. refl;
-  test_same = λ c put. refl;
-  if_same = λ c put a b. refl;
-  while_same = λ c put a. refl;
-  call_same = λ item args put. refl;
-}
+ignores = record { act_same = λ action args put. refl; test_same = λ c put. refl; if_same = λ c put a b. refl; while_same = λ c put a. refl; call_same = λ item args put. refl }
 
 pub within_put : (p : Prog) (x c : ℕ) → runs_within (put_arg p x c) ≡ runs_within p
 within_put p x c = ap (λ (r : Ran). r.found) (fold-put Ran Ran ran_step (λ w. w.left) ignores p (Some (x, c)))

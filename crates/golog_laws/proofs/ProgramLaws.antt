@@ -13,13 +13,7 @@ use Rattle.golog_semantics.proofs.PutByParts.{IgnoresPut, fold-put}
 use Rattle.golog_certain.proofs.WrittenLaws.{main_within, well_formed_plain, well_formed_within}
 
 nest_ignores : IgnoresPut ℕ ℕ nest_step (λ w. 0)
-nest_ignores = record {
-  act_same = λ action args put. refl;
-  test_same = λ c put. refl;
-  if_same = λ c put a b. refl;
-  while_same = λ c put a. refl;
-  call_same = λ item args put. refl;
-}
+nest_ignores = record { act_same = λ action args put. refl; test_same = λ c put. refl; if_same = λ c put a b. refl; while_same = λ c put a. refl; call_same = λ item args put. refl }
 
 pub constants_put_in : (p q : Prog) (put : Put) → PutCommutes p q put
 constants_put_in p q put = record {

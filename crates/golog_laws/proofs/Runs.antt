@@ -25,11 +25,7 @@ decimal_tells = words_tell decimal (λ n. n < 2 ^ 64) decimal-word (λ a b h k e
 
 reason-word : (r : Reason) → ⊤ → IsWord (reason_text r)
 reason-word Ended _ = refl
-reason-word Bad _ = refl
-reason-word Full _ = refl
-reason-word Late _ = refl
-reason-word Stopped _ = refl
-reason-word Refused _ = refl
+reason-word _ _ = refl
 
 -- the reason with this text
 reason_of : Text → Reason
@@ -43,11 +39,7 @@ reason_of t =
 reason-back : (r : Reason) → reason_of (reason_text r) ≡ r
 unfolding reason_of
 reason-back Ended = refl
-reason-back Bad = refl
-reason-back Full = refl
-reason-back Late = refl
-reason-back Stopped = refl
-reason-back Refused = refl
+reason-back _ = refl
 
 reason-same : (r q : Reason) → ⊤ → ⊤ → reason_text r ≡ reason_text q → r ≡ q
 reason-same r q h k e = sym (reason-back r) ∙ ap reason_of e ∙ reason-back q
@@ -57,14 +49,7 @@ reason_tells = words_tell reason_text (λ _. ⊤) reason-word reason-same
 
 answer-word : (a : Answer) → ⊤ → IsWord (answer_text a)
 answer-word Done _ = refl
-answer-word Stuck _ = refl
-answer-word Unknown _ = refl
-answer-word Depth _ = refl
-answer-word Fuel _ = refl
-answer-word Unanswered _ = refl
-answer-word AnswerFull _ = refl
-answer-word Deep _ = refl
-answer-word Memory _ = refl
+answer-word _ _ = refl
 
 -- the answer with this text
 answer_of : Text → Answer
@@ -81,14 +66,7 @@ answer_of t =
 answer-back : (a : Answer) → answer_of (answer_text a) ≡ a
 unfolding answer_of
 answer-back Done = refl
-answer-back Stuck = refl
-answer-back Unknown = refl
-answer-back Depth = refl
-answer-back Fuel = refl
-answer-back Unanswered = refl
-answer-back AnswerFull = refl
-answer-back Deep = refl
-answer-back Memory = refl
+answer-back _ = refl
 
 answer-same : (a b : Answer) → ⊤ → ⊤ → answer_text a ≡ answer_text b → a ≡ b
 answer-same a b h k e = sym (answer-back a) ∙ ap answer_of e ∙ answer-back b

@@ -1,5 +1,5 @@
 -- A run under way in what a step leaves may be found by a search within its depth.
-use Rattle.std.proofs.Common.{◌≡◌, ℕ, zero, suc, ◌≤◌, Bool, true, false, ◌&&◌, if◌then◌else◌, List, [], ◌∷◌, length, map, Option, Some, None, inl, inr, refl, sym, ap, ◌∙◌, subst, arith}
+use Rattle.std.proofs.Common.{◌≡◌, ℕ, zero, suc, ◌≤◌, Bool, true, false, ◌&&◌, if◌then◌else◌, List, [], ◌∷◌, length, map, Option, Some, None, refl, sym, ap, ◌∙◌, subst, arith}
 use Rattle.std.specs.Prelude.{Contains, nat_le, filter}
 use Rattle.std.specs.List.{list_all}
 use Rattle.std.proofs.lemmas.List.{length-map}
@@ -18,8 +18,8 @@ use Rattle.golog_semantics.specs.declared.Mode.TheVariants.{Must, May, Near}
 use Rattle.golog_semantics.specs.declared.search.Move.{Move}
 use Rattle.golog_semantics.specs.Truth.{Values}
 use Rattle.golog_semantics.specs.Values.{after}
-use Rattle.golog_semantics.specs.Ways.{plain_move, way_of}
-use Rattle.golog_semantics.specs.Search.{Run, best, best_from, is_followed, moves_with, nest_limit, no_blocks, plain_ways, runs}
+use Rattle.golog_semantics.specs.Ways.{plain_move}
+use Rattle.golog_semantics.specs.Search.{Run, best, best_from, is_followed, nest_limit, plain_ways, runs}
 use Rattle.golog_semantics.specs.Blocks.{beginning, begins_run, block_moves, first_step, is_kept, labels_of, may_succeed, moves, searching}
 use Rattle.golog_semantics.specs.Guarded.{front}
 use Rattle.golog_certain.specs.FollowedRuns.{Ran, found_step, ran, ran_step, run_within, runs_within}
@@ -28,6 +28,7 @@ use Rattle.golog_semantics.proofs.ByParts as parts
 use Rattle.golog_semantics.proofs.ByParts.{OfEach}
 use Rattle.golog_semantics.proofs.BestRuns.{longer}
 use Rattle.golog_certain.proofs.CertainRuns.{found}
+use Rattle.golog_laws.proofs.BlocksKeep.{each-among, if_empty, plain_keep}
 use Rattle.golog_laws.proofs.FollowedRunsLaws.{RestWithin, no_rest, ran-nest, ran_way, rest_within, way_ran, within_body-of, within_put}
 use Rattle.golog_semantics.proofs.FrontParts.{Claim}
 use Rattle.golog_semantics.proofs.Among.{Among}
@@ -97,27 +98,11 @@ module _ (agent : Agent) (bodies : list_all (λ (i : ProcItem). runs_within i.bo
     parts = λ p h. in_parts (out-Prog p) (sym (ap of_ran (fold_out-Prog Ran Ran ran_step (λ w. w.left) p)) ∙ h);
   }
 
-  plain_keep : (values : Values) (m : Mode) (p : Prog) → P p → OfEach (λ (w : Way). P w.left) (plain_ways agent values m p)
-  unfolding plain_ways
-  plain_keep values m p h =
-      each-map (λ (move : Move). P move.left) (λ (w : Way). P w.left) way_of (λ move k. k) (moves_with agent no_blocks values m p)
-      (moves_keep agent within keeps values no_blocks (λ k depth fuel q rest x. tt) (front agent p).height m p h)
-
-  each-among : {A : Type 0} (Q : A → Type 0) (xs : List A) (x : A) → OfEach Q xs → Among xs x → Q x
-  each-among Q [] x h k = absurd k
-  each-among Q (y ∷ xs) x h (inl e) = subst Q e h.0
-  each-among Q (y ∷ xs) x h (inr k) = each-among Q xs x h.1 k
-
   -- a run of exactly so many ways, each of which may be followed
   pub record RunWithin (n : ℕ) (run : Run) : Type 0 where
     pub size : length run ≡ n
     pub followed : OfEach (λ w. is_followed w ≡ true) run
     pub lefts : OfEach (λ (w : Way). P w.left) run
-
-  if_empty : (b : Bool) (run : Run) → Among (if b then [] ∷ [] else []) run → [] ≡ run
-  if_empty true run (inl e) = e
-  if_empty true run (inr h) = absurd h
-  if_empty false run h = absurd h
 
   none_left : (m : Mode) (p : Prog) (values : Values) (run : Run) → Among (runs agent m zero p values) run → RunWithin zero run
   unfolding runs
@@ -127,7 +112,7 @@ module _ (agent : Agent) (bodies : list_all (λ (i : ProcItem). runs_within i.bo
   runs_keep m zero p values run h k = none_left m p values run k
   runs_keep m (suc n) p values run h k =
       let b = longer agent m n p values run k in
-      let e = each-among (λ (w : Way). P w.left) (plain_ways agent values m p) b.way (plain_keep values m p h) b.step in
+      let e = each-among (λ (w : Way). P w.left) (plain_ways agent values m p) b.way (plain_keep agent within keeps values m p h) b.step in
       let r = runs_keep m n b.way.left (after agent values b.way.label) b.rest e b.later in
       subst (RunWithin (suc n)) b.is (record { size = (let s = r.size in omega arith); followed = (b.followed, r.followed); lefts = (e, r.lefts) })
 
@@ -159,10 +144,10 @@ module _ (agent : Agent) (bodies : list_all (λ (i : ProcItem). runs_within i.bo
   blocks_keep values Must depth fuel p rest h = certain_keeps (is_kept agent values p rest) depth fuel p values rest h.0 h.1
   blocks_keep values Near depth fuel p rest h =
       searching_keeps depth fuel (filter (begins_run agent values depth) (plain_ways agent values Near p))
-      (each-filter (λ (w : Way). P w.left) (begins_run agent values depth) (plain_ways agent values Near p) (plain_keep values Near p h.0))
+      (each-filter (λ (w : Way). P w.left) (begins_run agent values depth) (plain_ways agent values Near p) (plain_keep agent within keeps values Near p h.0))
   blocks_keep values May depth fuel p rest h =
       searching_keeps depth fuel (filter (may_succeed agent values depth) (plain_ways agent values Near p))
-      (each-filter (λ (w : Way). P w.left) (may_succeed agent values depth) (plain_ways agent values Near p) (plain_keep values Near p h.0))
+      (each-filter (λ (w : Way). P w.left) (may_succeed agent values depth) (plain_ways agent values Near p) (plain_keep agent within keeps values Near p h.0))
 
   runs_stay : (values : Values) (m : Mode) (p : Prog) → P p → OfLefts agent within (moves agent values m p)
   unfolding moves

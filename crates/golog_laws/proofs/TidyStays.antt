@@ -39,20 +39,7 @@ tidied_way = fold-Way Tidied Tidied tidied_step (λ w. w.left)
 
 empty_layer : (l : Layer) → (tidied_step (map-Prog Prog Way Tidied Tidied tidied tidied_way l)).empty ≡ nil_layer l
 empty_layer Nil = refl
-empty_layer (Act action args) = refl
-empty_layer (Test c) = refl
-empty_layer (Seq p q) = refl
-empty_layer (Choice p q) = refl
-empty_layer (Pick x sort p) = refl
-empty_layer (Star p) = refl
-empty_layer (If c p q) = refl
-empty_layer (While c p) = refl
-empty_layer (Conc p q) = refl
-empty_layer (Prio p q) = refl
-empty_layer (Cstar p) = refl
-empty_layer (Call item args) = refl
-empty_layer (Search depth fuel p) = refl
-empty_layer (Follow depth fuel p rest) = refl
+empty_layer _ = refl
 
 empty_nil : (p : Prog) → (tidied p).empty ≡ is_nil p
 empty_nil p = ap (λ (t : Tidied). t.empty) (fold_out-Prog Tidied Tidied tidied_step (λ w. w.left) p) ∙ empty_layer (out-Prog p)
@@ -83,13 +70,7 @@ pair_tidy join j p q h k =
     (λ e. subst P (sym (right_by_nil join (out-Prog q) p q)) (if_tidy (is_nil q) p (join p q) h (λ f. j p q ∙ parts_tidy p q e f h k))))
 
 ignores : IgnoresPut Tidied Tidied tidied_step (λ w. w.left)
-ignores = record {
-  act_same = λ action args put. refl;
-  test_same = λ c put. refl;
-  if_same = λ c put a b. refl;
-  while_same = λ c put a. refl;
-  call_same = λ item args put. refl;
-}
+ignores = record { act_same = λ action args put. refl; test_same = λ c put. refl; if_same = λ c put a b. refl; while_same = λ c put a. refl; call_same = λ item args put. refl }
 
 tidy_put : (p : Prog) (x c : ℕ) → is_tidy (put_arg p x c) ≡ is_tidy p
 tidy_put p x c = ap of_tidied (fold-put Tidied Tidied tidied_step (λ w. w.left) ignores p (Some (x, c)))

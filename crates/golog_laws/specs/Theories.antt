@@ -12,24 +12,13 @@ use Rattle.golog_tree.specs.declared.cond.Cond.TheVariants as cond
 use Rattle.golog_tree.specs.declared.prog.Prog.{Prog}
 use Rattle.golog_tree.specs.declared.prog.Prog.TheVariants as prog
 use Rattle.golog_tree.specs.Ground.{numbered}
+use Rattle.golog_semantics.specs.NoAgent.{no_agent}
 use Rattle.golog_semantics.specs.Text.{Text}
 use Rattle.golog_semantics.specs.BuiltIn.{bool_item, interrupts_running, own_action, start_interrupts, stop_interrupts, sets_running}
 
 -- no items of its own
 abbrev plain : List ℕ → Prog → Agent
-plain starts main = record {
-  sorts = [];
-  fluents = [];
-  actions = [];
-  firsts = record { fluents = []; actions = [] };
-  devices = [];
-  poss = [];
-  causes = [];
-  senses = [];
-  starts = starts;
-  procs = [];
-  main = main;
-}
+plain starts main = record no_agent { starts = starts; main = main }
 
 -- what is built in stands before a theory's own items
 abbrev built : Agent → Agent

@@ -20,10 +20,10 @@ use Rattle.golog_check.specs.Scope.{Scope, meaning}
 use Rattle.golog_check.specs.Terms.{is_other, arg_sort, arg_as, arg_in, next_arg, args_in}
 use Rattle.golog_check.specs.CheckLaws.{signature_of}
 use Rattle.golog_check.proofs.Readings.{both, past, found-it, ok-same}
-use Rattle.golog_check.proofs.ArgLaws.{some-same, none-not}
+use Rattle.golog_check.proofs.ArgLaws.{get-middle, some-same, none-not}
 use Rattle.golog_check.proofs.TermLaws.{not-false}
 use Rattle.golog_refusals.specs.Says.{same_arg, arg_says, args_say}
-use Rattle.golog_refusals.proofs.Taking.{never, past-by, then-by, same-arg-is, same-arg-itself, get-middle, longer}
+use Rattle.golog_refusals.proofs.Taking.{never, past-by, then-by, same-arg-is, same-arg-itself, longer}
 
 -- what the draft says is of the sort, and is what it is taken for
 word-taken : (sort at : ℕ) (o : Option Meant) (a : Arg)

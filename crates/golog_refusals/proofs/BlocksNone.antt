@@ -1,6 +1,6 @@
 -- Of the blocks of a draft that says programs which fit, nothing is refused.
-use Rattle.std.proofs.Common.{◌≡◌, ℕ, ℤ, pos, Bool, true, false, ◌&&◌, ◌||◌, ◌==◌, List, [], ◌∷◌, ◌++◌, map, Option, Some, None, refl, sym, ap, subst, ◌∙◌}
-use Rattle.std.specs.Prelude.{not, unwrap_or, slice_get}
+use Rattle.std.proofs.Common.{◌≡◌, ℕ, ℤ, pos, Bool, true, false, ◌&&◌, ◌||◌, ◌==◌, List, [], ◌∷◌, ◌++◌, map, refl, sym, ap, subst, ◌∙◌}
+use Rattle.std.specs.Prelude.{not, slice_get}
 use Rattle.std.specs.List.{flat_map, list_any, list_all}
 use Rattle.std.specs.Option.{option_map_or}
 use Rattle.std.specs.Ordering.{int_eq}
@@ -29,8 +29,8 @@ use Rattle.golog_semantics.specs.ProgFits.{Position, outermost, within_binder, w
 use Rattle.golog_semantics.specs.WellFormed.{are_sorts, proc_fits}
 use Rattle.golog_semantics.specs.Written.{is_written_prog}
 use Rattle.golog_semantics.proofs.Tests.{and_both, and_cases}
-use Rattle.golog_check.specs.declared.programs.Join.{Join}
-use Rattle.golog_check.specs.declared.programs.Join.TheVariants.{Seq as InSeq, Choice as InChoice, Conc as InConc, Prio as InPrio}
+use Rattle.golog_tree.specs.declared.join.Join.{Join}
+use Rattle.golog_tree.specs.declared.join.Join.TheVariants.{Seq as InSeq, Choice as InChoice, Conc as InConc, Prio as InPrio}
 use Rattle.golog_check.specs.DeclaredItems.{Declared, param_sorts}
 use Rattle.golog_check.specs.Sorts as sorts
 use Rattle.golog_check.specs.Scope.{Scope, variable_no, within}
@@ -39,16 +39,13 @@ use Rattle.golog_check.specs.Unguarded.{said, refused_where}
 use Rattle.golog_check.specs.DraftBlocks.{Blocks, blocks_step, blocks_of, block_refusals, refused_step, numbers_fit, of_each}
 use Rattle.golog_check.specs.Fronts.{draft_has_step, draft_has}
 use Rattle.golog_check.proofs.BlockLaws.{told-has}
+use Rattle.golog_check.proofs.Fores.{said-block}
 use Rattle.golog_refusals.specs.Says.{Layer, ProgSays, args_say, cond_says, parts_say, prog_says_layer, prog_says_step, prog_says}
 use Rattle.golog_refusals.specs.SaysAgent.{AreSaid, proc_says}
 use Rattle.golog_refusals.proofs.ProgLevels.{two-level, level_fits, fits-level, fits-two}
 
 pub none-both : {A : Type 0} (xs ys : List A) → xs ≡ [] → ys ≡ [] → (xs ++ ys) ≡ []
 none-both xs ys e k = ap (λ zs. zs ++ ys) e ∙ k
-
-said-block : (o : Option Bool) → option_map_or (λ has. has) o false ≡ unwrap_or o false
-said-block None = refl
-said-block (Some has) = refl
 
 not-both : (b : Bool) → not b ≡ true → b ≡ true → ⊥
 not-both true h e = false≢true h

@@ -13,7 +13,7 @@ use Rattle.golog_tree.specs.declared.draft.DraftTheory.{DraftTheory}
 use Rattle.golog_tree.specs.declared.draft.DraftProgram.{DraftProgram}
 use Rattle.golog_tree.specs.declared.draft.DraftAction.{DraftAction}
 use Rattle.golog_tree.specs.declared.draft.DraftCause.{DraftCause}
-use Rattle.golog_rows.specs.Reading.{Reading, gives, ◌>>=◌}
+use Rattle.golog_rows.specs.Reading.{Reading}
 use Rattle.golog_rows.specs.Least.{CodeAt}
 use Rattle.golog_semantics.specs.Fits.{bound_from, term_fits, cond_fits}
 use Rattle.golog_semantics.specs.Written.{is_written_term, is_written_cond}
@@ -26,11 +26,10 @@ use Rattle.golog_check.specs.Sorts.{fluent_sorts, action_sorts}
 use Rattle.golog_check.specs.Terms.{term_in}
 use Rattle.golog_check.specs.Conditions.{cond_in}
 use Rattle.golog_check.specs.Starts.{own_sort}
-use Rattle.golog_check.specs.Heads.{head_from}
 use Rattle.golog_check.specs.Effects.{head_within, cause_in}
 use Rattle.golog_check.specs.CheckLaws.{HasItems}
 use Rattle.golog_check.specs.Check.{names_of}
-use Rattle.golog_check.proofs.Readings.{both, ok-same}
+use Rattle.golog_check.proofs.CauseParts.{cause_of, made, with_term, with_heads, fluent_head, with_action, action_head, cause-is}
 use Rattle.golog_check.proofs.ArgLaws.{same-number}
 use Rattle.golog_check.proofs.MadeActions.{same-signature}
 use Rattle.golog_refusals.specs.Says.{term_says, cond_says}
@@ -41,16 +40,6 @@ use Rattle.golog_refusals.proofs.TermsSaid.{term-taken, term-said}
 use Rattle.golog_refusals.proofs.CondsTaken.{cond-taken}
 use Rattle.golog_refusals.proofs.CondsSaid.{cond-said}
 use Rattle.golog_refusals.proofs.HeadsSaid.{head_of, head-taken, head-said}
-
-abbrev cause_of : DraftCause → List Arg → List Arg → Term → Cond → CauseItem
-cause_of item action_args fluent_args term cond = record {
-  action = item.action;
-  action_args = action_args;
-  fluent = item.fluent;
-  fluent_args = fluent_args;
-  term = term;
-  cond = cond;
-}
 
 cause-same : (item : DraftCause) (y : CauseItem) → y.action ≡ item.action → y.fluent ≡ item.fluent
     → ◌≡◌ {A = Result CauseItem CodeAt} (Ok (cause_of item y.action_args y.fluent_args y.term y.cond)) (Ok y)
@@ -69,27 +58,6 @@ action-arity (x ∷ items) zero count holds h =
 action-arity (x ∷ items) (suc action) count holds h = action-arity items action count holds h
 
 module _ (names : Declared) where
-  -- what is read of an effect behind its parts
-  abbrev made : DraftCause → Head → Head → Term → Cond → Reading CauseItem
-  made item action fluent term cond = gives (cause_of item action.args fluent.args term cond)
-
-  abbrev with_term : DraftCause → Head → Head → Term → Reading CauseItem
-  with_term item action fluent term =
-      cond_in names item.cond fluent.scope >>= λ (c : Cond). made item action fluent term c
-
-  abbrev with_heads : DraftCause → Head → Head → Reading CauseItem
-  with_heads item action fluent =
-      term_in names fluent.scope (own_sort names item.fluent) item.term >>= λ (t : Term). with_term item action fluent t
-
-  abbrev fluent_head : DraftCause → Head → Reading Head
-  fluent_head item action = head_from names (head_within action.scope) (fluent_sorts names item.fluent) item.fluent_args
-
-  abbrev with_action : DraftCause → Head → Reading CauseItem
-  with_action item action = fluent_head item action >>= λ (f : Head). with_heads item action f
-
-  abbrev action_head : DraftCause → Reading Head
-  action_head item = head_from names (head_within []) (action_sorts names item.action) item.action_args
-
   -- what an effect is, by its term and its condition
   cause-by : (item : DraftCause) (y : CauseItem) → cause_says names item y ≡ true
       → (term_in names (cause_scope names item) (own_sort names item.fluent) item.term).outcome ≡ Ok y.term
@@ -106,47 +74,14 @@ module _ (names : Declared) where
       let w = and_cases (y.action == item.action) (y.fluent == item.fluent) v.0 in
       let first = head_of y.action_args before in
       let second = head_of y.fluent_args scope in
-      then-by (action_head item) (λ (a : Head). with_action item a) first
+      then-by (action_head names item) (λ (a : Head). with_action names item a) first
       (head-taken names (action_sorts names item.action) item.action_args y.action_args (head_within []) v.1)
-      ∙ then-by (fluent_head item first) (λ (f : Head). with_heads item first f) second
+      ∙ then-by (fluent_head names item first) (λ (f : Head). with_heads names item first f) second
       (head-taken names sorts item.fluent_args y.fluent_args (head_within before) u.1)
       ∙ then-by (term_in names scope (own_sort names item.fluent) item.term)
-      (λ (x : Term). with_term item first second x) y.term term
-      ∙ then-by (cond_in names item.cond scope) (λ (c : Cond). made item first second y.term c) y.cond cond
+      (λ (x : Term). with_term names item first second x) y.term term
+      ∙ then-by (cond_in names item.cond scope) (λ (c : Cond). made names item first second y.term c) y.cond cond
       ∙ cause-same item y (eqb-true y.action item.action w.0) (eqb-true y.fluent item.fluent w.1)
-
-  -- the readings of which an effect is made
-  record IsCause (item : DraftCause) (y : CauseItem) : Type 0 where
-    action : Head
-    fluent : Head
-    term : Term
-    cond : Cond
-    action_read : (action_head item).outcome ≡ Ok action
-    fluent_read : (fluent_head item action).outcome ≡ Ok fluent
-    term_read : (term_in names fluent.scope (own_sort names item.fluent) item.term).outcome ≡ Ok term
-    cond_read : (cond_in names item.cond fluent.scope).outcome ≡ Ok cond
-    is : ◌≡◌ {A = CauseItem} (cause_of item action.args fluent.args term cond) y
-
-  cause-is : (item : DraftCause) (y : CauseItem) → (cause_in names item).outcome ≡ Ok y → IsCause item y
-  unfolding cause_in
-  cause-is item y h =
-      let a = both (action_head item) (λ (a : Head). with_action item a) y h in
-      let f = both (fluent_head item a.value) (λ (f : Head). with_heads item a.value f) y a.other in
-      let t = both (term_in names f.value.scope (own_sort names item.fluent) item.term)
-      (λ (x : Term). with_term item a.value f.value x) y f.other in
-      let c = both (cond_in names item.cond f.value.scope)
-      (λ (c : Cond). made item a.value f.value t.value c) y t.other in
-      record {
-        action = a.value;
-        fluent = f.value;
-        term = t.value;
-        cond = c.value;
-        action_read = a.one;
-        fluent_read = f.one;
-        term_read = t.one;
-        cond_read = c.one;
-        is = ok-same (cause_of item a.value.args f.value.args t.value c.value) y c.other;
-      }
 
   module _ (agent : Agent) (has : HasItems agent names) where
     -- an effect of the agent, within whichever variables its heads bind

@@ -18,8 +18,8 @@ use Rattle.golog_tree.specs.declared.draft_cond.DraftCond.TheOpen.{DraftCond-F}
 use Rattle.golog_tree.specs.declared.draft_cond.DraftCond.TheViews.{roll-DraftCond}
 use Rattle.golog_tree.specs.declared.draft_cond.DraftCond.TheFolds.{fold-roll-DraftCond, ind-DraftCond, map-DraftCond}
 use Rattle.golog_rows.specs.Reading.{gives, row, ◌>>=◌, found, each}
-use Rattle.golog_semantics.specs.Fits.{bool_sort, is_sort, nothing_bound}
-use Rattle.golog_semantics.specs.WellFormed.{WellFormed, are_sorts, fluent_item_fits}
+use Rattle.golog_semantics.specs.Fits.{bool_sort, nothing_bound}
+use Rattle.golog_semantics.specs.WellFormed.{WellFormed}
 use Rattle.golog_semantics.proofs.Tests.{and_both, and_cases}
 use Rattle.golog_draft.specs.Drafts.{fluent_keeps, term_keeps, binder_keeps, cond_keeps, cond_keeps_step, AgentCondKeeps}
 use Rattle.golog_check.specs.declared.terms.Sides.{Sides}
@@ -31,38 +31,34 @@ use Rattle.golog_check.specs.Scope.{Scope, variable_no, within}
 use Rattle.golog_check.specs.Terms.{is_other, args_in, term_place, term_sort, term_as, common, sides_in}
 use Rattle.golog_check.specs.Conditions.{InScope, conds_in, is_in, cond_step, cond_in}
 use Rattle.golog_check.specs.CheckLaws.{HasItems, signature_of}
+use Rattle.golog_check.proofs.Asked.{fluents-sorted}
+use Rattle.golog_check.proofs.CondLaws.{own-no-other}
 use Rattle.golog_check.proofs.Readings.{both, past, found-it, ok-same}
 use Rattle.golog_check.proofs.ArgLaws.{some-same, none-not, same-number}
+use Rattle.golog_check.proofs.Layers.{in-cond, keeps-cond}
 use Rattle.golog_refusals.specs.Says.{args_say, term_says, CondSays, conds_say, bound_says, cond_says_step, cond_says}
 use Rattle.golog_refusals.specs.RefusalLaws.{CondsSay, CondsAreSaid}
 use Rattle.golog_refusals.proofs.ArgsSaid.{args-said, arity}
 use Rattle.golog_refusals.proofs.TermsSaid.{says}
-use Rattle.golog_refusals.proofs.CondsTaken.{sides_of, says-roll, in-roll, one_in, cond-taken}
-
-itself : (sort : ℕ) → is_other (Some sort) sort ≡ false
-itself sort = ap not (same-number sort)
+use Rattle.golog_refusals.proofs.CondsTaken.{sides_of, says-roll, one_in, cond-taken}
 
 common-said : (one other : Option ℕ) (sort : ℕ) → common one other ≡ Some sort
     → (is_other one sort ≡ false) × (is_other other sort ≡ false)
 common-said None None sort h = absurd (none-not sort h)
-common-said None (Some o) sort h = (refl, ap (λ (n : ℕ). is_other (Some n) sort) (some-same o sort h) ∙ itself sort)
-common-said (Some o) None sort h = (ap (λ (n : ℕ). is_other (Some n) sort) (some-same o sort h) ∙ itself sort, refl)
+common-said None (Some o) sort h = (refl, ap (λ (n : ℕ). is_other (Some n) sort) (some-same o sort h) ∙ own-no-other sort)
+common-said (Some o) None sort h = (ap (λ (n : ℕ). is_other (Some n) sort) (some-same o sort h) ∙ own-no-other sort, refl)
 common-said (Some o) (Some p) sort h = go (o == p) refl h
   where
     go : (b : Bool) → (o == p) ≡ b → (if b then Some o else None) ≡ Some sort
         → (is_other (Some o) sort ≡ false) × (is_other (Some p) sort ≡ false)
     go true e k =
         let is = some-same o sort k in (
-          ap (λ (n : ℕ). is_other (Some n) sort) is ∙ itself sort,
-          ap (λ (n : ℕ). is_other (Some n) sort) (sym (eqb-true o p e) ∙ is) ∙ itself sort,
+          ap (λ (n : ℕ). is_other (Some n) sort) is ∙ own-no-other sort,
+          ap (λ (n : ℕ). is_other (Some n) sort) (sym (eqb-true o p e) ∙ is) ∙ own-no-other sort,
         )
     go false e k = absurd (none-not sort k)
 
 module _ (names : Declared) where
-  keeps-roll : (l : DraftCond-F DraftCond) → cond_keeps (signature_of names) (roll-DraftCond l)
-      ≡ cond_keeps_step (signature_of names) (map-DraftCond DraftCond (ℕ → Bool) (cond_keeps (signature_of names)) l)
-  keeps-roll l = fold-roll-DraftCond (ℕ → Bool) (cond_keeps_step (signature_of names)) l
-
   abbrev pub Says : DraftCond → Type 0
   Says d = (scope : Scope) (n : ℕ) (c : Cond) → cond_keeps (signature_of names) d n ≡ true
       → (cond_in names d scope).outcome ≡ Ok c → cond_says names d scope c ≡ true
@@ -257,8 +253,8 @@ module _ (names : Declared) where
   says-layer y scope n c keeps h =
       let l = sayings_of y in
       says-roll names l scope c
-      ∙ layer-said scope n y c (sym (ap (λ (g : ℕ → Bool). g n) (keeps-roll l)) ∙ keeps)
-      (ap (λ (f : InScope). (f scope).outcome) (sym (in-roll names l)) ∙ h)
+      ∙ layer-said scope n y c (sym (ap (λ (g : ℕ → Bool). g n) (keeps-cond (signature_of names) l)) ∙ keeps)
+      (ap (λ (f : InScope). (f scope).outcome) (sym (in-cond names l)) ∙ h)
 
   conds-said : (d : DraftCond) → Says d
   conds-said = ind-DraftCond Says (λ x y is. subst (λ l. Says (roll-DraftCond l)) is (says-layer y))
@@ -267,15 +263,6 @@ pub cond-said : (names : Declared) (draft : DraftCond) (scope : Scope) (n : ℕ)
     → IsTrue (cond_keeps (signature_of names) draft n) → (c : Cond)
     → (cond_in names draft scope).outcome ≡ Ok c → IsTrue (cond_says names draft scope c)
 cond-said names draft scope n keeps c h = conds-said names draft scope n c keeps h
-
--- what a well-formed agent declares
-fluents-sorted : (agent : Agent) (items : List FluentItem) → list_all (fluent_item_fits agent) items ≡ true
-    → list_all (λ (item : FluentItem). is_sort agent item.sort) items ≡ true
-fluents-sorted agent [] h = h
-fluents-sorted agent (i ∷ items) h =
-    let k = and_cases (fluent_item_fits agent i) (list_all (fluent_item_fits agent) items) h in
-    and_both (is_sort agent i.sort) (list_all (λ (item : FluentItem). is_sort agent item.sort) items)
-    (and_cases (are_sorts agent i.args) (is_sort agent i.sort) k.0).1 (fluents-sorted agent items k.1)
 
 -- an agent has the items of its own sorts and fluents
 pub has-own : (agent : Agent) (names : Declared) → agent.sorts ≡ names.sorts → agent.fluents ≡ names.fluents

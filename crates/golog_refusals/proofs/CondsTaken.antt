@@ -21,7 +21,7 @@ use Rattle.golog_tree.specs.declared.draft_cond.DraftCond.TheFolds.{fold-roll-Dr
 use Rattle.golog_rows.specs.Reading.{Reading, gives, row, ◌>>=◌, found, each}
 use Rattle.golog_semantics.specs.Fits as fits
 use Rattle.golog_semantics.specs.Fits.{bool_sort, is_sort, is_range, fluent_fits, term_fits, cond_fits}
-use Rattle.golog_semantics.specs.Written.{Wording, written_sides, written_cond_step, written_term_step, is_written_cond}
+use Rattle.golog_semantics.specs.Written.{Wording, written_sides, written_cond_step, is_written_cond}
 use Rattle.golog_semantics.proofs.Tests.{and_cases}
 use Rattle.golog_check.specs.declared.terms.Sides.{Sides}
 use Rattle.golog_check.specs.Codes.{SORT_CLASH}
@@ -33,7 +33,8 @@ use Rattle.golog_check.specs.Terms.{is_other, args_in, term_place, term_sort, te
 use Rattle.golog_check.specs.Conditions.{InScope, conds_in, is_in, cond_step, cond_in}
 use Rattle.golog_check.specs.CheckLaws.{HasItems}
 use Rattle.golog_check.proofs.ArgLaws.{no-other}
-use Rattle.golog_check.proofs.TermLaws.{wording, same-range}
+use Rattle.golog_check.proofs.TermLaws.{same-range}
+use Rattle.golog_check.proofs.Layers.{fits-cond, in-cond, written-cond, wording}
 use Rattle.golog_refusals.specs.Says.{args_say, term_says, CondSays, conds_say, bound_says, cond_says_step, cond_says}
 use Rattle.golog_refusals.proofs.Taking.{never, past-by, then-by}
 use Rattle.golog_refusals.proofs.ArgsSaid.{args-taken}
@@ -68,24 +69,10 @@ module _ (names : Declared) where
       ap (λ (f : CondSays). f scope c)
       (fold-roll-DraftCond CondSays (λ layer scope c. cond_says_step names layer scope (out-Cond c)) l)
 
-  pub in-roll : (l : DraftCond-F DraftCond) → cond_in names (roll-DraftCond l)
-      ≡ cond_step names (map-DraftCond DraftCond InScope (cond_in names) l)
-  in-roll l = fold-roll-DraftCond InScope (cond_step names) l
-
   abbrev pub one_in : Scope → List Cond → InScope → Reading Cond
   one_in scope before f = f scope
 
 module _ (agent : Agent) (names : Declared) (has : HasItems agent names) where
-  fits-roll : (l : Cond-F Cond Term) → cond_fits agent (roll-Cond l)
-      ≡ fits.cond_step agent
-      (map-Cond Cond Term (fits.Scope → Bool) (fits.Scope → ℕ → Bool) (cond_fits agent) (term_fits agent) l)
-  fits-roll l =
-      fold-roll-Cond (fits.Scope → Bool) (fits.Scope → ℕ → Bool) (fits.cond_step agent) (fits.term_step agent) l
-
-  written-roll : (l : Cond-F Cond Term) → is_written_cond agent (roll-Cond l)
-      ≡ written_cond_step agent (map-Cond Cond Term (ℕ → Bool) Wording (is_written_cond agent) (wording agent) l)
-  written-roll l = fold-roll-Cond (ℕ → Bool) Wording (written_cond_step agent) (written_term_step agent) l
-
   abbrev pub Takes : DraftCond → Type 0
   Takes d = (bound : fits.Scope) (scope : Scope) (n : ℕ) (c : Cond) → cond_says names d scope c ≡ true
       → cond_fits agent c bound ≡ true
@@ -288,11 +275,11 @@ module _ (agent : Agent) (names : Declared) (has : HasItems agent names) where
       let l = drafts_of y in
       let k = out-Cond c in
       let back = roll-out-Cond c in
-      ap (λ (f : InScope). (f scope).outcome) (in-roll names l)
+      ap (λ (f : InScope). (f scope).outcome) (in-cond names l)
       ∙ layer bound scope n y k (sym (says-roll names l scope c) ∙ h)
-      (sym (ap (λ (f : fits.Scope → Bool). f bound) (fits-roll k))
+      (sym (ap (λ (f : fits.Scope → Bool). f bound) (fits-cond agent k))
       ∙ ap (λ (x : Cond). cond_fits agent x bound) back ∙ fit)
-      (sym (ap (λ (f : ℕ → Bool). f n) (written-roll k)) ∙ ap (λ (x : Cond). is_written_cond agent x n) back ∙ written)
+      (sym (ap (λ (f : ℕ → Bool). f n) (written-cond agent k)) ∙ ap (λ (x : Cond). is_written_cond agent x n) back ∙ written)
       ∙ ap Ok back
 
   conds-taken : (d : DraftCond) → Takes d

@@ -26,10 +26,6 @@ pub one-said : {D A : Type 0} (says : D → A → Bool) (d : D) (o : Result A Co
 one-said says d (Ok x) rest ds xs said more none = (said x refl, more none)
 one-said says d (Err refusal) rest ds xs said more none = absurd (cc)
 
-pub all-true : {A : Type 0} (xs : List A) → list_all (λ _. true) xs ≡ true
-all-true [] = refl
-all-true (x ∷ xs) = all-true xs
-
 module _ {D A : Type 0} (read : D → Reading A) (says : D → A → Bool) (keep : D → Bool) where
   -- where each draft is taken for the item that it says, none is refused, and they give these items
   pub all-taken : (fit : A → Bool)

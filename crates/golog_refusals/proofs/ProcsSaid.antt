@@ -38,9 +38,10 @@ use Rattle.golog_check.proofs.BlockLaws.{blocks-kept}
 use Rattle.golog_check.proofs.Transfer.{AllAlike, same-blocks}
 use Rattle.golog_check.proofs.ShapeLaws.{proc-is, procs-alike}
 use Rattle.golog_check.proofs.Nests.{nests-same}
+use Rattle.golog_check.proofs.MadePrograms.{all-true}
 use Rattle.golog_refusals.specs.Says.{prog_says}
 use Rattle.golog_refusals.specs.SaysAgent.{AreSaid, proc_says}
-use Rattle.golog_refusals.proofs.ItemsSaid.{Give, all-true, all-taken, one-said}
+use Rattle.golog_refusals.proofs.ItemsSaid.{Give, all-taken, one-said}
 use Rattle.golog_refusals.proofs.ProgLevels.{then-gives}
 use Rattle.golog_refusals.proofs.ProgsTaken.{prog-taken}
 use Rattle.golog_refusals.proofs.ProgsSaid.{prog-said}

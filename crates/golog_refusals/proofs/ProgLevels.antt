@@ -14,8 +14,8 @@ use Rattle.golog_semantics.specs.ProgFits as fitting
 use Rattle.golog_semantics.specs.ProgFits.{Position, prog_fits}
 use Rattle.golog_semantics.specs.Written.{written_prog_step, is_written_prog}
 use Rattle.golog_semantics.proofs.Tests.{and_cases}
-use Rattle.golog_check.specs.declared.programs.Join.{Join}
-use Rattle.golog_check.specs.declared.programs.Join.TheVariants.{Seq as InSeq, Choice as InChoice, Conc as InConc, Prio as InPrio}
+use Rattle.golog_tree.specs.declared.join.Join.{Join}
+use Rattle.golog_tree.specs.declared.join.Join.TheVariants.{Seq as InSeq, Choice as InChoice, Conc as InConc, Prio as InPrio}
 use Rattle.golog_check.specs.Programs.{joined}
 use Rattle.golog_check.specs.ProgramLaws.{IsProgOf}
 use Rattle.golog_refusals.specs.Says.{Layer, is_nil, two_of}
@@ -108,16 +108,12 @@ module _ (agent : Agent) where
   pub fits-two : (join : Join) (p q : Prog) (at : Position) → level_fits (join_level join p q) at ≡ true
       → (prog_fits agent p at ≡ true) × (prog_fits agent q at ≡ true)
   fits-two InSeq p q at h = and_cases (prog_fits agent p at) (prog_fits agent q at) h
-  fits-two InChoice p q at h = and_cases (prog_fits agent p at) (prog_fits agent q at) h
-  fits-two InConc p q at h = and_cases (prog_fits agent p at) (prog_fits agent q at) h
-  fits-two InPrio p q at h = and_cases (prog_fits agent p at) (prog_fits agent q at) h
+  fits-two _ p q at h = and_cases (prog_fits agent p at) (prog_fits agent q at) h
 
   written-two : (join : Join) (p q : Prog) (n : ℕ) → level_written (join_level join p q) n ≡ true
       → (is_written_prog agent p n ≡ true) × (is_written_prog agent q n ≡ true)
   written-two InSeq p q n h = and_cases (is_written_prog agent p n) (is_written_prog agent q n) h
-  written-two InChoice p q n h = and_cases (is_written_prog agent p n) (is_written_prog agent q n) h
-  written-two InConc p q n h = and_cases (is_written_prog agent p n) (is_written_prog agent q n) h
-  written-two InPrio p q n h = and_cases (is_written_prog agent p n) (is_written_prog agent q n) h
+  written-two _ p q n h = and_cases (is_written_prog agent p n) (is_written_prog agent q n) h
 
   -- the two parts of a program that fits
   pub two-of : (join : Join) (p q whole : Prog) (at : Position) (n : ℕ) → out-Prog whole ≡ join_level join p q

@@ -31,22 +31,22 @@ use Rattle.golog_rows.specs.Reading.{Reading, gives, ◌>>=◌, each}
 use Rattle.golog_semantics.specs.Ways.{is_empty}
 use Rattle.golog_semantics.specs.ProgFits.{is_between, depth_limit, fuel_limit}
 use Rattle.golog_semantics.proofs.Tests.{and_both, and_cases}
-use Rattle.golog_draft.specs.Drafts.{Signature, signature, binder_keeps, cond_keeps, act_keeps, call_keeps, prog_keeps, prog_keeps_step}
-use Rattle.golog_check.specs.declared.programs.Join.{Join}
-use Rattle.golog_check.specs.declared.programs.Join.TheVariants.{Seq as InSeq, Choice as InChoice, Conc as InConc, Prio as InPrio}
-use Rattle.golog_check.specs.DeclaredItems.{Declared, declared_by, sort_item, fluent_item, action_item, param_sorts}
+use Rattle.golog_draft.specs.Drafts.{signature, binder_keeps, cond_keeps, prog_keeps, prog_keeps_step}
+use Rattle.golog_tree.specs.declared.join.Join.{Join}
+use Rattle.golog_tree.specs.declared.join.Join.TheVariants.{Seq as InSeq, Choice as InChoice, Conc as InConc, Prio as InPrio}
+use Rattle.golog_check.specs.DeclaredItems.{Declared, declared_by, action_item, param_sorts}
 use Rattle.golog_check.specs.Sorts as sorts
 use Rattle.golog_check.specs.Scope.{Scope, variable_no, within}
 use Rattle.golog_check.specs.Terms.{args_in}
 use Rattle.golog_check.specs.Conditions.{cond_in}
 use Rattle.golog_check.specs.Programs.{InScope, nested, progs_in, parts_in, with_no, with_body, prog_step, prog_in}
-use Rattle.golog_check.specs.CheckLaws.{signature_of}
 use Rattle.golog_check.specs.ProgramLaws.{blocks_step, blocks_keep}
 use Rattle.golog_check.proofs.Readings.{both, ok-same}
 use Rattle.golog_check.proofs.ArgLaws.{same-number}
 use Rattle.golog_refusals.specs.Says.{Layer, ProgSays, args_say, cond_says, is_nil, parts_say, prog_says_layer, prog_says_step, prog_says}
 use Rattle.golog_refusals.proofs.ArgsSaid.{args-said}
 use Rattle.golog_refusals.proofs.CondsSaid.{cond-said}
+use Rattle.golog_check.proofs.Signatures.{declared-signature}
 use Rattle.golog_refusals.proofs.ProgLevels.{two-joined}
 
 -- a number from 1 on is the count that it is taken for
@@ -57,21 +57,6 @@ count-same (negsuc n) limit h = absurd (false≢true h)
 module _ (theory : DraftTheory) (procs : List DraftProc) (has_block : ℕ → Bool) where
   abbrev names : Declared
   names = declared_by theory procs
-
-  abbrev of_parts : ℕ → List ℕ → Signature
-  of_parts n arities = record { sorts = n; arities = arities }
-
-  same-arities : (items : List DraftFluent)
-      → map (λ (i : DraftFluent). length i.args) items ≡ map (λ (i : FluentItem). length i.args)
-      (map fluent_item items)
-  same-arities [] = refl
-  same-arities (i ∷ items) = ap (λ ns. length i.args ∷ ns) (same-arities items)
-
-  same-signature : signature theory ≡ signature_of names
-  same-signature =
-      ap (λ n. of_parts n (map (λ (i : DraftFluent). length i.args) theory.fluents))
-      (sym (length-map theory.sorts sort_item))
-      ∙ ap (of_parts (length (map sort_item theory.sorts))) (same-arities theory.fluents)
 
   -- as many arguments as are declared
   action-long : (n : ℕ) (items : List DraftAction) (action : ℕ)
@@ -188,142 +173,15 @@ module _ (theory : DraftTheory) (procs : List DraftProc) (has_block : ℕ → Bo
 
     cond-of : (d : DraftCond) (c : Cond) → cond_keeps (signature theory) d n ≡ true
         → (cond_in names d scope).outcome ≡ Ok c → cond_says names d scope c ≡ true
-    cond-of d c k h = cond-said names d scope n (ap (λ s. cond_keeps s d n) (sym same-signature) ∙ k) c h
+    cond-of d c k h = cond-said names d scope n (ap (λ s. cond_keeps s d n) (declared-signature theory procs) ∙ k) c h
 
-    act-told : (action : ℕ) (drafts : List DraftArg) (at : ℕ) (p : Prog) → act_keeps theory procs action drafts ≡ true
-        → (args_in names scope (sorts.action_sorts names action) drafts >>= λ args. gives
-        (prog.Act action args)).outcome ≡ Ok p → says (draft.Act action drafts at) (out-Prog p) ≡ true
-    act-told action drafts at p k h =
-        let b =
-        both (args_in names scope (sorts.action_sorts names action) drafts) (λ args. gives (prog.Act action args)) p h
-        in
-        told-by (draft.Act action drafts at) (Act action b.value) (prog.Act action b.value) p
-        (prog.outs-Act action b.value) (ok-same (prog.Act action b.value) p b.other)
-        (and_both (action == action) (args_say names scope (sorts.action_sorts names action) drafts b.value)
-        (same-number action)
-        (args-said names scope (sorts.action_sorts names action) drafts b.value
-        (action-long (length drafts) theory.actions action k) b.one))
-
-    call-told : (callee : ℕ) (drafts : List DraftArg) (at : ℕ) (p : Prog)
-        → call_keeps theory procs callee drafts ≡ true
-        → (args_in names scope (sorts.param_sorts names callee) drafts >>= λ args. gives
-        (prog.Call callee args)).outcome ≡ Ok p → says (draft.Call callee drafts at) (out-Prog p) ≡ true
-    call-told callee drafts at p k h =
-        let b =
-        both (args_in names scope (sorts.param_sorts names callee) drafts) (λ args. gives (prog.Call callee args)) p h
-        in
-        told-by (draft.Call callee drafts at) (Call callee b.value) (prog.Call callee b.value) p
-        (prog.outs-Call callee b.value) (ok-same (prog.Call callee b.value) p b.other)
-        (and_both (callee == callee) (args_say names scope (sorts.param_sorts names callee) drafts b.value)
-        (same-number callee)
-        (args-said names scope (sorts.param_sorts names callee) drafts b.value
-        (params-long (length drafts) procs callee k) b.one))
-
-    test-told : (d : DraftCond) (at : ℕ) (p : Prog) → cond_keeps (signature theory) d n ≡ true
-        → (cond_in names d scope >>= λ c. gives (prog.Test c)).outcome ≡ Ok p
-        → says (draft.Test d at) (out-Prog p) ≡ true
-    test-told d at p k h =
-        let b = both (cond_in names d scope) (λ c. gives (prog.Test c)) p h in
-        told-by (draft.Test d at) (Test b.value) (prog.Test b.value) p (prog.outs-Test b.value)
-        (ok-same (prog.Test b.value) p b.other) (cond-of d b.value k b.one)
-
-    pick-told : (word : List ℕ) (sort : ℕ) (d : Tell) (at : ℕ) (p : Prog)
-        → (binder_keeps (signature theory) n sort && keep d.0 (n + 1)) ≡ true
-        → keep_blocks d.0 inside ≡ true
-        → (prog_in names d.0 (within word sort scope) >>= λ p. gives (prog.Pick (variable_no scope) sort p)).outcome ≡
-        Ok p
-        → says (draft.Pick word sort (prog_says names d.0) at) (out-Prog p) ≡ true
-    pick-told word sort d at p k j h =
-        let var = variable_no scope in
-        let b =
-        both (prog_in names d.0 (within word sort scope)) (λ p. gives (prog.Pick (variable_no scope) sort p)) p h in
-        let t = and_cases (binder_keeps (signature theory) n sort) (keep d.0 (n + 1)) k in
-        told-by (draft.Pick word sort (prog_says names d.0) at) (Pick var sort b.value) (prog.Pick var sort b.value) p
-        (prog.outs-Pick var sort b.value)
-        (ok-same (prog.Pick var sort b.value) p b.other)
-        (and_both (var == var && sort == sort) (prog_says names d.0 (within word sort scope) b.value)
-        (and_both (var == var) (sort == sort) (same-number var) (same-number sort))
-        (d.1 inside (n + 1) (within word sort scope) t.1 j b.value b.one))
-
-    star-told : (d : Tell) (at : ℕ) (p : Prog) → keep d.0 n ≡ true → keep_blocks d.0 inside ≡ true
-        → (prog_in names d.0 scope >>= λ p. gives (prog.Star p)).outcome ≡ Ok p
-        → says (draft.Star (prog_says names d.0) at) (out-Prog p) ≡ true
-    star-told d at p k j h =
-        let b = both (prog_in names d.0 scope) (λ p. gives (prog.Star p)) p h in
-        told-by (draft.Star (prog_says names d.0) at) (Star b.value) (prog.Star b.value) p (prog.outs-Star b.value)
-        (ok-same (prog.Star b.value) p b.other)
-        (d.1 inside n scope k j b.value b.one)
-
-    cstar-told : (d : Tell) (at : ℕ) (p : Prog) → keep d.0 n ≡ true → keep_blocks d.0 inside ≡ true
-        → (prog_in names d.0 scope >>= λ p. gives (prog.Cstar p)).outcome ≡ Ok p
-        → says (draft.Cstar (prog_says names d.0) at) (out-Prog p) ≡ true
-    cstar-told d at p k j h =
-        let b = both (prog_in names d.0 scope) (λ p. gives (prog.Cstar p)) p h in
-        told-by (draft.Cstar (prog_says names d.0) at) (Cstar b.value) (prog.Cstar b.value) p
-        (prog.outs-Cstar b.value) (ok-same (prog.Cstar b.value) p b.other)
-        (d.1 inside n scope k j b.value b.one)
-
-    if-told : (t : DraftCond) (d e : Tell) (at : ℕ) (p : Prog)
-        → ((cond_keeps (signature theory) t n && keep d.0 n) && keep e.0 n) ≡ true
-        → (keep_blocks d.0 inside && keep_blocks e.0 inside) ≡ true
-        → (cond_in names t scope >>= λ c. prog_in names d.0 scope >>= λ p. with_no c p
-        (prog_in names e.0 scope)).outcome ≡ Ok p
-        → says (draft.If t (prog_says names d.0) (prog_says names e.0) at) (out-Prog p) ≡ true
-    if-told t d e at p k j h =
-        let k1 = and_cases (cond_keeps (signature theory) t n && keep d.0 n) (keep e.0 n) k in
-        let k2 = and_cases (cond_keeps (signature theory) t n) (keep d.0 n) k1.0 in
-        let j1 = and_cases (keep_blocks d.0 inside) (keep_blocks e.0 inside) j in
-        let a =
-        both (cond_in names t scope) (λ c. prog_in names d.0 scope >>= λ p. with_no c p (prog_in names e.0 scope)) p h
-        in
-        let f = both (prog_in names d.0 scope) (λ p. with_no a.value p (prog_in names e.0 scope)) p a.other in
-        let g = both (prog_in names e.0 scope) (λ q. gives (prog.If a.value f.value q)) p f.other in
-        told-by (draft.If t (prog_says names d.0) (prog_says names e.0) at) (If a.value f.value g.value)
-        (prog.If a.value f.value g.value) p
-        (prog.outs-If a.value f.value g.value) (ok-same (prog.If a.value f.value g.value) p g.other)
-        (and_both (cond_says names t scope a.value && prog_says names d.0 scope f.value)
-        (prog_says names e.0 scope g.value)
-        (and_both (cond_says names t scope a.value) (prog_says names d.0 scope f.value) (cond-of t a.value k2.0 a.one)
-        (d.1 inside n scope k2.1 j1.0 f.value f.one))
-        (e.1 inside n scope k1.1 j1.1 g.value g.one))
-
-    while-told : (t : DraftCond) (d : Tell) (at : ℕ) (p : Prog)
-        → (cond_keeps (signature theory) t n && keep d.0 n) ≡ true → keep_blocks d.0 inside ≡ true
-        → (cond_in names t scope >>= λ c. with_body c (prog_in names d.0 scope)).outcome ≡ Ok p
-        → says (draft.While t (prog_says names d.0) at) (out-Prog p) ≡ true
-    while-told t d at p k j h =
-        let k1 = and_cases (cond_keeps (signature theory) t n) (keep d.0 n) k in
-        let a = both (cond_in names t scope) (λ c. with_body c (prog_in names d.0 scope)) p h in
-        let b = both (prog_in names d.0 scope) (λ p. gives (prog.While a.value p)) p a.other in
-        told-by (draft.While t (prog_says names d.0) at) (While a.value b.value) (prog.While a.value b.value) p
-        (prog.outs-While a.value b.value)
-        (ok-same (prog.While a.value b.value) p b.other)
-        (and_both (cond_says names t scope a.value) (prog_says names d.0 scope b.value) (cond-of t a.value k1.0 a.one)
-        (d.1 inside n scope k1.1 j b.value b.one))
-
-    search-told : (depth fuel : ℤ) (d : Tell) (at : ℕ) (p : Prog) → keep d.0 n ≡ true
-        → (((not inside && is_between 1 depth_limit (to_count depth)) && is_between 1 fuel_limit (to_count fuel)) &&
-        keep_blocks d.0 true) ≡ true
-        → (prog_in names d.0 scope >>= λ p. gives (prog.Search (to_count depth) (to_count fuel) p)).outcome ≡ Ok p
-        → says (draft.Search depth fuel (prog_says names d.0) at) (out-Prog p) ≡ true
-    search-told depth fuel d at p k j h =
-        let b = both (prog_in names d.0 scope) (λ p. gives (prog.Search (to_count depth) (to_count fuel) p)) p h in
-        let j1 =
-        and_cases ((not inside && is_between 1 depth_limit (to_count depth)) && is_between 1 fuel_limit
-        (to_count fuel)) (keep_blocks d.0 true) j in
-        let j2 =
-        and_cases (not inside && is_between 1 depth_limit (to_count depth)) (is_between 1 fuel_limit (to_count fuel))
-        j1.0 in
-        let j3 = and_cases (not inside) (is_between 1 depth_limit (to_count depth)) j2.0 in
-        told-by (draft.Search depth fuel (prog_says names d.0) at) (Search (to_count depth) (to_count fuel) b.value)
-        (prog.Search (to_count depth) (to_count fuel) b.value) p
-        (prog.outs-Search (to_count depth) (to_count fuel) b.value)
-        (ok-same (prog.Search (to_count depth) (to_count fuel) b.value) p b.other)
-        (and_both (int_eq depth (pos (to_count depth)) && int_eq fuel (pos (to_count fuel)))
-        (prog_says names d.0 scope b.value)
-        (and_both (int_eq depth (pos (to_count depth))) (int_eq fuel (pos (to_count fuel)))
-        (count-same depth depth_limit j3.1) (count-same fuel fuel_limit j2.1))
-        (d.1 true n scope k j1.1 b.value b.one))
+    -- a program that one reading gives
+    given-told : {A : Type 0} (reading : Reading A) (make : A → Prog) (level : A → Layer) (d : DraftProg-F ProgSays)
+        → ((x : A) → out-Prog (make x) ≡ level x) → (p : Prog) → (reading >>= λ x. gives (make x)).outcome ≡ Ok p
+        → ((x : A) → reading.outcome ≡ Ok x → says d (level x) ≡ true) → says d (out-Prog p) ≡ true
+    given-told reading make level d outs p h said =
+        let b = both reading (λ x. gives (make x)) p h in
+        told-by d (level b.value) (make b.value) p (outs b.value) (ok-same (make b.value) p b.other) (said b.value b.one)
 
     layer : (y : DraftProg-F Tell)
         → prog_keeps_step theory procs (map-DraftProg DraftProg (ℕ → Bool) keep (drafts_of y)) n ≡ true
@@ -332,19 +190,68 @@ module _ (theory : DraftTheory) (procs : List DraftProc) (has_block : ℕ → Bo
         → (prog_step names (map-DraftProg DraftProg InScope (prog_in names) (drafts_of y)) scope).outcome ≡ Ok p
         → prog_says_step names (map-DraftProg DraftProg ProgSays (prog_says names) (drafts_of y)) scope p ≡ true
     layer (draft.Nil at) k j p h = told-by (draft.Nil at) Nil prog.Nil p prog.outs-Nil (ok-same prog.Nil p h) refl
-    layer (draft.Act action args at) k j p h = act-told action args at p k h
-    layer (draft.Test c at) k j p h = test-told c at p k h
+    layer (draft.Act action drafts at) k j p h =
+        let own = sorts.action_sorts names action in
+        given-told (args_in names scope own drafts) (λ args. prog.Act action args) (λ args. Act action args)
+        (draft.Act action drafts at) (λ args. prog.outs-Act action args) p h (λ args e.
+        and_both (action == action) (args_say names scope own drafts args) (same-number action)
+        (args-said names scope own drafts args (action-long (length drafts) theory.actions action k) e))
+    layer (draft.Test d at) k j p h =
+        given-told (cond_in names d scope) (λ c. prog.Test c) (λ c. Test c) (draft.Test d at) (λ c. prog.outs-Test c) p h
+        (λ c e. cond-of d c k e)
     layer (draft.Seq ds at) k j p h = parts-told InSeq ds p k j h
     layer (draft.Choice ds at) k j p h = parts-told InChoice ds p k j h
-    layer (draft.Pick word sort d at) k j p h = pick-told word sort d at p k j h
-    layer (draft.Star d at) k j p h = star-told d at p k j h
-    layer (draft.If c d e at) k j p h = if-told c d e at p k j h
-    layer (draft.While c d at) k j p h = while-told c d at p k j h
+    layer (draft.Pick word sort d at) k j p h =
+        let var = variable_no scope in
+        let t = and_cases (binder_keeps (signature theory) n sort) (keep d.0 (n + 1)) k in
+        given-told (prog_in names d.0 (within word sort scope)) (λ q. prog.Pick var sort q) (λ q. Pick var sort q)
+        (draft.Pick word sort (prog_says names d.0) at) (λ q. prog.outs-Pick var sort q) p h (λ q e.
+        and_both (var == var && sort == sort) (prog_says names d.0 (within word sort scope) q)
+        (and_both (var == var) (sort == sort) (same-number var) (same-number sort))
+        (d.1 inside (n + 1) (within word sort scope) t.1 j q e))
+    layer (draft.Star d at) k j p h =
+        given-told (prog_in names d.0 scope) (λ q. prog.Star q) (λ q. Star q) (draft.Star (prog_says names d.0) at)
+        (λ q. prog.outs-Star q) p h (λ q e. d.1 inside n scope k j q e)
+    layer (draft.If t d e at) k j p h =
+        let k1 = and_cases (cond_keeps (signature theory) t n && keep d.0 n) (keep e.0 n) k in
+        let k2 = and_cases (cond_keeps (signature theory) t n) (keep d.0 n) k1.0 in
+        let j1 = and_cases (keep_blocks d.0 inside) (keep_blocks e.0 inside) j in
+        let a = both (cond_in names t scope) (λ c. prog_in names d.0 scope >>= λ p. with_no c p (prog_in names e.0 scope)) p h in
+        let f = both (prog_in names d.0 scope) (λ p. with_no a.value p (prog_in names e.0 scope)) p a.other in
+        given-told (prog_in names e.0 scope) (λ q. prog.If a.value f.value q) (λ q. If a.value f.value q)
+        (draft.If t (prog_says names d.0) (prog_says names e.0) at) (λ q. prog.outs-If a.value f.value q) p f.other (λ q i.
+        and_both (cond_says names t scope a.value && prog_says names d.0 scope f.value) (prog_says names e.0 scope q)
+        (and_both (cond_says names t scope a.value) (prog_says names d.0 scope f.value) (cond-of t a.value k2.0 a.one)
+        (d.1 inside n scope k2.1 j1.0 f.value f.one)) (e.1 inside n scope k1.1 j1.1 q i))
+    layer (draft.While t d at) k j p h =
+        let k1 = and_cases (cond_keeps (signature theory) t n) (keep d.0 n) k in
+        let a = both (cond_in names t scope) (λ c. with_body c (prog_in names d.0 scope)) p h in
+        given-told (prog_in names d.0 scope) (λ q. prog.While a.value q) (λ q. While a.value q)
+        (draft.While t (prog_says names d.0) at) (λ q. prog.outs-While a.value q) p a.other (λ q e.
+        and_both (cond_says names t scope a.value) (prog_says names d.0 scope q) (cond-of t a.value k1.0 a.one)
+        (d.1 inside n scope k1.1 j q e))
     layer (draft.Conc ds at) k j p h = parts-told InConc ds p k j h
     layer (draft.Prio ds at) k j p h = parts-told InPrio ds p k j h
-    layer (draft.Cstar d at) k j p h = cstar-told d at p k j h
-    layer (draft.Call item args at) k j p h = call-told item args at p k h
-    layer (draft.Search depth fuel d at) k j p h = search-told depth fuel d at p k j h
+    layer (draft.Cstar d at) k j p h =
+        given-told (prog_in names d.0 scope) (λ q. prog.Cstar q) (λ q. Cstar q) (draft.Cstar (prog_says names d.0) at)
+        (λ q. prog.outs-Cstar q) p h (λ q e. d.1 inside n scope k j q e)
+    layer (draft.Call callee drafts at) k j p h =
+        let own = sorts.param_sorts names callee in
+        given-told (args_in names scope own drafts) (λ args. prog.Call callee args) (λ args. Call callee args)
+        (draft.Call callee drafts at) (λ args. prog.outs-Call callee args) p h (λ args e.
+        and_both (callee == callee) (args_say names scope own drafts args) (same-number callee)
+        (args-said names scope own drafts args (params-long (length drafts) procs callee k) e))
+    layer (draft.Search depth fuel d at) k j p h =
+        let low = to_count depth in
+        let high = to_count fuel in
+        let j1 = and_cases ((not inside && is_between 1 depth_limit low) && is_between 1 fuel_limit high) (keep_blocks d.0 true) j in
+        let j2 = and_cases (not inside && is_between 1 depth_limit low) (is_between 1 fuel_limit high) j1.0 in
+        let j3 = and_cases (not inside) (is_between 1 depth_limit low) j2.0 in
+        given-told (prog_in names d.0 scope) (λ q. prog.Search low high q) (λ q. Search low high q)
+        (draft.Search depth fuel (prog_says names d.0) at) (λ q. prog.outs-Search low high q) p h (λ q e.
+        and_both (int_eq depth (pos low) && int_eq fuel (pos high)) (prog_says names d.0 scope q)
+        (and_both (int_eq depth (pos low)) (int_eq fuel (pos high)) (count-same depth depth_limit j3.1) (count-same fuel fuel_limit j2.1))
+        (d.1 true n scope k j1.1 q e))
 
   told-layer : (y : DraftProg-F Tell) → Told (roll-DraftProg (drafts_of y))
   told-layer y inside n scope k j p h =

@@ -7,6 +7,7 @@ use Rattle.std.proofs.lemmas.Bool.Decides.{Decides-int_eq}
 use Rattle.std.proofs.lemmas.List.{append-nil}
 use Rattle.golog_tree.specs.declared.agent.Agent.{Agent}
 use Rattle.golog_tree.specs.declared.cond.Cond.{Cond}
+use Rattle.golog_tree.specs.declared.cond.Arg.{Arg}
 use Rattle.golog_tree.specs.declared.draft_cond.DraftArg.{DraftArg}
 use Rattle.golog_tree.specs.declared.draft_cond.DraftCond.{DraftCond}
 use Rattle.golog_tree.specs.declared.draft_prog.DraftProg.{DraftProg}
@@ -24,8 +25,8 @@ use Rattle.golog_semantics.specs.Fits.{binder_fits, cond_fits}
 use Rattle.golog_semantics.specs.ProgFits.{Position, within_binder, within_block, block_fits, prog_fits}
 use Rattle.golog_semantics.specs.Written.{is_written_cond, is_written_prog}
 use Rattle.golog_semantics.proofs.Tests.{and_cases}
-use Rattle.golog_check.specs.declared.programs.Join.{Join}
-use Rattle.golog_check.specs.declared.programs.Join.TheVariants.{Seq as InSeq, Choice as InChoice, Conc as InConc, Prio as InPrio}
+use Rattle.golog_tree.specs.declared.join.Join.{Join}
+use Rattle.golog_tree.specs.declared.join.Join.TheVariants.{Seq as InSeq, Choice as InChoice, Conc as InConc, Prio as InPrio}
 use Rattle.golog_check.specs.DeclaredItems.{Declared}
 use Rattle.golog_check.specs.Sorts.{action_sorts, param_sorts}
 use Rattle.golog_check.specs.Scope.{Scope, variable_no, within}
@@ -133,15 +134,21 @@ module _ (agent : Agent) (names : Declared) (has : HasItems agent names) where
     nil-taken at Nil h = ap (λ q. Ok q) (sym prog.rolls-Nil)
     nil-taken at _ h = absurd (false≢true h)
 
+    -- a name and its arguments
+    named-taken : (name item : ℕ) (own : List ℕ) (make : ℕ → List Arg → Prog) (drafts : List DraftArg) (args : List Arg) (l : Layer)
+        → roll-Prog l ≡ make item args → (name == item && args_say names scope own drafts args) ≡ true
+        → (args_in names scope own drafts >>= λ args. gives (make name args)).outcome ≡ Ok (roll-Prog l)
+    named-taken name item own make drafts args l rolls h =
+        let t = and_cases (name == item) (args_say names scope own drafts args) h in
+        then-gives (args_in names scope own drafts) (make name) args (args-taken names scope own drafts args t.1)
+        ∙ ap (λ i. Ok (make i args)) (eqb-true name item t.0) ∙ ap (λ q. Ok q) (sym rolls)
+
     act-taken : (action : ℕ) (drafts : List DraftArg) (at : ℕ) (l : Layer)
         → prog_says_layer names (draft.Act action drafts at) scope l ≡ true
         → (args_in names scope (action_sorts names action) drafts >>= λ args. gives (prog.Act action args)).outcome ≡
         Ok (roll-Prog l)
     act-taken action drafts at (Act item args) h =
-        let t = and_cases (action == item) (args_say names scope (action_sorts names action) drafts args) h in
-        then-gives (args_in names scope (action_sorts names action) drafts) (λ args. prog.Act action args) args
-        (args-taken names scope (action_sorts names action) drafts args t.1)
-        ∙ ap (λ i. Ok (prog.Act i args)) (eqb-true action item t.0) ∙ ap (λ q. Ok q) (sym (prog.rolls-Act item args))
+        named-taken action item (action_sorts names action) (λ i args. prog.Act i args) drafts args (Act item args) (prog.rolls-Act item args) h
     act-taken action drafts at _ h = absurd (false≢true h)
 
     call-taken : (callee : ℕ) (drafts : List DraftArg) (at : ℕ) (l : Layer)
@@ -149,11 +156,7 @@ module _ (agent : Agent) (names : Declared) (has : HasItems agent names) where
         → (args_in names scope (param_sorts names callee) drafts >>= λ args. gives (prog.Call callee args)).outcome ≡
         Ok (roll-Prog l)
     call-taken callee drafts at (Call item args) h =
-        let t = and_cases (callee == item) (args_say names scope (param_sorts names callee) drafts args) h in
-        then-gives (args_in names scope (param_sorts names callee) drafts) (λ args. prog.Call callee args) args
-        (args-taken names scope (param_sorts names callee) drafts args t.1)
-        ∙ ap (λ i. Ok (prog.Call i args)) (eqb-true callee item t.0)
-        ∙ ap (λ q. Ok q) (sym (prog.rolls-Call item args))
+        named-taken callee item (param_sorts names callee) (λ i args. prog.Call i args) drafts args (Call item args) (prog.rolls-Call item args) h
     call-taken callee drafts at _ h = absurd (false≢true h)
 
     cond-of : (d : DraftCond) (c : Cond) → cond_says names d scope c ≡ true → cond_fits agent c here.scope ≡ true
@@ -195,21 +198,23 @@ module _ (agent : Agent) (names : Declared) (has : HasItems agent names) where
         → is_written_prog agent p n ≡ true → (prog_in names d.0 scope).outcome ≡ Ok p
     part-taken d at p says fit written = d.1 at n scope p says (record { fits = fit; written = written })
 
+    again-taken : (d : Take) (make : Prog → Prog) (p : Prog) (l : Layer) → roll-Prog l ≡ make p → prog_says names d.0 scope p ≡ true
+        → prog_fits agent p here ≡ true → is_written_prog agent p n ≡ true
+        → (prog_in names d.0 scope >>= λ p. gives (make p)).outcome ≡ Ok (roll-Prog l)
+    again-taken d make p l rolls says fit written =
+        then-gives (prog_in names d.0 scope) make p (part-taken d here p says fit written) ∙ ap (λ q. Ok q) (sym rolls)
+
     star-taken : (d : Take) (at : ℕ) (l : Layer)
         → prog_says_layer names (draft.Star (prog_says names d.0) at) scope l ≡ true
         → IsLevelOf agent here n l → (prog_in names d.0 scope >>= λ p. gives (prog.Star p)).outcome ≡ Ok (roll-Prog l)
-    star-taken d at (Star p) h k =
-        then-gives (prog_in names d.0 scope) (λ p. prog.Star p) p (part-taken d here p h k.fits k.written)
-        ∙ ap (λ q. Ok q) (sym (prog.rolls-Star p))
+    star-taken d at (Star p) h k = again-taken d (λ p. prog.Star p) p (Star p) (prog.rolls-Star p) h k.fits k.written
     star-taken d at _ h k = absurd (false≢true h)
 
     cstar-taken : (d : Take) (at : ℕ) (l : Layer)
         → prog_says_layer names (draft.Cstar (prog_says names d.0) at) scope l ≡ true
         → IsLevelOf agent here n l
         → (prog_in names d.0 scope >>= λ p. gives (prog.Cstar p)).outcome ≡ Ok (roll-Prog l)
-    cstar-taken d at (Cstar p) h k =
-        then-gives (prog_in names d.0 scope) (λ p. prog.Cstar p) p (part-taken d here p h k.fits k.written)
-        ∙ ap (λ q. Ok q) (sym (prog.rolls-Cstar p))
+    cstar-taken d at (Cstar p) h k = again-taken d (λ p. prog.Cstar p) p (Cstar p) (prog.rolls-Cstar p) h k.fits k.written
     cstar-taken d at _ h k = absurd (false≢true h)
 
     if-taken : (t : DraftCond) (d e : Take) (at : ℕ) (l : Layer)

@@ -1,5 +1,5 @@
 -- Start values: a draft is taken for the items that it says, and says those that it is taken for.
-use Rattle.std.proofs.Common.{◌≡◌, ℕ, true, List, [], ◌∷◌, map, Option, Result, Ok, Err, Some, None, refl, sym, ap, subst, ◌∙◌, eqb-true, eq-eqb, arith}
+use Rattle.std.proofs.Common.{◌≡◌, ℕ, true, List, [], ◌∷◌, map, Option, Result, Ok, Some, None, refl, sym, ap, subst, ◌∙◌, eqb-true, eq-eqb, arith}
 use Rattle.std.specs.Prelude.{◌==◌}
 use Rattle.golog_tree.specs.declared.agent.Agent.{Agent}
 use Rattle.golog_tree.specs.declared.cond.Arg.{Arg}
@@ -26,13 +26,14 @@ use Rattle.golog_check.specs.Starts.{constant, constant_in, own_sort, value_in, 
 use Rattle.golog_check.specs.Least.{refusals}
 use Rattle.golog_check.specs.Check.{names_of, agent_of, starts_of}
 use Rattle.golog_check.proofs.Readings.{both, found-it, ok-same}
-use Rattle.golog_check.proofs.ArgLaws.{args-fit, same-number, some-same}
+use Rattle.golog_check.proofs.ArgLaws.{args-fit, same-number}
 use Rattle.golog_check.proofs.MadeActions.{has-items, same-signature}
+use Rattle.golog_check.proofs.MadePrograms.{all-true, const-in}
 use Rattle.golog_refusals.specs.Says.{args_say}
 use Rattle.golog_refusals.specs.SaysAgent.{AreSaid, value_says, start_says}
 use Rattle.golog_refusals.proofs.Taking.{then-by}
 use Rattle.golog_refusals.proofs.ArgsSaid.{arg-taken, arg-said, args-taken, args-said, arity}
-use Rattle.golog_refusals.proofs.ItemsSaid.{Give, all-true, all-taken, all-of}
+use Rattle.golog_refusals.proofs.ItemsSaid.{Give, all-taken, all-of}
 
 constants-same : (args : List ℕ) → map constant (map Const args) ≡ args
 constants-same [] = refl
@@ -48,11 +49,6 @@ constants-again agent (sort ∷ sorts) (Const c ∷ args) h =
     ap (λ xs. Const c ∷ xs) (constants-again agent sorts args
     (and_cases (arg_fits agent nothing_bound sort (Const c)) (args_fit agent nothing_bound sorts args) h).1)
 constants-again agent (sort ∷ sorts) (Var x ∷ args) h = absurd (cc)
-
-const-in : (o : Result Arg CodeAt) (c : ℕ) → constant_in o ≡ Some c → o ≡ Ok (Const c)
-const-in (Ok (Const d)) c h = ap (λ n. Ok (Const n)) (some-same d c h)
-const-in (Ok (Var x)) c h = absurd (cc)
-const-in (Err refusal) c h = absurd (cc)
 
 each-same : (item fluent value : ℕ) → item ≡ fluent
     → ◌≡◌ {A = Result Start CodeAt} (Ok (start.Each fluent value)) (Ok (start.Each item value))

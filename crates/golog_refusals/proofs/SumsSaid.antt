@@ -1,5 +1,5 @@
 -- The sums of a theory that says a countable agent pass no limit.
-use Rattle.std.proofs.Common.{◌≡◌, ℕ, ◌+◌, ◌≤◌, List, [], ◌∷◌, ◌++◌, map, Result, Ok, refl, sym, ap, subst, ◌∙◌, le-ltb, arith}
+use Rattle.std.proofs.Common.{◌≡◌, ℕ, ◌+◌, ◌≤◌, List, [], ◌∷◌, ◌++◌, map, Result, Ok, refl, ap, subst, ◌∙◌, le-ltb, arith}
 use Rattle.std.specs.Prelude.{sum_by}
 use Rattle.std.proofs.lemmas.List.Sums.{sum_by-cons}
 use Rattle.golog_tree.specs.declared.agent.Agent.{Agent}
@@ -7,13 +7,14 @@ use Rattle.golog_tree.specs.declared.agent.SortItem.{SortItem}
 use Rattle.golog_tree.specs.declared.agent.FluentItem.{FluentItem}
 use Rattle.golog_tree.specs.declared.agent.ActionItem.{ActionItem}
 use Rattle.golog_tree.specs.declared.draft.DraftTheory.{DraftTheory}
-use Rattle.golog_tree.specs.Ground.{product, sizes, ground_count, IsCountable}
+use Rattle.golog_tree.specs.Ground.{ground_count, IsCountable}
 use Rattle.golog_rows.specs.Reading.{unless}
 use Rattle.golog_rows.specs.Least.{CodeAt}
 use Rattle.golog_check.specs.Codes.{GROUND_TOO_MANY}
 use Rattle.golog_check.specs.Least.{refusal_of, refusals}
 use Rattle.golog_check.specs.DeclaredItems.{sort_item, fluent_item, action_item}
 use Rattle.golog_check.specs.Sums.{Counted, count_in, sum_from, fluent_counted, action_counted, fluent_sum, action_sum}
+use Rattle.golog_check.proofs.Countable.{all-counted}
 use Rattle.golog_refusals.specs.SaysAgent.{SaysDeclared}
 
 -- where the whole sum is within its limit, no item makes it pass
@@ -29,24 +30,13 @@ sum-none sorts limit sum ((args, at) ∷ items) low =
 
 module _ {X I : Type 0} (agent : Agent) (item : X → I) (args : I → List ℕ) (counted : X → Counted)
     (same : (x : X) → args (item x) ≡ (counted x).0) where
-  -- the whole sum is how many ground things there are
-  all-counted : (xs : List X) → ground_count agent (map args (map item xs))
-      ≡ sum_by (λ (c : Counted). count_in agent.sorts c.0) (map counted xs)
-  all-counted [] = refl
-  all-counted (x ∷ xs) =
-      sum_by-cons (λ sorts. product (sizes agent sorts)) (args (item x)) (map args (map item xs))
-      ∙ ap (λ n. count_in agent.sorts (args (item x)) + n) (all-counted xs)
-      ∙ ap (λ sorts. count_in agent.sorts sorts + sum_by (λ (c : Counted). count_in agent.sorts c.0) (map counted xs))
-      (same x)
-      ∙ sym (sum_by-cons (λ (c : Counted). count_in agent.sorts c.0) (counted x) (map counted xs))
-
   none-counted : (theory : DraftTheory) → SaysDeclared theory agent → (limit : ℕ) (xs : List X) (items : List I)
       → items ≡ map item xs → ground_count agent (map args items) ≤ limit
       → refusals (sum_from (map sort_item theory.sorts) limit 0 (map counted xs) ∷ []) ≡ []
   none-counted theory declared limit xs items are few =
       let whole = sum_by (λ (c : Counted). count_in (map sort_item theory.sorts) c.0) (map counted xs) in
       let count : ground_count agent (map args items) ≡ whole =
-      ap (λ (ys : List I). ground_count agent (map args ys)) are ∙ all-counted xs
+      ap (λ (ys : List I). ground_count agent (map args ys)) are ∙ all-counted agent item args counted same xs
       ∙ ap (λ (sorts : List SortItem). sum_by (λ (c : Counted). count_in sorts c.0) (map counted xs)) declared.sorts in
       let low : whole ≤ limit = subst (λ n. n ≤ limit) count few in
       ap (λ (o : Result (Unit {0}) CodeAt). refusal_of o ++ [])

@@ -1,6 +1,5 @@
 -- What stands where each part of a reading gives a value, read forwards; and arguments by what they are.
-use Rattle.std.proofs.Common.{◌≡◌, ℕ, ◌+◌, Bool, true, false, List, [], ◌∷◌, ◌++◌, length, sym, ap, ◌∙◌, refl, Some, Result, Ok, length-append, true≢false}
-use Rattle.std.specs.Prelude.{slice_get}
+use Rattle.std.proofs.Common.{◌≡◌, ℕ, ◌+◌, Bool, true, false, List, [], ◌∷◌, ◌++◌, length, sym, ap, ◌∙◌, Result, Ok, length-append, true≢false}
 use Rattle.std.proofs.lemmas.Bool.{eqb-true}
 use Rattle.golog_tree.specs.declared.cond.Arg.{Arg}
 use Rattle.golog_tree.specs.declared.cond.Arg.TheVariants.{Const, Var}
@@ -31,11 +30,6 @@ same-arg-is (Var x) (Var y) h = ap Var (eqb-true x y h)
 pub same-arg-itself : (a : Arg) → same_arg a a ≡ true
 same-arg-itself (Const c) = same-number c
 same-arg-itself (Var x) = same-number x
-
--- what stands behind so many others
-pub get-middle : {A : Type 0} (front rest : List A) (x : A) → slice_get (front ++ x ∷ rest) (length front) ≡ Some x
-get-middle [] rest x = refl
-get-middle (y ∷ front) rest x = get-middle front rest x
 
 pub longer : {A B : Type 0} (xs : List A) (ys : List B) (x : A) (y : B) → length xs ≡ length ys
     → length (xs ++ x ∷ []) ≡ length (ys ++ y ∷ [])

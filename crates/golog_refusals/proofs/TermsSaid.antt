@@ -26,7 +26,7 @@ use Rattle.golog_tree.specs.declared.draft_cond.DraftTerm.TheFolds.{fold-roll-Dr
 use Rattle.golog_rows.specs.Reading.{Reading, gives, row, ◌>>=◌}
 use Rattle.golog_semantics.specs.Fits as fits
 use Rattle.golog_semantics.specs.Fits.{is_range, is_range_item, args_fit, fluent_fits, term_fits}
-use Rattle.golog_semantics.specs.Written.{Wording, written_arg, written_cond_step, written_term_step, is_amount, is_written_cond}
+use Rattle.golog_semantics.specs.Written.{Wording, written_arg, is_amount}
 use Rattle.golog_semantics.proofs.Tests.{and_both, and_cases}
 use Rattle.golog_draft.specs.Drafts.{fluent_keeps, term_keeps, term_keeps_step}
 use Rattle.golog_check.specs.declared.scope.Meant.{Meant}
@@ -39,7 +39,8 @@ use Rattle.golog_check.specs.Terms.{is_other, arg_sort, arg_as, args_in, term_pl
 use Rattle.golog_check.specs.CheckLaws.{HasItems, signature_of}
 use Rattle.golog_check.proofs.Readings.{both, past, ok-same}
 use Rattle.golog_check.proofs.ArgLaws.{same-number}
-use Rattle.golog_check.proofs.TermLaws.{wording, same-range}
+use Rattle.golog_check.proofs.TermLaws.{same-range}
+use Rattle.golog_check.proofs.Layers.{as-term, fits-term, keeps-term, sort-term, written-term, wording}
 use Rattle.golog_refusals.specs.Says.{same_arg, arg_says, args_say, term_says_step, term_says}
 use Rattle.golog_refusals.proofs.Taking.{never, past-by, then-by}
 use Rattle.golog_refusals.proofs.ArgsSaid.{arg-as-taken, arg-as-said, args-taken, args-said, arity}
@@ -51,16 +52,6 @@ pub record Taken (agent : Agent) (sort : ℕ) (shown : Option ℕ) (reading : Re
   pub shows : (is_some shown ≡ true) ⊎ (((wording agent t).shows_sort ≡ false) × (is_range agent sort ≡ true))
 
 module _ (agent : Agent) (names : Declared) (has : HasItems agent names) where
-  fits-roll : (l : Term-F Cond Term) → term_fits agent (roll-Term l)
-      ≡ fits.term_step agent
-      (map-Term Cond Term (fits.Scope → Bool) (fits.Scope → ℕ → Bool) (fits.cond_fits agent) (term_fits agent) l)
-  fits-roll l =
-      fold-roll-Term (fits.Scope → Bool) (fits.Scope → ℕ → Bool) (fits.cond_step agent) (fits.term_step agent) l
-
-  wording-roll : (l : Term-F Cond Term) → wording agent (roll-Term l)
-      ≡ written_term_step agent (map-Term Cond Term (ℕ → Bool) Wording (is_written_cond agent) (wording agent) l)
-  wording-roll l = fold-roll-Term (ℕ → Bool) Wording (written_cond_step agent) (written_term_step agent) l
-
   number-range : (number : ℤ) (o : Option SortItem) (a : Arg)
       → option_map_or (λ (place : ℕ). same_arg (Const place) a) (option_and_then (place_of_number number) o) false
       ≡ true → option_map_or is_range_item o false ≡ true
@@ -119,18 +110,6 @@ module _ (names : Declared) (scope : Scope) where
       ap (λ (f : TermSays). f sort t)
       (fold-roll-DraftTerm TermSays (λ layer sort t. term_says_step names scope layer sort (out-Term t)) l)
 
-  sort-roll : (l : DraftTerm-F DraftTerm) → term_sort names scope (roll-DraftTerm l)
-      ≡ sort_step names scope (map-DraftTerm DraftTerm (Option ℕ) (term_sort names scope) l)
-  sort-roll l = fold-roll-DraftTerm (Option ℕ) (sort_step names scope) l
-
-  as-roll : (l : DraftTerm-F DraftTerm) → term_as names scope (roll-DraftTerm l)
-      ≡ as_step names scope (map-DraftTerm DraftTerm (ℕ → Reading Term) (term_as names scope) l)
-  as-roll l = fold-roll-DraftTerm (ℕ → Reading Term) (as_step names scope) l
-
-  keeps-roll : (l : DraftTerm-F DraftTerm) → term_keeps (signature_of names) (roll-DraftTerm l)
-      ≡ term_keeps_step (signature_of names) (map-DraftTerm DraftTerm Bool (term_keeps (signature_of names)) l)
-  keeps-roll l = fold-roll-DraftTerm Bool (term_keeps_step (signature_of names)) l
-
   module _ (agent : Agent) (has : HasItems agent names) (bound : fits.Scope) where
     abbrev pub Takes : DraftTerm → Type 0
     Takes d = (sort : ℕ) (t : Term) → term_says names scope d sort t ≡ true → term_fits agent t bound sort ≡ true
@@ -159,7 +138,7 @@ module _ (names : Declared) (scope : Scope) where
             → (is_some (arg_sort names scope draft) ≡ true)
             ⊎ (((wording agent (roll-Term (ArgOf a))).shows_sort ≡ false) × (is_range agent sort ≡ true))
         arg-word (inl e) = inl e
-        arg-word (inr e) = inr (ap (λ (w : Wording). w.shows_sort) (wording-roll agent names has (ArgOf a)) ∙ e.0, e.1)
+        arg-word (inr e) = inr (ap (λ (w : Wording). w.shows_sort) (written-term agent (ArgOf a)) ∙ e.0, e.1)
 
     fluent-layer : (sort fluent item : ℕ) (drafts : List DraftArg) (args : List Arg)
         → (fluent == item && args_say names scope (fluent_sorts names fluent) drafts args) ≡ true
@@ -215,7 +194,7 @@ module _ (names : Declared) (scope : Scope) where
             ⊎ (((wording agent (roll-Term (ShiftOf own t amount))).shows_sort ≡ false) × (is_range agent sort ≡ true))
         shift-word (inl e) = inl e
         shift-word (inr e) =
-            inr (ap (λ (w : Wording). w.shows_sort) (wording-roll agent names has (ShiftOf own t amount)) ∙ e.0, e.1)
+            inr (ap (λ (w : Wording). w.shows_sort) (written-term agent (ShiftOf own t amount)) ∙ e.0, e.1)
 
     abbrev fit_step : Term-F Cond Term → ℕ → Bool
     fit_step k sort =
@@ -243,17 +222,17 @@ module _ (names : Declared) (scope : Scope) where
         let says : term_says_step names scope (map-DraftTerm DraftTerm TermSays (term_says names scope) l) sort k
         ≡ true = sym (says-roll l sort t) ∙ h in
         let fit_k : fit_step k sort ≡ true =
-        sym (ap (λ (f : fits.Scope → ℕ → Bool). f bound sort) (fits-roll agent names has k))
+        sym (ap (λ (f : fits.Scope → ℕ → Bool). f bound sort) (fits-term agent k))
         ∙ ap (λ (u : Term). term_fits agent u bound sort) (roll-out-Term t) ∙ fit in
         let made = layer y sort k says fit_k in
         subst
         (Taken agent sort (term_sort names scope (roll-DraftTerm l)) (term_as names scope (roll-DraftTerm l) sort))
         (roll-out-Term t)
         (subst (λ (r : Reading Term). Taken agent sort (term_sort names scope (roll-DraftTerm l)) r (roll-Term k))
-        (sym (ap (λ (f : ℕ → Reading Term). f sort) (as-roll l)))
+        (sym (ap (λ (f : ℕ → Reading Term). f sort) (as-term names scope l)))
         (subst (λ (shown : Option ℕ). Taken agent sort shown
         (as_step names scope (map-DraftTerm DraftTerm (ℕ → Reading Term) (term_as names scope) l) sort) (roll-Term k))
-        (sym (sort-roll l)) made))
+        (sym (sort-term names scope l)) made))
 
     pub takes : (d : DraftTerm) → Takes d
     takes = ind-DraftTerm Takes (λ x y is. subst (λ l. Takes (roll-DraftTerm l)) is (takes-layer y))
@@ -332,9 +311,9 @@ module _ (names : Declared) (scope : Scope) where
   says-layer y sort t keeps other h =
       let l = sayings_of y in
       says-roll l sort t
-      ∙ said-layer y sort t (sym (keeps-roll l) ∙ keeps)
-      (ap (λ (shown : Option ℕ). is_other shown sort) (sym (sort-roll l)) ∙ other)
-      (ap (λ (f : ℕ → Reading Term). (f sort).outcome) (sym (as-roll l)) ∙ h)
+      ∙ said-layer y sort t (sym (keeps-term (signature_of names) l) ∙ keeps)
+      (ap (λ (shown : Option ℕ). is_other shown sort) (sym (sort-term names scope l)) ∙ other)
+      (ap (λ (f : ℕ → Reading Term). (f sort).outcome) (sym (as-term names scope l)) ∙ h)
 
   pub says : (d : DraftTerm) → Says d
   says = ind-DraftTerm Says (λ x y is. subst (λ l. Says (roll-DraftTerm l)) is (says-layer y))

@@ -11,7 +11,6 @@ use Rattle.golog_semantics.specs.WellFormed.{WellFormed, poss_fits, cause_fits}
 use Rattle.golog_draft.specs.Drafts.{TheoryKeeps, ProgramKeeps, draft_poss_keeps, draft_cause_keeps}
 use Rattle.golog_check.specs.declared.starts.Start.{Start}
 use Rattle.golog_check.specs.DeclaredItems.{Declared}
-use Rattle.golog_check.specs.Sums.{fluent_sum, action_sum}
 use Rattle.golog_check.specs.Starts.{start_in, start_value}
 use Rattle.golog_check.specs.Effects.{poss_in, cause_in, senses_in}
 use Rattle.golog_check.specs.Procs.{proc_in}
@@ -77,17 +76,9 @@ module _ (theory : DraftTheory) (program : DraftProgram) (keeps : TheoryKeeps th
     none : all_refusals theory program ≡ []
     none =
         let p = programs-are in
-        let starts = refusals (map (start_in names) theory.starts) in
-        let poss = refusals (map (poss_in names) theory.poss) in
-        let causes = refusals (map (cause_in names) theory.causes) in
-        let senses = refusals (senses_in names [] theory.senses) in
-        let procs = refusals (map (proc_in names) program.procs) in
-        let fronts = all_front_refusals program.procs in
-        let blocks = all_block_refusals program.procs program.main.body in
-        none-both _ (refusals (main_in names program.main ∷ [])) (none-both _ blocks (none-both _ fronts
-        (none-both _ procs (none-both _ senses (none-both _ causes (none-both _ poss (none-both _ starts
-        (none-both (refusals (fluent_sum theory ∷ [])) (refusals (action_sum theory ∷ []))
-        (fluents-none theory agent says.declared fit.countable) (actions-none theory agent says.declared fit.countable))
+        none-both _ _ (none-both _ _ (none-both _ _
+        (none-both _ _ (none-both _ _ (none-both _ _ (none-both _ _ (none-both _ _
+        (none-both _ _ (fluents-none theory agent says.declared fit.countable) (actions-none theory agent says.declared fit.countable))
         starts-are.0) poss-are.0) causes-are.0) senses-are.0) p.procs.0) p.fronts) p.blocks) p.main
 
     -- the ground fluents are those of what the theory declares, and so are the start values

@@ -24,6 +24,7 @@ use Rattle.golog_semantics.proofs.GroundNumbers.{some-same}
 use Rattle.golog_semantics.proofs.Tests.{and_both, and_cases}
 use Rattle.golog_known.specs.Fits.{Sets}
 use Rattle.golog_known.proofs.Evaluated.{args-within}
+use Rattle.golog_known.proofs.Folds.{and_of-push, both-Yes}
 use Rattle.golog_progress.specs.Effects as effects
 use Rattle.golog_progress.proofs.Spread.{matched-fixed, matched-free}
 use Rattle.golog_regress.specs.declared.matching.Matched.{Matched}
@@ -31,29 +32,10 @@ use Rattle.golog_regress.specs.Images.{Images, image, image_at}
 use Rattle.golog_regress.specs.Causes.{is_next, tested, matching}
 use Rattle.golog_regress.proofs.Evaluation as by
 
--- true of the one and the other
-both-yes : (t : Truth) → both t Yes ≡ t
-both-yes Yes = refl
-both-yes No = refl
-both-yes Unknown = refl
-
 both-no : (t : Truth) → both t No ≡ No
 both-no Yes = refl
 both-no No = refl
 both-no Unknown = refl
-
-both-more : (a b c : Truth) → both a (both b c) ≡ both (both a b) c
-both-more Yes b c = refl
-both-more No b c = refl
-both-more Unknown Yes c = refl
-both-more Unknown No c = refl
-both-more Unknown Unknown Yes = refl
-both-more Unknown Unknown No = refl
-both-more Unknown Unknown Unknown = refl
-
-pub and-last : (ts : List Truth) (t : Truth) → and_of (ts ++ t ∷ []) ≡ both (and_of ts) t
-and-last [] t = both-yes t
-and-last (s ∷ ts) t = ap (both s) (and-last ts t) ∙ both-more s (and_of ts) t
 
 map-last : {A B : Type 0} (f : A → B) (xs : List A) (x : A) → map f (xs ++ x ∷ []) ≡ map f xs ++ f x ∷ []
 map-last f [] x = refl
@@ -145,7 +127,7 @@ module _ (agent : Agent) where
           λ all. all-last tests test all fits,
           λ vs env set.
               ap and_of (map-last (λ t. truth_of agent vs t env) tests test)
-              ∙ and-last (map (λ t. truth_of agent vs t env) tests) (truth_of agent vs test env)
+              ∙ and_of-push (map (λ t. truth_of agent vs t env) tests) (truth_of agent vs test env)
               ∙ ap (both (truth_of_all vs env tests))
               (by.truth-equal agent vs s (term.Arg one) (term.Arg to) env
               ∙ (λ i. comparison_of (λ a b. a == b) (by.value-arg agent vs one env i) (by.value-arg agent vs to env i))
@@ -156,7 +138,7 @@ module _ (agent : Agent) where
     test-says s (Const c) (Const d) tests sorted e h = go (c == d) refl
       where
         go : (b : Bool) → (c == d) ≡ b → Says tests (Const c) (Const d) (if b then Some tests else None)
-        go true f = (λ all. all, λ vs env set. sym (both-yes (truth_of_all vs env tests)) ∙ ap (λ b. both (truth_of_all vs env tests) (truth b)) (sym f))
+        go true f = (λ all. all, λ vs env set. sym (both-Yes (truth_of_all vs env tests)) ∙ ap (λ b. both (truth_of_all vs env tests) (truth b)) (sym f))
         go false f = λ env. f
     test-says s (Const c) (Var y) tests sorted e h = test-more s (Const c) (Var y) tests sorted e h
     test-says s (Var x) (Const d) tests sorted e h = test-more s (Var x) (Const d) tests sorted e h
@@ -207,7 +189,7 @@ module _ (agent : Agent) where
                 → ((truth_of_all vs env m.tests ≡ truth_of_all vs env more) × (rest env ≡ Some (map (arg_value env) m.found))) ⊎ ((truth_of_all vs env m.tests ≡ No) × (rest env ≡ None))
                 → ((truth_of_all vs env m.tests ≡ truth_of_all vs env tests) × (hit env ≡ Some (map (arg_value env) m.found))) ⊎ ((truth_of_all vs env m.tests ≡ No) × (hit env ≡ None))
             go vs env set true e (inl k) =
-                inl (k.0 ∙ says.1 vs env set ∙ ap (λ b. both (truth_of_all vs env tests) (truth b)) e ∙ both-yes (truth_of_all vs env tests), met env e ∙ k.1)
+                inl (k.0 ∙ says.1 vs env set ∙ ap (λ b. both (truth_of_all vs env tests) (truth b)) e ∙ both-Yes (truth_of_all vs env tests), met env e ∙ k.1)
             go vs env set true e (inr k) = inr (k.0, met env e ∙ k.1)
             go vs env set false e (inl k) =
                 inr (k.0 ∙ says.1 vs env set ∙ ap (λ b. both (truth_of_all vs env tests) (truth b)) e ∙ both-no (truth_of_all vs env tests), missed env e)

@@ -1,11 +1,12 @@
 -- The equations of putting images in, construct by construct.
-use Rattle.std.proofs.Common.{◌≡◌, ℕ, ℤ, Bool, List, [], ◌∷◌, ◌++◌, map, refl, ap, ◌∙◌}
+use Rattle.std.proofs.Common.{◌≡◌, ℕ, ℤ, Bool, List, [], ◌∷◌, ◌++◌, map, ap, ◌∙◌}
 use Rattle.golog_tree.specs.declared.cond.Arg.{Arg}
 use Rattle.golog_tree.specs.declared.cond.Arg.TheVariants.{Var}
 use Rattle.golog_tree.specs.declared.cond.Term.{Term}
 use Rattle.golog_tree.specs.declared.cond.Cond.{Cond}
 use Rattle.golog_tree.specs.declared.cond.Term.TheVariants as term
 use Rattle.golog_tree.specs.declared.cond.Cond.TheVariants as cond
+use Rattle.golog_known.proofs.Folds.{map-map}
 use Rattle.golog_semantics.proofs.CondByParts as conds
 use Rattle.golog_regress.specs.Images.{Images, fresh, image, cond_image, cond_step, term_image, term_step}
 
@@ -14,10 +15,6 @@ IC = Images → Cond
 
 abbrev IT : Type 0
 IT = Images → Term
-
-map-map : {A B D : Type 0} (f : A → B) (g : B → D) (xs : List A) → map g (map f xs) ≡ map (λ x. g (f x)) xs
-map-map f g [] = refl
-map-map f g (x ∷ xs) = ap (λ ys. g (f x) ∷ ys) (map-map f g xs)
 
 pub image-arg : (arg : Arg) (images : Images) → term_image (term.Arg arg) images ≡ term.Arg (image images arg)
 image-arg arg images = ap (λ (f : IT). f images) (conds.fold-arg IC IT cond_step term_step arg)

@@ -24,6 +24,7 @@ use Rattle.golog_semantics.specs.WellFormed.{head_sorts, effect_fits}
 use Rattle.golog_semantics.proofs.CondByParts as conds
 use Rattle.golog_semantics.proofs.Tests.{and_both, and_cases}
 use Rattle.golog_known.specs.Fits.{Sets}
+use Rattle.golog_known.proofs.Folds.{and_of-push}
 use Rattle.golog_regress.specs.declared.happened.Happened.{Happened}
 use Rattle.golog_regress.specs.declared.matching.Matched.{Matched}
 use Rattle.golog_regress.specs.Images.{Images, cond_image, term_image}
@@ -31,7 +32,7 @@ use Rattle.golog_regress.specs.Causes.{matching, guarded, plainly, is_plainly_tr
 use Rattle.golog_regress.proofs.Evaluation.{A, E}
 use Rattle.golog_regress.proofs.Evaluation as by
 use Rattle.golog_regress.proofs.Imaged.{Imaged, env_at, image_of_cond, image_of_term}
-use Rattle.golog_regress.proofs.Heads.{AllFit, Outcome, truth_of_all, fit-length, fit-at, matches, and-last}
+use Rattle.golog_regress.proofs.Heads.{AllFit, Outcome, truth_of_all, fit-length, fit-at, matches}
 
 all-map : (agent : Agent) (scope : Scope) (cs : List Cond) → list_all (λ (test : A). test scope) (map (cond_fits agent) cs) ≡ list_all (λ c. cond_fits agent c scope) cs
 all-map agent scope [] = refl
@@ -129,7 +130,7 @@ module _ (agent : Agent) (countable : IsCountable agent) (scope : Scope) where
   guarded-truth vs env [] c = refl
   guarded-truth vs env (t ∷ tests) c =
       by.truth-and agent vs ((t ∷ tests) ++ c ∷ []) env ∙ ap and_of (truths-map agent vs env ((t ∷ tests) ++ c ∷ []) ∙ truths-last vs env (t ∷ tests) c)
-      ∙ and-last (map (λ c. truth_of agent vs c env) (t ∷ tests)) (truth_of agent vs c env)
+      ∙ and_of-push (map (λ c. truth_of agent vs c env) (t ∷ tests)) (truth_of agent vs c env)
 
   -- a bound variable by its place
   bound-at : (n : ℕ) (sorts : List ℕ) (args : List Arg) (x s : ℕ) → length sorts ≡ length args → bound_from n sorts x ≡ Some s → (at : ℕ) × (x ≡ n + at) × (slice_get sorts at ≡ Some s) × (at < length args)

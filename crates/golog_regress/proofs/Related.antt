@@ -1,5 +1,5 @@
 -- Conditions that are related part by part: where the one fits, so does the other, and they have the same truth.
-use Rattle.std.proofs.Common.{◌≡◌, ℕ, zero, suc, ◌+◌, ◌<◌, ℤ, true, ◌&&◌, ◌==◌, List, [], ◌∷◌, map, refl, sym, ap, ◌∙◌, arith}
+use Rattle.std.proofs.Common.{◌≡◌, ℕ, zero, suc, ◌+◌, ◌<◌, ℤ, Bool, true, ◌&&◌, ◌==◌, List, [], ◌∷◌, map, refl, sym, ap, ◌∙◌, arith}
 use Rattle.std.specs.Prelude.{nat_lt, nat_le, slice_set}
 use Rattle.std.specs.List.{list_all, range_with_len}
 use Rattle.golog_tree.specs.declared.agent.Agent.{Agent}
@@ -71,38 +71,35 @@ module _ (agent : Agent) where
         let r = g (sym (by.fits-not agent c old) ∙ e) in
         (by.fits-not agent d new ∙ r.0, λ vs ws env to h. by.truth-not agent vs d env ∙ ap not_of (r.1 vs ws env to h) ∙ sym (by.truth-not agent ws c to))
 
-    pub goes-equal : (sort : ℕ) (t t' u u' : Term) → GoesTerm t t' → GoesTerm u u' → GoesCond (cond.Equal sort t u) (cond.Equal sort t' u')
-    goes-equal sort t t' u u' g h e =
-        let k = and_cases (is_sort agent sort && term_fits agent t old sort) (term_fits agent u old sort) (sym (by.fits-equal agent sort t u old) ∙ e) in
-        let j = and_cases (is_sort agent sort) (term_fits agent t old sort) k.0 in
+    -- both sides of a comparison
+    goes-sides : (of_sort : Bool) (test : ℕ → ℕ → Bool) (sort : ℕ) (t t' u u' : Term) → GoesTerm t t' → GoesTerm u u'
+        → ((of_sort && term_fits agent t old sort) && term_fits agent u old sort) ≡ true
+        → (((of_sort && term_fits agent t' new sort) && term_fits agent u' new sort) ≡ true)
+        × ((vs ws : Values) (env to : Env) → at vs ws env to
+        → comparison_of test (value_of agent vs t' env) (value_of agent vs u' env) ≡ comparison_of test (value_of agent ws t to) (value_of agent ws u to))
+    goes-sides of_sort test sort t t' u u' g h e =
+        let k = and_cases (of_sort && term_fits agent t old sort) (term_fits agent u old sort) e in
+        let j = and_cases of_sort (term_fits agent t old sort) k.0 in
         let r = g sort j.1 in
         let s = h sort k.1 in (
-          by.fits-equal agent sort t' u' new
-              ∙ and_both (is_sort agent sort && term_fits agent t' new sort) (term_fits agent u' new sort) (and_both (is_sort agent sort) (term_fits agent t' new sort) j.0 r.0) s.0,
-          λ vs ws env to h. by.truth-equal agent vs sort t' u' env ∙ (λ i. comparison_of (λ a b. a == b) (r.1 vs ws env to h i) (s.1 vs ws env to h i)) ∙ sym (by.truth-equal agent ws sort t u to),
+          and_both (of_sort && term_fits agent t' new sort) (term_fits agent u' new sort) (and_both of_sort (term_fits agent t' new sort) j.0 r.0) s.0,
+          λ vs ws env to f i. comparison_of test (r.1 vs ws env to f i) (s.1 vs ws env to f i),
         )
+
+    pub goes-equal : (sort : ℕ) (t t' u u' : Term) → GoesTerm t t' → GoesTerm u u' → GoesCond (cond.Equal sort t u) (cond.Equal sort t' u')
+    goes-equal sort t t' u u' g h e =
+        let r = goes-sides (is_sort agent sort) (λ a b. a == b) sort t t' u u' g h (sym (by.fits-equal agent sort t u old) ∙ e) in
+        (by.fits-equal agent sort t' u' new ∙ r.0, λ vs ws env to h. by.truth-equal agent vs sort t' u' env ∙ r.1 vs ws env to h ∙ sym (by.truth-equal agent ws sort t u to))
 
     pub goes-less : (sort : ℕ) (t t' u u' : Term) → GoesTerm t t' → GoesTerm u u' → GoesCond (cond.Less sort t u) (cond.Less sort t' u')
     goes-less sort t t' u u' g h e =
-        let k = and_cases (is_range agent sort && term_fits agent t old sort) (term_fits agent u old sort) (sym (by.fits-less agent sort t u old) ∙ e) in
-        let j = and_cases (is_range agent sort) (term_fits agent t old sort) k.0 in
-        let r = g sort j.1 in
-        let s = h sort k.1 in (
-          by.fits-less agent sort t' u' new
-              ∙ and_both (is_range agent sort && term_fits agent t' new sort) (term_fits agent u' new sort) (and_both (is_range agent sort) (term_fits agent t' new sort) j.0 r.0) s.0,
-          λ vs ws env to h. by.truth-less agent vs sort t' u' env ∙ (λ i. comparison_of nat_lt (r.1 vs ws env to h i) (s.1 vs ws env to h i)) ∙ sym (by.truth-less agent ws sort t u to),
-        )
+        let r = goes-sides (is_range agent sort) nat_lt sort t t' u u' g h (sym (by.fits-less agent sort t u old) ∙ e) in
+        (by.fits-less agent sort t' u' new ∙ r.0, λ vs ws env to h. by.truth-less agent vs sort t' u' env ∙ r.1 vs ws env to h ∙ sym (by.truth-less agent ws sort t u to))
 
     pub goes-at_most : (sort : ℕ) (t t' u u' : Term) → GoesTerm t t' → GoesTerm u u' → GoesCond (cond.AtMost sort t u) (cond.AtMost sort t' u')
     goes-at_most sort t t' u u' g h e =
-        let k = and_cases (is_range agent sort && term_fits agent t old sort) (term_fits agent u old sort) (sym (by.fits-at_most agent sort t u old) ∙ e) in
-        let j = and_cases (is_range agent sort) (term_fits agent t old sort) k.0 in
-        let r = g sort j.1 in
-        let s = h sort k.1 in (
-          by.fits-at_most agent sort t' u' new
-              ∙ and_both (is_range agent sort && term_fits agent t' new sort) (term_fits agent u' new sort) (and_both (is_range agent sort) (term_fits agent t' new sort) j.0 r.0) s.0,
-          λ vs ws env to h. by.truth-at_most agent vs sort t' u' env ∙ (λ i. comparison_of nat_le (r.1 vs ws env to h i) (s.1 vs ws env to h i)) ∙ sym (by.truth-at_most agent ws sort t u to),
-        )
+        let r = goes-sides (is_range agent sort) nat_le sort t t' u u' g h (sym (by.fits-at_most agent sort t u old) ∙ e) in
+        (by.fits-at_most agent sort t' u' new ∙ r.0, λ vs ws env to h. by.truth-at_most agent vs sort t' u' env ∙ r.1 vs ws env to h ∙ sym (by.truth-at_most agent ws sort t u to))
 
     goes-each : (f : Cond → Cond) (cs : List Cond) → OfEach (λ c. GoesCond c (f c)) cs → list_all (λ (test : A). test old) (map (cond_fits agent) cs) ≡ true
         → (list_all (λ (test : A). test new) (map (cond_fits agent) (map f cs)) ≡ true)
@@ -134,26 +131,25 @@ module _ (agent : Agent) where
     pub body : GoesCond (bound old x sort) (bound new y sort) inner c d
 
   module _ (old new : Scope) (at : At) (x y sort : ℕ) (c d : Cond) (goes : binder_fits agent x sort ≡ true → GoesBody old new at x y sort c d) where
-    pub goes-some : GoesCond old new at (cond.ForSome x sort c) (cond.ForSome y sort d)
-    goes-some e =
-        let k = and_cases (binder_fits agent x sort) (cond_fits agent c (bound old x sort)) (sym (by.fits-some agent x sort c old) ∙ e) in
+    bodies : (binder_fits agent x sort && cond_fits agent c (bound old x sort)) ≡ true
+        → ((binder_fits agent y sort && cond_fits agent d (bound new y sort)) ≡ true)
+        × ((vs ws : Values) (env to : Env) → at vs ws env to → map (λ v. truth_of agent vs d (slice_set env y v)) (range_with_len 0 (sort_size agent sort))
+        ≡ map (λ v. truth_of agent ws c (slice_set to x v)) (range_with_len 0 (sort_size agent sort)))
+    bodies e =
+        let k = and_cases (binder_fits agent x sort) (cond_fits agent c (bound old x sort)) e in
         let g = goes k.0 in
         let r = g.body k.1 in (
-          by.fits-some agent y sort d new ∙ and_both (binder_fits agent y sort) (cond_fits agent d (bound new y sort)) g.binder r.0,
-          λ vs ws env to h. by.truth-some agent vs y sort d env
-              ∙ ap or_of (map-range (λ v. truth_of agent vs d (slice_set env y v)) (λ v. truth_of agent ws c (slice_set to x v)) 0 (sort_size agent sort)
-              (λ v l. r.1 vs ws (slice_set env y v) (slice_set to x v) (g.set vs ws env to h v (omega arith))))
-              ∙ sym (by.truth-some agent ws x sort c to),
+          and_both (binder_fits agent y sort) (cond_fits agent d (bound new y sort)) g.binder r.0,
+          λ vs ws env to h. map-range (λ v. truth_of agent vs d (slice_set env y v)) (λ v. truth_of agent ws c (slice_set to x v)) 0 (sort_size agent sort)
+              (λ v l. r.1 vs ws (slice_set env y v) (slice_set to x v) (g.set vs ws env to h v (omega arith))),
         )
+
+    pub goes-some : GoesCond old new at (cond.ForSome x sort c) (cond.ForSome y sort d)
+    goes-some e =
+        let r = bodies (sym (by.fits-some agent x sort c old) ∙ e) in
+        (by.fits-some agent y sort d new ∙ r.0, λ vs ws env to h. by.truth-some agent vs y sort d env ∙ ap or_of (r.1 vs ws env to h) ∙ sym (by.truth-some agent ws x sort c to))
 
     pub goes-all : GoesCond old new at (cond.ForAll x sort c) (cond.ForAll y sort d)
     goes-all e =
-        let k = and_cases (binder_fits agent x sort) (cond_fits agent c (bound old x sort)) (sym (by.fits-all agent x sort c old) ∙ e) in
-        let g = goes k.0 in
-        let r = g.body k.1 in (
-          by.fits-all agent y sort d new ∙ and_both (binder_fits agent y sort) (cond_fits agent d (bound new y sort)) g.binder r.0,
-          λ vs ws env to h. by.truth-all agent vs y sort d env
-              ∙ ap and_of (map-range (λ v. truth_of agent vs d (slice_set env y v)) (λ v. truth_of agent ws c (slice_set to x v)) 0 (sort_size agent sort)
-              (λ v l. r.1 vs ws (slice_set env y v) (slice_set to x v) (g.set vs ws env to h v (omega arith))))
-              ∙ sym (by.truth-all agent ws x sort c to),
-        )
+        let r = bodies (sym (by.fits-all agent x sort c old) ∙ e) in
+        (by.fits-all agent y sort d new ∙ r.0, λ vs ws env to h. by.truth-all agent vs y sort d env ∙ ap and_of (r.1 vs ws env to h) ∙ sym (by.truth-all agent ws x sort c to))
