@@ -1,5 +1,5 @@
 pub mod Absurd
-pub mod NoAgent
+pub mod NoTable
 pub mod Laws
 pub mod Sharing
 pub mod Resting

@@ -14,7 +14,7 @@ pub trait Naming {
 }
 
 impl Naming for Brand {
-    ghost use Rattle.golog_threads.specs.NoAgent.{no_agent};
+    ghost use Rattle.golog_semantics.specs.NoAgent.{no_agent};
 
     ghost agent = { no_agent };
 }
@@ -28,7 +28,7 @@ pub trait AtLock {
 }
 
 impl AtLock for Brand {
-    ghost use Rattle.golog_threads.specs.NoAgent.{no_table};
+    ghost use Rattle.golog_threads.specs.NoTable.{no_table};
 
     ghost home = { no_table };
 }
