@@ -1,5 +1,5 @@
-//! Runs, checks and asks agent files: `golog run AGENT [DEVICES] [--inline]`, `golog check AGENT`,
-//! `golog ask AGENT JOURNAL CONDITION`, `golog demo N`.
+//! Runs, checks, replays and asks agent files: `golog run AGENT [DEVICES] [--inline]`, `golog check AGENT`,
+//! `golog replay AGENT JOURNAL`, `golog ask AGENT JOURNAL CONDITION`, `golog demo N`.
 #![tactic(auto)]
 
 use golog_base::{FileFiles, OutSink};
