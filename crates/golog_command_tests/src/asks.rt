@@ -95,16 +95,19 @@ fn asked(alloc: Global, file: &[u8], journal: &[u8], text: &[u8]) -> Told {
 }
 
 /// A journal of so many entries, which begins with these lines, so many, and goes on with one entry.
-fn long(
-    alloc: Global,
-    begin: &[u8],
+#[derive(Clone, Copy)]
+struct Long<'a> {
+    begin: &'a [u8],
     lines: usize,
-    entry: &[u8],
+    entry: &'a [u8],
     entries: usize,
-) -> Result<Bytes, NoMemory> {
-    let mut text = Bytes::copy_of(alloc, begin)?;
-    for place in lines..entries {
-        push_entry(&mut text, place, entry)?;
+}
+
+/// Its text.
+fn text_of(alloc: Global, long: &Long<'_>) -> Result<Bytes, NoMemory> {
+    let mut text = Bytes::copy_of(alloc, long.begin)?;
+    for place in long.lines..long.entries {
+        push_entry(&mut text, place, long.entry)?;
     }
     Ok(text)
 }
@@ -116,16 +119,8 @@ fn push_entry(text: &mut Bytes, place: usize, entry: &[u8]) -> Result<(), NoMemo
 }
 
 /// What comes of a condition after such a journal.
-fn asked_after_long(
-    alloc: Global,
-    file: &[u8],
-    begin: &[u8],
-    lines: usize,
-    entry: &[u8],
-    entries: usize,
-    text: &[u8],
-) -> Told {
-    let journal = long(alloc, begin, lines, entry, entries);
+fn asked_after_long(alloc: Global, file: &[u8], long: &Long<'_>, text: &[u8]) -> Told {
+    let journal = text_of(alloc, long);
     let answer = match &journal {
         Ok(journal) => asked(alloc, file, journal.as_slice(), text),
         Err(_wanted) => Ok(None),
@@ -152,7 +147,7 @@ fn conditions_have_their_truths(rt: HostRuntime) {
 
 #[test]
 fn conditions_are_refused_at_their_places(rt: HostRuntime) {
-    let refusals: [(&[u8], (u8, u32)); 13] = [
+    let refusals: [(&[u8], (u8, u32)); 14] = [
         (b"(lit 1", (1, 6)),
         (b"(lit 1))", (2, 7)),
         (b"(lit ?)", (3, 5)),
@@ -162,6 +157,7 @@ fn conditions_are_refused_at_their_places(rt: HostRuntime) {
         (b"(some (x floor) true)", (22, 9)),
         (b"(and (lit 1) (dark))", (23, 14)),
         (b"(lit)", (24, 0)),
+        (b"(lit 99999999999)", (26, 5)),
         (b"(= (sign) 1)", (30, 10)),
         (b"(lit 4)", (30, 5)),
         (b"(lit x)", (31, 5)),
@@ -238,9 +234,14 @@ fn long_journals_are_asked(rt: HostRuntime) {
         (b"(some (x level) (and (lit x) (< x 7)))", Truth::No),
         (b"(all (x level) (or (lit x) (< x 40)))", Truth::Yes),
     ];
-    let begin = b"0 do look @eye\n1 sense eye 0 true\n2 do light(40)\n";
+    let long = Long {
+        begin: b"0 do look @eye\n1 sense eye 0 true\n2 do light(40)\n",
+        lines: 3,
+        entry: b" do light(7)\n",
+        entries: 4_000,
+    };
     for (text, truth) in asks {
-        let asked = asked_after_long(rt.alloc(), LAMPS, begin, 3, b" do light(7)\n", 4_000, text);
+        let asked = asked_after_long(rt.alloc(), LAMPS, &long, text);
         same(&rt, text, asked, Ok(Some(truth)));
     }
 }
@@ -256,7 +257,13 @@ fn conditions_that_grow_are_asked(rt: HostRuntime) {
         (3_001, b"(or (gold) (not (heads)))", Truth::Unknown),
     ];
     for (tosses, text, truth) in asks {
-        let asked = asked_after_long(rt.alloc(), COIN, b"", 0, b" do toss\n", tosses, text);
+        let long = Long {
+            begin: b"",
+            lines: 0,
+            entry: b" do toss\n",
+            entries: tosses,
+        };
+        let asked = asked_after_long(rt.alloc(), COIN, &long, text);
         same(&rt, text, asked, Ok(Some(truth)));
     }
 }

@@ -1,5 +1,5 @@
 use crate::asserting::same;
-use crate::reading::theory_refusal;
+use crate::reading::{program_refusal, theory_refusal};
 use golog_base::{Bytes, NoMemory};
 use std::alloc::Global;
 
@@ -8,6 +8,10 @@ const CAUSE: &str = "(causes (start_interrupts) (interrupts_running) true)";
 const POSS: &str = "(agent (action a (bool)) (poss (a y) ";
 
 const EFFECT: &str = "(agent (action a (bool)) (fluent p (bool) bool) (causes (a y) (p z) true ";
+
+const PICK: &str = "(pick (x bool) ";
+
+const PROC: &str = "(agent (main nil) (proc p ((x bool)) ";
 
 /// Adds a part of a text: two letters that tell this number below 256 for each `%`.
 fn push_part(text: &mut Bytes, part: &str, number: u32) -> Result<(), NoMemory> {
@@ -89,5 +93,44 @@ fn what_is_too_much_is_refused(rt: HostRuntime) {
     ];
     for (parts, code, at) in files {
         same(&rt, parts, refusal(rt.alloc(), parts), (code, at));
+    }
+}
+
+/// The same of a program.
+fn refusal_of_program(alloc: Global, parts: &[(&str, u32)]) -> (u8, u32) {
+    match text_of(alloc, parts) {
+        Ok(text) => program_refusal(alloc, text.as_slice()),
+        Err(NoMemory) => (255, 0),
+    }
+}
+
+// The parameters of a procedure count among the variables in scope.
+#[test]
+fn programs_of_too_many_variables_are_refused(rt: HostRuntime) {
+    let files: [(&[(&str, u32)], u8, u32); 4] = [
+        (
+            &[("(agent (main ", 1), (PICK, 32), ("nil", 1), (")", 34)],
+            0,
+            0,
+        ),
+        (
+            &[("(agent (main ", 1), (PICK, 33), ("nil", 1), (")", 35)],
+            25,
+            13 + 32 * 15,
+        ),
+        (&[(PROC, 1), (PICK, 31), ("nil", 1), (")", 33)], 0, 0),
+        (
+            &[(PROC, 1), (PICK, 32), ("nil", 1), (")", 34)],
+            25,
+            37 + 31 * 15,
+        ),
+    ];
+    for (parts, code, at) in files {
+        same(
+            &rt,
+            parts,
+            refusal_of_program(rt.alloc(), parts),
+            (code, at),
+        );
     }
 }

@@ -214,24 +214,50 @@ fn a_device_sleeps_in_each_call(rt: HostRuntime) -> Result<(), NoMemory> {
     Ok(())
 }
 
-/// Whether these words of the bad device stand from the first on, nothing of the good one is lost, and a replay says
-/// this.
-fn is_whole(
-    alloc: Global,
-    program: &str,
-    journal: &str,
-    words: &str,
-    said: &str,
-) -> Result<[bool; 3], NoMemory> {
-    Ok([
-        has_first_posts(alloc, journal, words)?,
-        has_all_of_good(alloc, journal)?,
-        is_found(alloc, program, journal, said)?,
-    ])
+/// What is so of a run: its status, whether the bad device is closed in one of the ways that may be, whether its words
+/// stand from the first on, whether nothing of the good one is lost, and whether a replay says what is wanted.
+#[derive(Clone, Copy, Debug, PartialEq)]
+struct Ended {
+    status: u8,
+    is_closed: bool,
+    has_words: bool,
+    has_good: bool,
+    is_found: bool,
 }
 
-/// The status of a run in which the good device awaits so many words of the bad one, and whether that is closed in
-/// one of these ways and its journal is whole, where a replay says this.
+/// A run with this status of which all is so.
+fn whole(status: u8) -> Ended {
+    Ended {
+        status,
+        is_closed: true,
+        has_words: true,
+        has_good: true,
+        is_found: true,
+    }
+}
+
+/// What is so of the journal of such a run, whose bad device has this part.
+fn ended_with(
+    alloc: Global,
+    program: &str,
+    bad: Part<'_>,
+    call: &Call,
+    closings: &[&str],
+    said: &str,
+) -> Result<Ended, NoMemory> {
+    let (status, journal) = call.said();
+    let closing = said_behind(journal, "close bad ");
+    let is_closed = closings.iter().any(|one| *one == closing);
+    Ok(Ended {
+        status,
+        is_closed,
+        has_words: has_first_posts(alloc, journal, bad.words)?,
+        has_good: has_all_of_good(alloc, journal)?,
+        is_found: is_found(alloc, program, journal, said)?,
+    })
+}
+
+/// The same, where the good device awaits so many words of the bad one.
 fn ended_of<R: Threads + Wait + Sync>(
     threads: &R,
     rt: &HostRuntime,
@@ -240,14 +266,11 @@ fn ended_of<R: Threads + Wait + Sync>(
     awaited: u64,
     closings: &[&str],
     said: &str,
-) -> Result<(u8, bool, [bool; 3]), NoMemory> {
+) -> Result<Ended, NoMemory> {
     let call = played(threads, rt, program, bad, awaited)?;
-    let (status, journal) = call.said();
-    let closing = said_behind(journal, "close bad ");
-    let is_closed = closings.iter().any(|one| *one == closing);
-    let whole = is_whole(rt.alloc(), program, journal, bad.words, said);
+    let ended = ended_with(rt.alloc(), program, bad, &call, closings, said);
     drop(call);
-    Ok((status, is_closed, whole?))
+    ended
 }
 
 // A device posts more than a journal takes, once the good one has posted all that it has. Its posts stand until the
@@ -261,7 +284,7 @@ fn a_device_posts_without_end(rt: HostRuntime) -> Result<(), NoMemory> {
     };
     let closings = ["full 0", "late 0", "stopped 0"];
     let ended = ended_of(&rt, &rt, STAY, bad, 0, &closings, "online full\n")?;
-    same(&rt, "endless", ended, (15, true, [true; 3]));
+    same(&rt, "endless", ended, whole(15));
     Ok(())
 }
 
@@ -275,6 +298,6 @@ fn a_device_posts_after_the_end(rt: HostRuntime) -> Result<(), NoMemory> {
         ..Part::of("", ticks.as_str())
     };
     let ended = ended_of(&rt, &rt, FINISH, bad, 1, &["late 0"], "online done\n")?;
-    same(&rt, "late", ended, (0, true, [true; 3]));
+    same(&rt, "late", ended, whole(0));
     Ok(())
 }

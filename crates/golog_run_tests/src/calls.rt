@@ -5,7 +5,7 @@ use crate::asserting::same;
 use golog_base::{Bytes, HeldFile, List, MemFiles, MemSink, NoMemory, Text, both};
 use golog_device::Device;
 use golog_main::{NO_MEMORY, golog, is_threaded, script_devices, serve_inline};
-use golog_words::order_of;
+use golog_words::{WordsFault, order_of};
 use std::alloc::Global;
 use std::process::Abort;
 use std::sync::Wait;
@@ -26,8 +26,15 @@ pub const RUN_ON_THREADS: &[&str] = &["run", "x.agent", "x.devices"];
 /// The words of a replay of `x.journal`.
 pub const REPLAY: &[&str] = &["replay", "x.agent", "x.journal"];
 
+/// An agent file, of an action that makes a test true.
+pub const ONE: &[u8] = b"(agent (fluent p () bool false) (action a ()) (causes (a) (p) true)
+    (main (seq (act a) (test (p)))))";
+
 /// No file.
 pub const NO_FILE: (&str, &[u8]) = ("", b"");
+
+/// The status that tests give to words that `serve_inline` does not serve; no call of the program ends with it.
+const NOT_SERVED: u8 = u8::MAX;
 
 /// No call.
 const NONE: &[u32] = &[];
@@ -226,7 +233,8 @@ fn call_of<D: Device>(alloc: Global, handed: Handed, devices: &mut [D]) -> Call
     Call { status, out }
 }
 
-/// Does what these words say, which need no threads, and answers the exit status.
+/// Does what these words say, which need no threads, and answers the exit status. It promises nothing, so that no test
+/// carries the clauses of the call.
 fn served<D: Device>(
     alloc: Global,
     words: &[String],
@@ -239,7 +247,8 @@ fn served<D: Device>(
 {
     match order_of(alloc, words) {
         Ok(order) if !is_threaded(order) => serve_inline(alloc, order, files, out, devices),
-        _ => NO_MEMORY,
+        Err(WordsFault::Memory) => NO_MEMORY,
+        _ => NOT_SERVED,
     }
 }
 
@@ -295,6 +304,7 @@ fn threaded<R: Threads + Wait + Sync, D: Device + Send>(
     Call { status, out }
 }
 
+/// The same of words that may need threads.
 fn status_of<R: Threads + Wait + Sync, D: Device + Send>(
     rt: &R,
     alloc: Global,

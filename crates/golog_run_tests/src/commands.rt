@@ -1,8 +1,5 @@
-use crate::calls::{NO_FILE, REPLAY, Setting, says};
+use crate::calls::{NO_FILE, ONE, REPLAY, Setting, says};
 use golog_base::NoMemory;
-
-const ONE: &[u8] = b"(agent (fluent p () bool false) (action a ()) (causes (a) (p) true)
-    (main (seq (act a) (test (p)))))";
 
 /// A lamp that somebody may switch, and that tells whether it shines.
 const LAMP: &[u8] =

@@ -51,6 +51,12 @@ fn each_construct_runs(rt: HostRuntime) -> Result<(), NoMemory> {
             0,
             "0 do up\n1 do up\n2 test\n3 end done\n",
         ),
+        // It takes its own step first, also where what follows has one.
+        (
+            "(seq (star (act up)) (test (= (height) 2)))",
+            10,
+            "0 do up\n1 do up\n2 end stuck\n",
+        ),
         // An `if` takes the branch that is known.
         (
             "(if (on) (act ring) (act switch))",
@@ -105,6 +111,7 @@ fn each_construct_runs(rt: HostRuntime) -> Result<(), NoMemory> {
             0,
             "0 test\n1 do switch\n2 test\n3 end done\n",
         ),
+        ("(cstar (act ring))", 0, "0 end done\n"),
         // A `call` runs the body of its procedure.
         ("(call rise 2)", 0, "0 do up\n1 end done\n"),
         (

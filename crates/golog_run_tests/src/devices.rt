@@ -29,8 +29,21 @@ pub const DOOR: &str = "
   (senses (look) (opened))
   (causes (slam) (opened) false)";
 
+/// The same where the door is known to be open.
+const OPEN_DOOR: &str = "
+  (device wind) (device door)
+  (fluent opened () bool)
+  (action look () door) (action go ()) (action knock ())
+  (exo calm () wind) (exo slam () wind)
+  (senses (look) (opened))
+  (causes (slam) (opened) false)
+  (start (opened) true)";
+
 /// Looks, and goes where the door is open.
 pub const LOOK: &str = "(seq (act look) (if (opened) (act go) (act knock)))";
+
+/// A block that looks, and goes where the door is open.
+const LOOK_AHEAD: &str = "(search 4 1000 (seq (act look) (test (opened)) (act go)))";
 
 /// To the floors whose buttons were pushed, the one where the lift stands first, then up, then down; until it is
 /// told to quit.
@@ -94,6 +107,22 @@ fn devices_take_part(rt: HostRuntime) -> Result<(), NoMemory> {
             14,
             "0 close wind ended 0\n1 rest door 0\n2 do look @door\n3 close door bad 1\n\
             4 end unanswered\n",
+        ),
+        // A search senses nothing: what sensing alone would tell is not known in it.
+        (
+            DOOR,
+            LOOK_AHEAD,
+            r#"[{"name":"door","answers":["true"],"idle":["rest"]}]"#,
+            11,
+            "0 close wind ended 0\n1 rest door 0\n2 end unknown\n3 close door stopped 0\n",
+        ),
+        (
+            OPEN_DOOR,
+            LOOK_AHEAD,
+            r#"[{"name":"door","answers":["true"],"idle":["rest"]}]"#,
+            0,
+            "0 close wind ended 0\n1 rest door 0\n2 do look @door run look; -; go\n\
+            3 sense door 2 true\n4 test\n5 close door ended 1\n6 do go\n7 end done\n",
         ),
         // A lift quits when it is told to.
         (

@@ -1,11 +1,8 @@
 use crate::asserting::same;
-use crate::calls::{Call, NO_FILE, Setting, called, says};
+use crate::calls::{Call, NO_FILE, ONE, Setting, called, says};
 use golog_base::NoMemory;
 use std::alloc::Global;
 use std::process::Abort;
-
-const ONE: &[u8] = b"(agent (fluent p () bool false) (action a ()) (causes (a) (p) true)
-    (main (seq (act a) (test (p)))))";
 
 const LIFT: &[u8] = b"(agent (sort level 1 4) (device panel) (device lift)
     (exo push (level) panel) (main nil))";

@@ -4,7 +4,7 @@ use crate::replays::found_of;
 use golog_base::NoMemory;
 
 /// An action that makes a test true.
-const ONE: &str = "(fluent p () bool false) (action a ()) (causes (a) (p) true)";
+const ITEMS: &str = "(fluent p () bool false) (action a ()) (causes (a) (p) true)";
 
 /// Does the action, and takes the test.
 const STEP: &str = "(seq (act a) (test (p)))";
@@ -13,17 +13,17 @@ const STEP: &str = "(seq (act a) (test (p)))";
 #[test]
 fn forged_journals_are_found_out(rt: HostRuntime) -> Result<(), NoMemory> {
     let journals = [
-        (ONE, STEP, "0 test\n", "not online 0 step\n"),
-        (ONE, STEP, "0 do a run a\n", "not online 0 run\n"),
-        (ONE, STEP, "0 do a\n1 test\n", "not online 2 short\n"),
+        (ITEMS, STEP, "0 test\n", "not online 0 step\n"),
+        (ITEMS, STEP, "0 do a run a\n", "not online 0 run\n"),
+        (ITEMS, STEP, "0 do a\n1 test\n", "not online 2 short\n"),
         (
-            ONE,
+            ITEMS,
             STEP,
             "0 do a\n1 test\n2 end stuck\n",
             "not online 2 answer\n",
         ),
         (
-            ONE,
+            ITEMS,
             STEP,
             "0 do a\n1 test\n2 end done\n3 test\n",
             "not online 3 after\n",

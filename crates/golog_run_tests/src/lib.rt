@@ -20,6 +20,8 @@ mod faults;
 #[cfg(test)]
 mod forged;
 #[cfg(test)]
+mod long_runs;
+#[cfg(test)]
 mod own_devices;
 #[cfg(test)]
 mod refusals;

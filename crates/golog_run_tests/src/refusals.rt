@@ -116,11 +116,23 @@ fn files_that_spell_no_agent_are_refused(rt: HostRuntime) -> Result<(), NoMemory
             "refused agent 32 at 7\n",
         ),
         (
+            "(agent (fluent q () bool) (action a ()) (proc p () (seq (while (q) (act a)) (call p))) (main nil))",
+            "refused agent 32 at 40\n",
+        ),
+        (
             "(agent (main (search 1 1 (search 1 1 nil))))",
             "refused agent 33 at 13\n",
         ),
         (
             "(agent (main (search 0 1 nil)))",
+            "refused agent 37 at 13\n",
+        ),
+        (
+            "(agent (main (search 65 1 nil)))",
+            "refused agent 37 at 13\n",
+        ),
+        (
+            "(agent (main (search 1 100001 nil)))",
             "refused agent 37 at 13\n",
         ),
         (

@@ -191,17 +191,32 @@ fn is_found_out(alloc: Global, journal: &str) -> Result<bool, NoMemory> {
     is_so
 }
 
-/// Whether all posts stand in a journal, whether it is online, and whether one with two steps exchanged is found out.
-fn found_in(alloc: Global, journal: &str) -> Result<[bool; 3], NoMemory> {
-    Ok([
-        has_all_posts(alloc, journal)?,
-        is_found(alloc, journal, 0, &["online done\n"])?,
-        is_found_out(alloc, journal)?,
-    ])
+/// What is found in a journal: whether all posts stand in it, whether it is online, and whether one with two steps
+/// exchanged is found out.
+#[derive(Clone, Copy, Debug, PartialEq)]
+struct Found {
+    has_posts: bool,
+    is_online: bool,
+    finds_out: bool,
+}
+
+/// What is to be found.
+const ALL_SO: Found = Found {
+    has_posts: true,
+    is_online: true,
+    finds_out: true,
+};
+
+fn found_in(alloc: Global, journal: &str) -> Result<Found, NoMemory> {
+    Ok(Found {
+        has_posts: has_all_posts(alloc, journal)?,
+        is_online: is_found(alloc, journal, 0, &["online done\n"])?,
+        finds_out: is_found_out(alloc, journal)?,
+    })
 }
 
 /// The status of the run, and what is found in its journal.
-fn ticked<R: Threads + Wait + Sync>(rt: &R, alloc: Global) -> Result<(u8, [bool; 3]), NoMemory> {
+fn ticked<R: Threads + Wait + Sync>(rt: &R, alloc: Global) -> Result<(u8, Found), NoMemory> {
     let call = ran_with_ticks(rt, alloc)?;
     let (status, journal) = call.said();
     let found = found_in(alloc, journal);
@@ -213,6 +228,6 @@ fn ticked<R: Threads + Wait + Sync>(rt: &R, alloc: Global) -> Result<(u8, [bool;
 // steps of the search are exchanged.
 #[test]
 fn a_clock_ticks_during_a_search(rt: HostRuntime) -> Result<(), NoMemory> {
-    same(&rt, "clock", ticked(&rt, rt.alloc())?, (0, [true; 3]));
+    same(&rt, "clock", ticked(&rt, rt.alloc())?, (0, ALL_SO));
     Ok(())
 }

@@ -43,6 +43,12 @@ fn blocks_are_searched(rt: HostRuntime) -> Result<(), NoMemory> {
             0,
             "0 do b run b; a\n1 do a\n2 end done\n",
         ),
+        // The greatest depth and fuel.
+        (
+            "(search 64 100000 (act c))",
+            0,
+            "0 do c run c\n1 end done\n",
+        ),
         // A state counts in each level in which it stands.
         (
             "(search 2 2 (seq (star (act a)) (test (q))))",

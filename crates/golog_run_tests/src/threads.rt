@@ -1,6 +1,6 @@
 use crate::actors::{Actors, Part};
 use crate::asserting::same;
-use crate::calls::{Call, NO_FILE, Setting, called_on_threads, has_said};
+use crate::calls::{Call, NO_FILE, ONE, Setting, called_on_threads, has_said};
 use crate::slots::{Maker, threaded_with};
 use crate::tables::Table;
 use golog_base::NoMemory;
@@ -31,9 +31,7 @@ fn ran_with<R: Threads + Wait + Sync, D: Device + Send, M: Maker<D>>(
 // Without devices a run over threads has the text of one without.
 #[test]
 fn a_run_over_threads_without_devices(rt: HostRuntime) -> Result<(), NoMemory> {
-    let agent: &[u8] = b"(agent (fluent p () bool false) (action a ()) (causes (a) (p) true)
-        (main (seq (act a) (test (p)))))";
-    let call = called_on_threads(&rt, rt.alloc(), &run_of(agent));
+    let call = called_on_threads(&rt, rt.alloc(), &run_of(ONE));
     has_said(&rt, "", call, (0, "0 do a\n1 test\n2 end done\n"))
 }
 

@@ -48,7 +48,7 @@ fn other_words_are_no_command(rt: HostRuntime) -> Result<(), NoMemory> {
 // Each command is served by the call that is handed a runtime.
 #[test]
 fn commands_are_served(rt: HostRuntime) -> Result<(), NoMemory> {
-    let lines: [(&[&str], u8, &str); 6] = [
+    let lines: [(&[&str], u8, &str); 7] = [
         (&["run", "x.agent"], 0, "0 end done\n"),
         (&["run", "--inline", "x.agent"], 0, "0 end done\n"),
         (
@@ -57,6 +57,11 @@ fn commands_are_served(rt: HostRuntime) -> Result<(), NoMemory> {
             "ok fluents 1 actions 2 procedures 0 devices 0\n",
         ),
         (&["check", "y.agent"], 4, "read fault agent\n"),
+        (
+            &["replay", "x.agent", "x.journal"],
+            4,
+            "read fault journal\n",
+        ),
         (
             &["ask", "x.agent", "x.journal", "true"],
             4,

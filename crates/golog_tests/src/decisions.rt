@@ -39,7 +39,7 @@ const SHALLOW: &[u8] = b"(agent (fluent p () bool false) (action a ())
 const ENDED: &[u8] = b"(agent (main nil))";
 
 /// What is told of a program at the start.
-#[derive(Clone, Copy, PartialEq, Eq)]
+#[derive(Clone, Copy, Debug, PartialEq, Eq)]
 enum Told {
     /// It ends.
     Ends,
@@ -130,18 +130,14 @@ fn told_of(alloc: Global, file: &[u8]) -> ([Told; 3], Option<bool>) {
     answer
 }
 
-/// Whether all ways to ask tell this of the program of a file, and that it is not heavy.
-fn all_tell(alloc: Global, file: &[u8], wanted: Told) -> bool {
-    told_of(alloc, file) == ([wanted; 3], Some(false))
-}
-
 // Where fuel is wanted, the unbounded decision tells what there would be with more.
 #[test]
 fn a_heavy_program_steps_whatever_its_fuel(rt: HostRuntime) {
-    let scant = ([Told::WantsFuel, Told::WantsFuel, Told::Begins], Some(true));
-    same(&rt, "scant", told_of(rt.alloc(), SCANT) == scant, true);
+    let wanted = ([Told::WantsFuel, Told::WantsFuel, Told::Begins], Some(true));
+    same(&rt, "scant", told_of(rt.alloc(), SCANT), wanted);
 }
 
+// All ways to ask tell the same, and that the program is not heavy.
 #[test]
 fn a_program_goes_on_ends_or_is_blocked(rt: HostRuntime) {
     for (file, wanted) in [
@@ -151,6 +147,7 @@ fn a_program_goes_on_ends_or_is_blocked(rt: HostRuntime) {
         (STUCK, Told::Is(Blocked::Stuck)),
         (SHALLOW, Told::Is(Blocked::Depth)),
     ] {
-        same(&rt, file, all_tell(rt.alloc(), file, wanted), true);
+        let all = ([wanted; 3], Some(false));
+        same(&rt, file, told_of(rt.alloc(), file), all);
     }
 }

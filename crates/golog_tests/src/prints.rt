@@ -6,6 +6,10 @@ use golog_prog::print_prog;
 use golog_tree::Agent;
 use std::alloc::Global;
 
+/// A fluent, and an action that sets it.
+const ONE: &[u8] = b"(agent (fluent p () bool false) (action a ()) (causes (a) (p) true)
+    (main (seq (act a) (test (p)))))";
+
 /// Whether the text of the agent's program is this one.
 fn is_printed(alloc: Global, agent: &Agent, wanted: &[u8]) -> bool {
     match print_prog(alloc, agent, &agent.main) {
@@ -27,7 +31,8 @@ fn is_printed_back(alloc: Global, file: &[u8], program: &[u8]) -> bool {
 
 #[test]
 fn programs_that_were_read_are_printed_back(rt: HostRuntime) {
-    let programs: [(&[u8], &[u8]); 2] = [
+    let programs: [(&[u8], &[u8]); 3] = [
+        (ONE, b"(seq (act a) (test (p)))"),
         (BELL, b"(while (awaited) (act ring))"),
         (LIFT, b"(pick (v0_0 level) (act off v0_0))"),
     ];
