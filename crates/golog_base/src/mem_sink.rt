@@ -1,8 +1,8 @@
 // A sink in memory.
-ghost use Rattle.std.specs.Prelude.{◌≡◌, ◌≤◌, ◌+◌, ◌++◌, length, vec_capacity, vec_len};
+ghost use Rattle.std.specs.Prelude.{◌≡◌, ◌≤◌, length, vec_capacity, vec_len};
 
 use crate::failures::Failures;
-use crate::{Failed, List, NoMemory, Sink};
+use crate::{Failed, List, NoMemory, Sink, put_reserved};
 use std::alloc::Global;
 
 /// A sink in memory, some of whose calls fail. It tells all that it took.
@@ -98,16 +98,5 @@ impl Sink for MemSink {
         }
         put_reserved(&mut self.taken, &bytes[..count]);
         Ok(count)
-    }
-}
-
-// Adds the bytes where their room is reserved, which takes no memory.
-fn put_reserved(taken: &mut Vec<u8>, bytes: &[u8])
-    requires { vec_len taken.old + length bytes.now ≤ vec_capacity taken.old }
-    ensures added { taken.new.items ≡ taken.old.items ++ bytes.now }
-    ensures capacity { vec_capacity taken.new ≡ vec_capacity taken.old }
-{
-    for byte in bytes {
-        taken.push_reserved(*byte);
     }
 }

@@ -13,7 +13,7 @@ use Rattle.golog_semantics.specs.Values.{after}
 use Rattle.golog_semantics.specs.Ways.{is_empty, plain_move, way_of}
 use Rattle.golog_semantics.specs.Search.{Run, final, is_followed, moves_with, no_blocks, plain_ways, runs}
 use Rattle.golog_semantics.specs.Moves.{plain_moves}
-use Rattle.golog_semantics.specs.Blocks.{begins_run, block_moves, goes_on, has_path, is_cut, may_succeed, meets_cut}
+use Rattle.golog_semantics.specs.Blocks.{begins_run, block_moves, has_path, is_cut, leaves_unseen, may_succeed, meets_cut}
 use Rattle.golog_semantics.specs.Guarded.{IsGuarded}
 use Rattle.golog_semantics.specs.Trans.{Leads, LeadsIn, PlainTrans}
 use Rattle.golog_semantics.specs.World.{Refines}
@@ -82,16 +82,16 @@ module _ (agent : Agent) where
     -- a run may begin with a way after which the search sees an end, or is cut
     succeeds : (d : ℕ) (b : Bool) → is_followed w ≡ b → IsFoundOrCut agent next d w.left → may_succeed agent values (suc d) w ≡ true
     succeeds d false e s =
-        or_first (begins_run agent values (suc d) w || not (is_followed w)) (goes_on agent (suc d) w next)
+        or_first (begins_run agent values (suc d) w || not (is_followed w)) (leaves_unseen agent (suc d) w next)
         (or_second (begins_run agent values (suc d) w) (not (is_followed w)) (not_false (is_followed w) e))
     succeeds d true e (inl r) =
         let has_run = λ (n : ℕ). not (is_empty (runs agent Near n w.left next)) in
-        or_first (begins_run agent values (suc d) w || not (is_followed w)) (goes_on agent (suc d) w next)
+        or_first (begins_run agent values (suc d) w || not (is_followed w)) (leaves_unseen agent (suc d) w next)
         (or_first (begins_run agent values (suc d) w) (not (is_followed w))
         (and_both (is_followed w) (list_any has_run (range_with_len 0 (suc d))) e
         (any-among has_run (range_with_len 0 (suc d)) r.size (among-range 0 (suc d) r.size (omega arith) (let l = r.within in omega arith)) r.found)))
     succeeds d true e (inr h) =
-        or_second (begins_run agent values (suc d) w || not (is_followed w)) (goes_on agent (suc d) w next)
+        or_second (begins_run agent values (suc d) w || not (is_followed w)) (leaves_unseen agent (suc d) w next)
         (and_both (is_followed w) (is_cut agent Near d w.left next) e h)
 
   module _ (g : IsGuarded agent) where

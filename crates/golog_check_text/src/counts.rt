@@ -8,7 +8,7 @@ use itoa::Buffer;
 use std::alloc::Global;
 
 /// Adds what is counted, and how many there are.
-fn add_count(text: &mut Bytes, counted: &[u8], count: usize) -> Result<(), NoMemory>
+pub fn add_count(text: &mut Bytes, counted: &[u8], count: usize) -> Result<(), NoMemory>
     ensures { OnOk result (text.new ≡ text.old ++ counted.now ++ decimal count) }
 {
     let mut buffer = Buffer::new();

@@ -3,4 +3,4 @@
 
 mod counts;
 
-pub use counts::check_text;
+pub use counts::{add_count, check_text};

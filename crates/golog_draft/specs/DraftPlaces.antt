@@ -1,5 +1,7 @@
 -- The places of a draft at which an item, or a part of it, may be refused, in the order in which it is read.
 use Rattle.std.specs.Prelude.{ℕ, List, [], ◌∷◌, ◌++◌, map, Option, Some, None}
+use Rattle.golog_tree.specs.declared.draft.DraftSort.{DraftSort}
+use Rattle.golog_tree.specs.declared.draft.DraftSort.TheVariants.{Range, Listed}
 use Rattle.golog_tree.specs.declared.draft.DraftMain.{DraftMain}
 use Rattle.golog_tree.specs.declared.draft.DraftPoss.{DraftPoss}
 use Rattle.golog_tree.specs.declared.draft.DraftCause.{DraftCause}
@@ -20,6 +22,11 @@ use Rattle.golog_tree.specs.declared.draft_prog.DraftProg.TheOpen.{DraftProg-F, 
 use Rattle.golog_tree.specs.declared.draft_prog.DraftProg.TheFolds.{fold-DraftProg}
 use Rattle.golog_tree.specs.declared.draft_cond.DraftArg.TheVariants.{Word, Number}
 use Rattle.golog_tree.specs.declared.draft.DraftProc.{DraftProc}
+
+-- the place where the item of a sort begins
+abbrev pub sort_place : DraftSort → ℕ
+sort_place (Range name low high at) = at
+sort_place (Listed name constants at) = at
 
 abbrev pub arg_place : DraftArg → ℕ
 arg_place (Word word at) = at

@@ -6,11 +6,8 @@ ghost use Rattle.golog_ground.specs.Texts.{IsTheOne, WritesArgs, WritesEnclosed,
 
 use crate::ActionText;
 use crate::constant::{push_constant, read_constant};
-use golog_tree::Agent;
+use golog_tree::{Agent, MOST_ARGS};
 use std::marker::Model;
-
-// The most arguments of an action.
-const MOST_ARGS: usize = 3;
 
 // Arguments that were read, each a constant by its position in its sort. Contracts see them as their list.
 #[derive(Debug, Drop)]

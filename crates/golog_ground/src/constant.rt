@@ -1,6 +1,5 @@
-ghost use Rattle.std.specs.Prelude.{◌≡◌, ℕ, pos, ◌<◌, ◌≤◌, ◌+◌, ◌+ℤ◌, ◌++◌, length, position, nat_eq};
+ghost use Rattle.std.specs.Prelude.{◌≡◌, ℕ, pos, ◌<◌, ◌≤◌, ◌+◌, ◌+ℤ◌, ◌++◌, length, position, bytes_eq};
 ghost use Rattle.std.specs.Fmt.{signed_decimal};
-ghost use Rattle.std.specs.Cmp.Lexicographic.{pointwise};
 ghost use Rattle.golog_tree.specs.Ground.{item_size, sort_size};
 ghost use Rattle.golog_semantics.specs.Text.{constant_in, constant_text as spec_constant_text};
 ghost use Rattle.golog_semantics.specs.ReportLaws.{AreDistinctNames};
@@ -43,9 +42,9 @@ pub fn constant_text(agent: &Agent, sort: u32, value: u8) -> ActionText
     text
 }
 
-// The first place at which a name stands.
-fn place_of_name(names: &[Word], bytes: &[u8]) -> Option<usize>
-    ensures { result ≡ position (λ name. pointwise nat_eq name bytes.now) names.now }
+/// The first place at which a name of these bytes stands; `None` exactly where none does.
+pub fn place_of_name(names: &[Word], bytes: &[u8]) -> Option<usize>
+    ensures { result ≡ position (λ name. bytes_eq name bytes.now) names.now }
 {
     names.iter().position(|name| name.as_bytes() == bytes)
 }

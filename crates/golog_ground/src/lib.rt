@@ -8,5 +8,5 @@ mod number;
 mod text;
 
 pub use action::{action_text, read_action};
-pub use constant::{constant_text, read_constant};
+pub use constant::{constant_text, place_of_name, read_constant};
 pub use text::ActionText;

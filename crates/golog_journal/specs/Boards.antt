@@ -1,5 +1,5 @@
 -- The lists of entries that a board stands for. (This project's own.)
-use Rattle.std.specs.Prelude.{◌≤◌, Bool, IsTrue, ◌&&◌, []}
+use Rattle.std.specs.Prelude.{◌≤◌, Bool, IsTrue, ◌&&◌, [], ◌∷◌, ◌++◌}
 use Rattle.std.specs.List.{list_all}
 use Rattle.golog_tree.specs.declared.agent.Agent.{Agent}
 use Rattle.golog_semantics.specs.declared.journal.Entry.{Entry}
@@ -30,3 +30,11 @@ module _ (agent : Agent) where
   pub record IsBoardList (journal : Journal) : Type 0 where
     pub lawful : IsTrue (list_all (λ keeps. keeps) (at_each is_lawful [] journal))
     pub room : count journal ≤ limit
+
+-- with this entry too, the journal's entries are a list that a board stands for
+abbrev pub IsBoardWith : AgentJournal → Entry → Type 0
+IsBoardWith journal e = IsBoardList journal.agent (journal.entries ++ e ∷ [])
+
+-- the journal with one more entry
+abbrev pub journal_with : AgentJournal → Entry → AgentJournal
+journal_with journal e = record { agent = journal.agent; entries = journal.entries ++ e ∷ [] }

@@ -1,9 +1,9 @@
 //! What is counted of a journal's entries.
-ghost use Rattle.std.specs.Prelude.{◌≡◌, ◌<◌, ◌≤◌, [], ◌∷◌, ◌++◌, length, Some, None, IfOk};
+ghost use Rattle.std.specs.Prelude.{◌≡◌, ◌<◌, ◌≤◌, [], length, Some, None, IfOk};
 ghost use Rattle.golog_semantics.specs.declared.journal.Entry.TheVariants.{Do};
 ghost use Rattle.golog_semantics.specs.Journal.{poster_of as posted_by, device_of, has_end as has_ended, is_open as is_open_in, is_full as is_full_in, is_quiet as is_quiet_in, longest};
 ghost use Rattle.golog_journal.specs.Agents.{ServesDevices};
-ghost use Rattle.golog_journal.specs.Boards.{IsBoardList};
+ghost use Rattle.golog_journal.specs.Boards.{IsBoardList, IsBoardWith, journal_with};
 ghost use Rattle.golog_journal.specs.Commands.{is_resting as is_resting_in};
 ghost use Rattle.golog_journal.specs.Quiet.{asked_of as asked_of_device};
 ghost use Rattle.golog_journal.specs.Tallies.{IsStep};
@@ -124,8 +124,8 @@ impl Counts {
 
     /// Counts one more entry, of the program or of a device.
     pub fn add(&mut self, entry: Entry)
-        requires { IsBoardList self.old.agent (self.old.entries ++ entry ∷ []) }
-        ensures { self.new ≡ record { agent = self.old.agent; entries = self.old.entries ++ entry ∷ [] } }
+        requires { IsBoardWith self.old entry }
+        ensures { self.new ≡ journal_with self.old entry }
     {
         match poster_of(entry) {
             Some(device) => self.add_posted(device, entry),
@@ -161,16 +161,16 @@ impl Counts {
     // Counts an entry of the program that is no command.
     fn add_step(&mut self, entry: Entry)
         requires step { IsStep self.old.agent entry }
-        requires lawful { IsBoardList self.old.agent (self.old.entries ++ entry ∷ []) }
-        ensures { self.new ≡ record { agent = self.old.agent; entries = self.old.entries ++ entry ∷ [] } }
+        requires lawful { IsBoardWith self.old entry }
+        ensures { self.new ≡ journal_with self.old entry }
     {
         self.totals.add(entry);
     }
 
     // Counts an action.
     fn add_do(&mut self, action: u32)
-        requires { IsBoardList self.old.agent (self.old.entries ++ Do action ∷ []) }
-        ensures { self.new ≡ record { agent = self.old.agent; entries = self.old.entries ++ Do action ∷ [] } }
+        requires { IsBoardWith self.old (Do action) }
+        ensures { self.new ≡ journal_with self.old (Do action) }
     {
         match self.facts.device_of(action) {
             Some(device) => self.add_command(device, action),
@@ -181,8 +181,8 @@ impl Counts {
     // Counts an action that is a command of the device.
     fn add_command(&mut self, device: u8, action: u32)
         requires device { device_of self.old.agent action ≡ Some device }
-        requires lawful { IsBoardList self.old.agent (self.old.entries ++ Do action ∷ []) }
-        ensures { self.new ≡ record { agent = self.old.agent; entries = self.old.entries ++ Do action ∷ [] } }
+        requires lawful { IsBoardWith self.old (Do action) }
+        ensures { self.new ≡ journal_with self.old (Do action) }
     {
         self.standings[device as usize].add_command();
         self.totals.add(Entry::Do { action });
@@ -191,8 +191,8 @@ impl Counts {
     // Counts an entry of the program.
     fn add_committed(&mut self, entry: Entry)
         requires program { posted_by entry ≡ None }
-        requires lawful { IsBoardList self.old.agent (self.old.entries ++ entry ∷ []) }
-        ensures { self.new ≡ record { agent = self.old.agent; entries = self.old.entries ++ entry ∷ [] } }
+        requires lawful { IsBoardWith self.old entry }
+        ensures { self.new ≡ journal_with self.old entry }
     {
         match entry {
             Entry::Do { action } => self.add_do(action),
@@ -203,8 +203,8 @@ impl Counts {
     // Counts an entry of a device.
     fn add_posted(&mut self, poster: u8, entry: Entry)
         requires poster { posted_by entry ≡ Some poster }
-        requires lawful { IsBoardList self.old.agent (self.old.entries ++ entry ∷ []) }
-        ensures { self.new ≡ record { agent = self.old.agent; entries = self.old.entries ++ entry ∷ [] } }
+        requires lawful { IsBoardWith self.old entry }
+        ensures { self.new ≡ journal_with self.old entry }
     {
         self.standings[poster as usize].note(entry);
         self.totals.add(entry);

@@ -14,7 +14,7 @@ use std::marker::Model;
 use std::snapshot::Snapshot;
 
 /// The most devices of an agent.
-pub(crate) const DEVICES: usize = 16;
+pub const DEVICES: usize = 16;
 
 /// What is kept of a ground action.
 #[derive(Clone, Copy)]

@@ -1,12 +1,12 @@
 //! The journal of one owner.
-ghost use Rattle.std.specs.Prelude.{◌≡◌, ◌<◌, ◌≤◌, [], ◌∷◌, ◌++◌, length, min, take, drop, ◌-◌, Some, None, IfOk, IfSome, MatchOption, if◌then◌else◌, option_map, slice_get};
+ghost use Rattle.std.specs.Prelude.{◌≡◌, ◌<◌, ◌≤◌, [], length, min, take, drop, ◌-◌, Some, None, IfOk, IfSome, MatchOption, if◌then◌else◌, option_map, slice_get};
 ghost use Rattle.std.specs.Option.{option_map_or};
 ghost use Rattle.golog_semantics.specs.Journal.{commands, is_open as is_open_in, is_full as is_full_in, is_quiet as is_quiet_in, longest};
 ghost use Rattle.golog_journal.specs.Quiet.{asked_of as asked_of_device};
 ghost use Rattle.golog_semantics.specs.Posts.{awaited_command, is_bad as is_bad_in, later_reason as later_reason_in, closing as closing_in, entry_of as entry_in};
 ghost use Rattle.golog_semantics.specs.declared.journal.Entry.TheVariants.{Close};
 ghost use Rattle.golog_journal.specs.Agents.{ServesDevices};
-ghost use Rattle.golog_journal.specs.Boards.{IsBoardList};
+ghost use Rattle.golog_journal.specs.Boards.{IsBoardList, IsBoardWith, journal_with};
 ghost use Rattle.golog_journal.specs.Posting.{posted_at as posted_at_in};
 ghost use Rattle.golog_journal.specs.Commands.{next_of as next_in, next_by};
 ghost use Rattle.golog_journal.specs.Kept.{command_of};
@@ -106,8 +106,8 @@ impl Journal {
 
     /// Adds an entry, of the program or of a device, as to a copy of another board's entries.
     pub fn add(&mut self, entry: Entry)
-        requires { IsBoardList self.old.agent (self.old.entries ++ entry ∷ []) }
-        ensures { self.new ≡ record { agent = self.old.agent; entries = self.old.entries ++ entry ∷ [] } }
+        requires { IsBoardWith self.old entry }
+        ensures { self.new ≡ journal_with self.old entry }
     {
         self.push(entry);
     }
@@ -121,8 +121,8 @@ impl Journal {
 
     // Adds an entry.
     fn push(&mut self, entry: Entry)
-        requires { IsBoardList self.old.agent (self.old.entries ++ entry ∷ []) }
-        ensures more { self.new ≡ record { agent = self.old.agent; entries = self.old.entries ++ entry ∷ [] } }
+        requires { IsBoardWith self.old entry }
+        ensures more { self.new ≡ journal_with self.old entry }
         ensures short { length self.new.entries ≤ longest }
     {
         keep_command(&mut self.commands, &self.counts, entry);

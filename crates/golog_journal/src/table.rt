@@ -13,13 +13,10 @@ ghost use Rattle.golog_journal.specs.Facts.{IsFactOf, AreAllFacts};
 use crate::facts::{ActionFact, DEVICES};
 use golog_base::NoMemory;
 use golog_tree::{
-    ActionItem, Agent, Arg, Ground, SenseItem, action_count, action_of, fluent_no, fluent_of,
-    sort_size,
+    ActionItem, Agent, Arg, Ground, MOST_ARGS, SenseItem, action_count, action_of, fluent_no,
+    fluent_of, sort_size,
 };
 use std::alloc::Global;
-
-/// The most arguments of an item.
-const MOST_ARGS: usize = 3;
 
 /// The facts of all ground actions, in the order of their numbers. Takes time for each of them and each
 /// action item before it.
@@ -86,8 +83,8 @@ fn posters_in(item: &ActionItem) -> [bool; DEVICES]
     posters
 }
 
-/// What an action's result tells, by the first item for it.
-fn sense_for(senses: &[SenseItem], action: u32) -> Option<&SenseItem>
+/// What an action's result tells, by the first item for it; `None` exactly where there is none.
+pub fn sense_for(senses: &[SenseItem], action: u32) -> Option<&SenseItem>
     ensures { option_copied result ≡ find (λ item. item.action == action) senses.now }
 {
     senses.iter().find(|sense| sense.action == action)

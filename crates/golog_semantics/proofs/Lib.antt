@@ -5,7 +5,6 @@ pub mod Pushed
 pub mod SameLaws
 pub mod Settled
 pub mod Unfolded
-pub mod FitsPut
 pub mod Parts
 pub mod FrontLaws
 pub mod Sublists

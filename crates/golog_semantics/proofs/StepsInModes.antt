@@ -15,7 +15,7 @@ use Rattle.golog_semantics.specs.Values.{after}
 use Rattle.golog_semantics.specs.Ways.{is_empty, moves_to, plain_move}
 use Rattle.golog_semantics.specs.Search.{no_blocks, is_followed, plain_ways}
 use Rattle.golog_semantics.specs.Moves.{plain_moves}
-use Rattle.golog_semantics.specs.Blocks.{begins_run, block_moves, goes_on, may_succeed, moves}
+use Rattle.golog_semantics.specs.Blocks.{begins_run, block_moves, leaves_unseen, may_succeed, moves}
 use Rattle.golog_semantics.specs.Guarded.{front}
 use Rattle.golog_semantics.specs.Sublist.{IsSublist}
 use Rattle.golog_semantics.specs.ModeLaws.{EndsAreOrdered, PlainStepsAreOrdered}
@@ -86,7 +86,7 @@ module _ (agent : Agent) (values : Values) where
       sublist-map (λ (w : Way). plain_move w.label (prog.Follow depth fuel w.left []))
       (filter (begins_run agent values depth) (plain_ways agent values Near body)) (filter (may_succeed agent values depth) (plain_ways agent values Near body))
       (sublist-filter (begins_run agent values depth) (may_succeed agent values depth)
-      (λ w e. or_first (begins_run agent values depth w || not (is_followed w)) (goes_on agent depth w (after agent values w.label)) (or_first (begins_run agent values depth w) (not (is_followed w)) e))
+      (λ w e. or_first (begins_run agent values depth w || not (is_followed w)) (leaves_unseen agent depth w (after agent values w.label)) (or_first (begins_run agent values depth w) (not (is_followed w)) e))
       (plain_ways agent values Near body))
 
   pub steps-near_may : (n : ℕ) (p : Prog) → IsSublist (moves_to agent values (block_moves agent values) n Near p) (moves_to agent values (block_moves agent values) n May p)

@@ -83,16 +83,16 @@ abbrev pub is_cut : Agent → Mode → ℕ → Prog → Values → Bool
 is_cut agent m depth p values = has_path agent m depth p values || meets_cut agent m depth p values
 
 -- the search leaves something unseen after this way, within the depth
-abbrev pub goes_on : Agent → ℕ → Way → Values → Bool
-goes_on agent zero w values = false
-goes_on agent (suc n) w values = is_followed w && is_cut agent Near n w.left values
+abbrev pub leaves_unseen : Agent → ℕ → Way → Values → Bool
+leaves_unseen agent zero w values = false
+leaves_unseen agent (suc n) w values = is_followed w && is_cut agent Near n w.left values
 
 -- a run may begin with this way, or the search leaves unseen what comes after it
 abbrev pub may_succeed : Agent → Values → ℕ → Way → Bool
 may_succeed agent values depth w =
     begins_run agent values depth w
     || not (is_followed w)
-    || goes_on agent depth w (after agent values w.label)
+    || leaves_unseen agent depth w (after agent values w.label)
 
 -- these ways of the body, each with its left as a block that follows no run
 abbrev pub searching : ℕ → ℕ → List Way → List Move

@@ -38,6 +38,11 @@ pub record Stage : Type 0 where
 abbrev pub round_limit : ℕ
 round_limit = 200000
 
+-- the entry for a step
+abbrev pub entry_for : Label → Entry
+entry_for Quiet = Test
+entry_for (Doing action) = Do action
+
 module _ (agent : Agent) where
   -- the number, among so many, whose text these bytes are
   abbrev pub number_of_text : (ℕ → Text) → ℕ → Text → Option ℕ
@@ -99,11 +104,6 @@ module _ (agent : Agent) where
       let now = if is_open device journal then turn journal device d else (journal, d) in
       let others = turns_from (device + 1) now.0 ds in
       (others.0, now.1 ∷ others.1)
-
-  -- the entry for a step
-  abbrev pub entry_for : Label → Entry
-  entry_for Quiet = Test
-  entry_for (Doing action) = Do action
 
   -- the first of these steps is taken, where it may be
   abbrev pub step_by : Journal → List Move → Journal

@@ -25,7 +25,6 @@ pub mod Posts
 pub mod Inline
 pub mod Dealt
 pub mod Moves
-pub mod Sound
 pub mod Fronts
 pub mod StepLaws
 pub mod Sublist

@@ -129,8 +129,8 @@ module _ (agent : Agent) (before : Journal) where
   abbrev pub keeps_run : Option (List Label) → Values → Prog → Entry → Bool
   keeps_run printed values p e = same_run printed (run_begun values p e)
 
-  -- The program ends with its answer, or for want of memory. It may end for want of fuel where it is heavy
-  -- and goes on or waits for no result.
+  -- The program ends with its answer, or for want of memory. It may end for want of fuel where it is heavy,
+  -- the journal is not full, and no result is awaited.
   abbrev pub may_end : Values → Prog → Answer → Bool
   may_end values p Memory = true
   may_end values p Fuel =

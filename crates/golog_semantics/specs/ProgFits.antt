@@ -34,7 +34,7 @@ within_block at = record at { in_block = true }
 abbrev pub is_between : ℕ → ℕ → ℕ → Bool
 is_between low high n = nat_le low n && nat_le n high
 
--- the greatest depth and the greatest fuel of a block
+-- the greatest depth of a block
 abbrev pub depth_limit : ℕ
 depth_limit = 64
 

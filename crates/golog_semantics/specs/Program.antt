@@ -1,4 +1,4 @@
--- One level of a program, constants put in, and tidy programs.
+-- Constants put into programs, and the bodies of procedures.
 use Rattle.std.specs.Prelude.{ℕ, ◌+◌, Option, Some, None, List, [], ◌∷◌, slice_get}
 use Rattle.golog_tree.specs.declared.agent.Agent.{Agent}
 use Rattle.golog_tree.specs.declared.agent.ProcItem.{ProcItem}

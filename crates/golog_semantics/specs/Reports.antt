@@ -20,6 +20,10 @@ use Rattle.golog_semantics.specs.Online.{is_result, label_of}
 abbrev pub place_limit : ℕ
 place_limit = 1048575
 
+-- the most entries of a report
+abbrev pub entry_limit : ℕ
+entry_limit = 1048576
+
 module _ (agent : Agent) where
   -- an action of the program
   abbrev pub is_own : ℕ → Bool
@@ -72,7 +76,7 @@ pub record IsReport (agent : Agent) (report : Report) : Type 0 where
   pub entries : IsTrue (list_all (λ fits. fits) (at_each (fits_entry agent) [] report.entries))
   pub runs : IsTrue (list_all (fits_run agent report.entries) report.runs)
   pub in_order : IsTrue (grow_from 0 (map (λ r. r.place) report.runs))
-  pub in_bounds : IsTrue (nat_le (length report.entries) (place_limit + 1))
+  pub in_bounds : IsTrue (nat_le (length report.entries) entry_limit)
 
 -- the bytes are the text of the report
 pub record SpellsReport (agent : Agent) (bytes : Text) (report : Report) : Type 0 where

@@ -1,4 +1,4 @@
--- Runs, the best run of a block, and Final and Ways with blocks.
+-- Final, the ways of programs without blocks, runs of such ways, and the best run.
 use Rattle.std.specs.Prelude.{ℕ, zero, suc, ◌+◌, Bool, nat_le, if◌then◌else◌, Option, Some, None, List, [], ◌∷◌, map, filter}
 use Rattle.std.specs.List.{flat_map}
 use Rattle.golog_tree.specs.declared.agent.Agent.{Agent}

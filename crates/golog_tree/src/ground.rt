@@ -5,7 +5,7 @@ ghost use Rattle.golog_tree.specs.Numbered.{IsGround};
 use crate::agent::{ActionItem, Agent, FluentItem, SortItem};
 
 /// The most arguments of an item.
-const MOST_ARGS: usize = 3;
+pub const MOST_ARGS: usize = 3;
 
 /// A ground fluent or a ground action: the number of its item, and its arguments, each a constant by
 /// its position in its sort. The first `count` of `args` are the arguments, and the others are 0.
@@ -70,7 +70,7 @@ pub fn sort_size(agent: &Agent, sort: u32) -> u32
 }
 
 /// How many lists of arguments of these sorts there are.
-fn args_count(agent: &Agent, sorts: &[u32]) -> u32
+pub fn args_count(agent: &Agent, sorts: &[u32]) -> u32
     requires countable { IsCountable agent.now }
     requires few { length sorts.now ≤ 3 }
     ensures { result ≡ product (sizes agent.now sorts.now) }

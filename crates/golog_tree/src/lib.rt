@@ -27,7 +27,8 @@ pub use draft::{
 pub use draft_cond::{DraftArg, DraftCond, DraftTerm, Place};
 pub use draft_prog::DraftProg;
 pub use ground::{
-    Ground, HasArgs, action_count, action_no, action_of, fluent_no, fluent_of, item_size, sort_size,
+    Ground, HasArgs, MOST_ARGS, action_count, action_no, action_of, args_count, fluent_no,
+    fluent_of, item_size, sort_size,
 };
 pub use join::{Join, join_two};
 pub use nesting::nest;
