@@ -19,20 +19,22 @@ search-rows said depth fuel body at =
     ∙ ap (λ (b : Blocks). b.refused) (fold-roll-DraftProg Blocks (blocks_step said) (Search depth fuel body at))
 
 -- the rows of two programs, of which one is run
-pub if-rows : (said : List Bool) (c : DraftCond) (p q : DraftProg) (at : ℕ)
+if-rows : (said : List Bool) (c : DraftCond) (p q : DraftProg) (at : ℕ)
     → block_refusals said (draft.If c p q at) ≡ block_refusals said p ++ block_refusals said q
 if-rows said c p q at =
     ap (block_refusals said) (sym (draft.rolls-If c p q at))
     ∙ ap (λ (b : Blocks). b.refused) (fold-roll-DraftProg Blocks (blocks_step said) (If c p q at))
 
-pub added-if : (least : Option Refusal) (before : List CodeAt) (said : List Bool) (one p other q : DraftProg) → one ≡ p → other ≡ q
+pub added-if : (least : Option Refusal) (before : List CodeAt) (said : List Bool) (whole : DraftProg) (c : DraftCond) (one p other q : DraftProg) (at : ℕ)
+    → whole ≡ draft.If c p q at → one ≡ p → other ≡ q
     → IsLeastOf least ((before ++ block_refusals said one) ++ block_refusals said other)
-    → IsLeastOf least (before ++ (block_refusals said p ++ block_refusals said q))
-added-if least before said one p other q e h is =
+    → IsLeastOf least (before ++ block_refusals said whole)
+added-if least before said whole c one p other q at w e h is =
     subst (λ (rs : List CodeAt). IsLeastOf least rs)
     (append_assoc before (block_refusals said one) (block_refusals said other)
     ∙ ap (λ (d : DraftProg). before ++ (block_refusals said d ++ block_refusals said other)) e
-    ∙ ap (λ (d : DraftProg). before ++ (block_refusals said p ++ block_refusals said d)) h) is
+    ∙ ap (λ (d : DraftProg). before ++ (block_refusals said p ++ block_refusals said d)) h
+    ∙ ap (λ (rs : List CodeAt). before ++ rs) (sym (ap (block_refusals said) w ∙ if-rows said c p q at))) is
 
 -- one more block, whose rows are added
 pub added-search : (least : Option Refusal) (before inner : List CodeAt) (nested has fit is_fit : Bool) (at : ℕ) → nested ≡ has → fit ≡ is_fit

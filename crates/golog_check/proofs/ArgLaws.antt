@@ -2,7 +2,7 @@
 use Rattle.std.proofs.Common.{◌≡◌, ℕ, ℤ, suc, ◌<◌, ◌≤◌, Bool, true, false, ◌&&◌, ◌==◌, if◌then◌else◌, List, [], ◌∷◌, ◌++◌, length, refl, sym, ap, subst, ◌∙◌, Option, Some, None, Ok, arith}
 use Rattle.std.specs.Prelude.{not, nat_lt, int_lt, ◌-ℤ◌, ◌+ℤ◌, ◌≤ℤ◌, ◌<ℤ◌, T, pos, negsuc, slice_get, option_map, option_and_then}
 use Rattle.std.specs.Option.{option_map_or}
-use Rattle.std.proofs.lemmas.Bool.{eqb-true, lt-ltb}
+use Rattle.std.proofs.lemmas.Bool.{lt-ltb}
 use Rattle.std.proofs.lemmas.Int.{ints, by_lt_z}
 use Rattle.std.proofs.lemmas.List.{append_assoc, append-nil}
 use Rattle.std.proofs.lemmas.List.Quantifiers.{position-Some}
@@ -21,33 +21,23 @@ use Rattle.golog_semantics.specs.Fits.{arg_fits, args_fit}
 use Rattle.golog_check.specs.declared.scope.Meant.{Meant}
 use Rattle.golog_check.specs.Codes.{SORT_CLASH, UNBOUND}
 use Rattle.golog_check.specs.DeclaredItems.{Declared}
-use Rattle.golog_check.specs.Sorts.{same, place_of_word, place_of_number, listing, constant_of, constant, number_in}
-use Rattle.golog_check.specs.Scope.{Scope, variable_no, innermost, or_else, meaning}
+use Rattle.golog_check.specs.Sorts.{same, place_of_word, place_of_number, number_in}
+use Rattle.golog_check.specs.Scope.{Scope, variable_no, meaning}
 use Rattle.golog_check.specs.Terms.{is_other, arg_sort, arg_as, arg_in, next_arg, args_in}
 use Rattle.golog_check.specs.CheckLaws.{HasItems, Binds, ArgsFit}
+use Rattle.golog_semantics.proofs.Words.{and-right}
+pub use Rattle.golog_semantics.proofs.GroundNumbers.{some-same}
+pub use Rattle.golog_check.proofs.Meanings.{none-not, no-other}
+use Rattle.golog_check.proofs.Meanings.{Means, OfConstants, OfVariables, meaning-means, word-means}
 use Rattle.golog_check.proofs.Readings.{both, past, found-it, ok-same}
 
 pub same-number : (n : ℕ) → (n == n) ≡ true
 same-number n = grind arith
 
-pub some-same : {A : Type 0} (x y : A) → Some x ≡ Some y → x ≡ y
-some-same x y h = cc
-
-pub none-not : {A : Type 0} (x : A) → None ≡ Some x → ⊥
-none-not x h = cc
-
 -- what stands behind so many others
 pub get-middle : {A : Type 0} (front rest : List A) (x : A) → slice_get (front ++ x ∷ rest) (length front) ≡ Some x
 get-middle [] rest x = refl
 get-middle (y ∷ front) rest x = get-middle front rest x
-
--- a sort that is no other is this one
-pub no-other : (own sort : ℕ) → is_other (Some own) sort ≡ false → own ≡ sort
-no-other own sort h = go (own == sort) refl h
-  where
-    go : (b : Bool) → (own == sort) ≡ b → not b ≡ false → own ≡ sort
-    go true e k = eqb-true own sort e
-    go false e k = absurd (let z : true ≡ false = k in cc)
 
 pub below : (n m : ℕ) → n < m → nat_lt n m ≡ true
 below n m h = lt-ltb n m h
@@ -99,58 +89,31 @@ module _ (agent : Agent) (names : Declared) (has : HasItems agent names) where
   number-fits sort number place h = number-fits-at sort number place (slice_get names.sorts sort) refl h
 
   module _ (bound : fits.Scope) where
-    -- what a word means is of its sort
-    abbrev pub MeansOne : Option Meant → Type 0
-    MeansOne o = (meant : Meant) → o ≡ Some meant → arg_fits agent bound meant.sort meant.arg ≡ true
+    abbrev IsOfSort : Arg → ℕ → Type 0
+    IsOfSort a sort = arg_fits agent bound sort a ≡ true
 
-    constant-at : (word : List ℕ) (sort : ℕ) (o : Option SortItem) → slice_get names.sorts sort ≡ o → (p : Option ℕ) → option_and_then (place_of_word word) o ≡ p
-        → MeansOne (option_map (λ place. record { arg = Const place; sort = sort }) p)
-    constant-at word sort o e None k meant h = absurd (none-not meant h)
-    constant-at word sort None e (Some place) k meant h = absurd (none-not place k)
-    constant-at word sort (Some item) e (Some place) k meant h =
-        subst (λ (m : Meant). arg_fits agent bound m.sort m.arg ≡ true) (some-same _ meant h) (sized sort place item e (word-place word item place k))
-
-    constant-of : (word : List ℕ) (o : Option ℕ) → MeansOne (option_and_then (constant_of names word) o)
-    constant-of word None meant h = absurd (none-not meant h)
-    constant-of word (Some sort) meant h = constant-at word sort (slice_get names.sorts sort) refl (option_and_then (place_of_word word) (slice_get names.sorts sort)) refl meant h
-
-    pub constant-fits : (word : List ℕ) (at : ℕ) → MeansOne (constant names word at)
-    unfolding constant
-    constant-fits word at meant h = constant-of word (listing names word at) meant h
+    constants-fit : OfConstants IsOfSort names
+    constants-fit word sort item place e k = sized sort place item e (word-place word item place k)
 
     var-fits : (outer : Scope) (sort : ℕ) → bound (length outer) ≡ Some sort → length outer ≤ 32 → arg_fits agent bound sort (Var (variable_no outer)) ≡ true
     var-fits outer sort e few =
         let n : variable_no outer ≡ length outer = omega arith in
         ap (λ o. option_map_or (λ s. s == sort) o false) (ap bound n ∙ e) ∙ same-number sort
 
-    pub innermost-fits : (scope : Scope) → Binds agent bound scope → length scope ≤ 32 → (word : List ℕ) → MeansOne (innermost scope word)
-    innermost-fits [] binds few word meant h = absurd (none-not meant h)
-    innermost-fits (v ∷ outer) binds few word meant h = go (innermost-fits outer binds.1 (omega (arith, few)) word meant) (same word v.word) h
-      where
-        go : (innermost outer word ≡ Some meant → arg_fits agent bound meant.sort meant.arg ≡ true)
-            → (b : Bool) → (if b then Some (record { arg = Var (variable_no outer); sort = v.sort }) else innermost outer word) ≡ Some meant → arg_fits agent bound meant.sort meant.arg ≡ true
-        go rest true k = subst (λ (m : Meant). arg_fits agent bound m.sort m.arg ≡ true) (some-same _ meant k) (var-fits outer v.sort binds.0.0 (omega (arith, few)))
-        go rest false k = rest k
+    vars-fit : (scope : Scope) → Binds agent bound scope → length scope ≤ 32 → OfVariables IsOfSort scope
+    vars-fit [] binds few = tt
+    vars-fit (v ∷ outer) binds few = (var-fits outer v.sort binds.0.0 (omega (arith, few)), vars-fit outer binds.1 (omega (arith, few)))
 
     module _ (scope : Scope) (binds : Binds agent bound scope) (few : length scope ≤ 32) where
-      pub meaning-fits : (word : List ℕ) (at : ℕ) → MeansOne (meaning names scope word at)
-      meaning-fits word at meant h = go (innermost scope word) refl h
-        where
-          go : (o : Option Meant) → innermost scope word ≡ o → or_else o (constant names word at) ≡ Some meant → arg_fits agent bound meant.sort meant.arg ≡ true
-          go (Some m) e k = innermost-fits scope binds few word meant (e ∙ k)
-          go None e k = constant-fits word at meant k
-
-      word-as : (sort : ℕ) (o : Option Meant) → MeansOne o → is_other (option_map (λ (m : Meant). m.sort) o) sort ≡ false → (a : Arg) → option_map (λ (m : Meant). m.arg) o ≡ Some a → arg_fits agent bound sort a ≡ true
-      word-as sort None means other a h = absurd (none-not a h)
-      word-as sort (Some m) means other a h =
-          subst (λ x. arg_fits agent bound sort x ≡ true) (some-same m.arg a h) (subst (λ s. arg_fits agent bound s m.arg ≡ true) (no-other m.sort sort other) (means m refl))
+      meaning-fits : (word : List ℕ) (at : ℕ) → Means IsOfSort (meaning names scope word at)
+      meaning-fits word at = meaning-means IsOfSort names constants-fit scope (vars-fit scope binds few) word at
 
       number-as : (sort : ℕ) (o : Option ℕ) → ((place : ℕ) → o ≡ Some place → nat_lt place (sort_size agent sort) ≡ true) → (a : Arg) → option_map Const o ≡ Some a → arg_fits agent bound sort a ≡ true
       number-as sort None means a h = absurd (none-not a h)
       number-as sort (Some place) means a h = subst (λ x. arg_fits agent bound sort x ≡ true) (some-same (Const place) a h) (means place refl)
 
       pub arg-as-fits : (sort : ℕ) (draft : DraftArg) (a : Arg) → (arg_as names scope sort draft).outcome ≡ Ok a → is_other (arg_sort names scope draft) sort ≡ false → arg_fits agent bound sort a ≡ true
-      arg-as-fits sort (Word word at) a h other = word-as sort (meaning names scope word at) (meaning-fits word at) other a (found-it UNBOUND at (option_map (λ (m : Meant). m.arg) (meaning names scope word at)) a h)
+      arg-as-fits sort (Word word at) a h other = word-means IsOfSort sort (meaning names scope word at) (meaning-fits word at) other a (found-it UNBOUND at (option_map (λ (m : Meant). m.arg) (meaning names scope word at)) a h)
       arg-as-fits sort (Number number at) a h other = number-as sort (number_in names sort number) (number-fits sort number) a (found-it SORT_CLASH at (option_map Const (number_in names sort number)) a h)
 
       pub arg-fits : (sort : ℕ) (draft : DraftArg) (a : Arg) → (arg_in names scope sort draft).outcome ≡ Ok a → arg_fits agent bound sort a ≡ true
@@ -163,11 +126,7 @@ module _ (agent : Agent) (names : Declared) (has : HasItems agent names) where
       fit-length [] [] h = refl
       fit-length [] (a ∷ args) h = absurd (cc)
       fit-length (s ∷ front) [] h = absurd (cc)
-      fit-length (s ∷ front) (a ∷ args) h = ap suc (fit-length front args (right (arg_fits agent bound s a) (args_fit agent bound front args) h))
-        where
-          right : (b c : Bool) → (b && c) ≡ true → c ≡ true
-          right true c k = k
-          right false c k = absurd (cc)
+      fit-length (s ∷ front) (a ∷ args) h = ap suc (fit-length front args (and-right (arg_fits agent bound s a) (args_fit agent bound front args) h))
 
       fit-more : (front : List ℕ) (args : List Arg) (sort : ℕ) (arg : Arg) → args_fit agent bound front args ≡ true → arg_fits agent bound sort arg ≡ true → args_fit agent bound (front ++ sort ∷ []) (args ++ arg ∷ []) ≡ true
       fit-more [] [] sort arg h k = ap (λ b. b && true) k

@@ -25,6 +25,7 @@ use Rattle.golog_check.specs.Shapes.{no_cond, shape, shape_step}
 use Rattle.golog_check.specs.Unguarded.{refused_where}
 use Rattle.golog_check.specs.DraftBlocks.{Blocks, blocks_step, blocks_of, block_refusals, refused_step, numbers_fit, of_each}
 use Rattle.golog_check.specs.Fronts.{draft_has}
+use Rattle.golog_check.proofs.TermLaws.{not-false}
 use Rattle.golog_check.proofs.Fores.{has-same}
 use Rattle.golog_check.proofs.PartLaws.{none-before, none-behind}
 use Rattle.golog_check.proofs.Shaped.{by-layer, join_step, nest_by, nested-by}
@@ -32,10 +33,6 @@ use Rattle.golog_check.proofs.Shaped.{by-layer, join_step, nest_by, nested-by}
 pub none-where : (b : Bool) (refusal : CodeAt) → refused_where b refusal ≡ [] → b ≡ false
 none-where true refusal h = absurd (cc)
 none-where false refusal h = refl
-
-fits-of : (b : Bool) → not b ≡ false → b ≡ true
-fits-of true h = refl
-fits-of false h = absurd (cc)
 
 module _ (bs : List Bool) where
   abbrev has : Prog → Bool
@@ -140,7 +137,7 @@ module _ (bs : List Bool) where
       let number_row = refused_where (not (numbers_fit depth fuel)) (37, at) in
       let rows = none-before (nested_row ++ number_row) (block_refusals bs d.0) h in
       let free = none-where (has (blocks_of bs d.0).shape) (33, at) (none-before nested_row number_row rows) in
-      let fit = fits-of (numbers_fit depth fuel) (none-where (not (numbers_fit depth fuel)) (37, at) (none-behind nested_row number_row rows)) in
+      let fit = not-false (numbers_fit depth fuel) (none-where (not (numbers_fit depth fuel)) (37, at) (none-behind nested_row number_row rows)) in
       let t = and_cases (is_between 1 depth_limit (to_count depth)) (is_between 1 fuel_limit (to_count fuel)) fit in
       and_both (is_between 1 depth_limit (to_count depth) && is_between 1 fuel_limit (to_count fuel)) (keep d.0 true)
       (and_both (is_between 1 depth_limit (to_count depth)) (is_between 1 fuel_limit (to_count fuel)) t.0 t.1)

@@ -1,5 +1,6 @@
 -- Skipping by rounds, and that calls without a step are told by what is skipped alone.
 use Rattle.std.proofs.Common.{◌≡◌, ℕ, zero, suc, Bool, false, List, [], ◌∷◌, length, map, refl, sym, ap, ◌∙◌, replicate}
+use Rattle.std.proofs.lemmas.List.{length-map}
 use Rattle.golog_tree.specs.declared.agent.ProcItem.{ProcItem}
 use Rattle.golog_tree.specs.declared.draft.DraftProc.{DraftProc}
 use Rattle.golog_tree.specs.declared.prog.Prog.{Prog}
@@ -17,7 +18,7 @@ use Rattle.golog_check.specs.DraftNest.{draft_nest}
 use Rattle.golog_check.specs.Told.{nesting_by, nesting_in, nestings_in}
 use Rattle.golog_check.specs.Fronts.{Fore, draft_fore, skip_round}
 use Rattle.golog_check.proofs.Fores.{front_where, fore-same}
-use Rattle.golog_check.proofs.RoundLaws.{map-alike, map-long, map-same, map-two}
+use Rattle.golog_check.proofs.RoundLaws.{map-alike, map-same, map-two}
 use Rattle.golog_tree.specs.declared.draft_prog.DraftProg.{DraftProg}
 
 abbrev is_skip : Front → Bool
@@ -98,7 +99,7 @@ module _ (procs : List DraftProc) where
   skips-to : (k : ℕ) → map is_skip (fronts_to k (shapes procs)) ≡ rounds_of (skip_round procs) k (replicate (length procs) false)
   skips-to zero =
       map-two is_skip (λ (item : ProcItem). no_front) (map shape_of procs) ∙ map-same false (map shape_of procs)
-      ∙ ap (λ n. replicate n false) (map-long shape_of procs)
+      ∙ ap (λ n. replicate n false) (length-map procs shape_of)
   skips-to (suc k) =
       let fs = fronts_to k (shapes procs) in
       map-two is_skip (λ (item : ProcItem). front_by fs item.body) (map shape_of procs)
@@ -111,7 +112,7 @@ module _ (procs : List DraftProc) where
   pub skips-rounds : map is_skip (proc_fronts (shapes procs)) ≡ rounds_of (skip_round procs) (length procs) (replicate (length procs) false)
   unfolding proc_skips
   skips-rounds =
-      all_skips (shapes procs) ∙ ap (λ n. skips_to n (shapes procs)) (map-long shape_of procs)
+      all_skips (shapes procs) ∙ ap (λ n. skips_to n (shapes procs)) (length-map procs shape_of)
       ∙ sym (fronts-skips (shapes procs) (length procs)) ∙ skips-to (length procs)
 
   -- what a program calls without a step, by these

@@ -1,3 +1,4 @@
+pub mod Meanings
 pub mod ArgLaws
 pub mod Asked
 pub mod CheckedLaws

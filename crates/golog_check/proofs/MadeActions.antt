@@ -35,6 +35,7 @@ use Rattle.golog_check.specs.Conditions.{cond_in}
 use Rattle.golog_check.specs.CheckLaws.{HasItems, Binds, signature_of}
 use Rattle.golog_check.specs.Effects.{may_sense, poss_in, sense_by}
 use Rattle.golog_check.specs.Check.{names_of, agent_of}
+use Rattle.golog_check.proofs.TermLaws.{not-false}
 use Rattle.golog_check.proofs.Readings.{both, past, ok-same}
 use Rattle.golog_check.proofs.ArgLaws.{args-fit}
 use Rattle.golog_check.proofs.CondLaws.{conds-fit}
@@ -72,10 +73,6 @@ scope-bound agent bound n (sort ∷ sorts) (word ∷ words) outer l same at are 
     (λ i s e. ap bound (let k : (n + 1) + i ≡ n + suc i = omega arith in k) ∙ at (suc i) s e) t.1
     ((ap bound here ∙ at 0 sort refl, t.0), binds) in
     record { binds = rest.binds; long = omega (arith, rest.long) }
-
-not-not : (b : Bool) → not b ≡ false → b ≡ true
-not-not true h = refl
-not-not false h = absurd (cc)
 
 module _ (theory : DraftTheory) (program : DraftProgram) (keeps : TheoryKeeps theory) (also : ProgramKeeps theory program) where
   abbrev agent : Agent
@@ -180,7 +177,7 @@ module _ (theory : DraftTheory) (program : DraftProgram) (keeps : TheoryKeeps th
       let b = both reading next y p.rest in
       record {
         first = neither_first again (not (may_sense names.actions item.action)) p.none;
-        may = not-not (may_sense names.actions item.action) (neither_second again (not (may_sense names.actions item.action)) p.none);
+        may = not-false (may_sense names.actions item.action) (neither_second again (not (may_sense names.actions item.action)) p.none);
         args = b.value;
         read = b.one;
         is = ok-same (record { action = item.action; fluent = item.fluent; args = b.value }) y b.other;

@@ -30,7 +30,8 @@ use Rattle.golog_semantics.specs.BuiltIn.{HasBuiltIn, bool_item, interrupts_runn
 use Rattle.golog_draft.specs.Drafts.{TheoryKeeps, draft_sets_running}
 use Rattle.golog_check.specs.declared.scope.Meant.{Meant}
 use Rattle.golog_check.specs.Codes.{SORT_CLASH, UNBOUND}
-use Rattle.golog_check.specs.DeclaredItems.{Declared, sort_item, sort_place, fluent_item, action_item}
+use Rattle.golog_draft.specs.DraftPlaces.{sort_place}
+use Rattle.golog_check.specs.DeclaredItems.{Declared, sort_item, fluent_item, action_item}
 use Rattle.golog_rows.specs.Least.{CodeAt}
 use Rattle.golog_check.specs.Least.{value_of, given}
 use Rattle.golog_check.specs.Sorts.{lists, lists_before, is_declared, place_of_word, constant_of, listing, constant, fluent_sort}

@@ -44,6 +44,7 @@ use Rattle.golog_check.specs.Programs.{prog_in}
 use Rattle.golog_check.specs.DraftNest.{draft_nest}
 use Rattle.golog_check.specs.ProgramLaws.{HasPrograms}
 use Rattle.golog_check.specs.Check.{main_in, main_of, starts_of, names_of, all_refusals, agent_of}
+use Rattle.golog_check.proofs.TermLaws.{not-false}
 use Rattle.golog_check.proofs.Readings.{both, past, ok-same, found-it}
 use Rattle.golog_check.proofs.ArgLaws.{arg-fits, some-same}
 use Rattle.golog_check.proofs.ProgLaws.{progs-fit}
@@ -89,10 +90,6 @@ le-of n h = grind (arith, nat_tests)
 
 le-three : (n : ℕ) → nat_le n 3 ≡ true → n ≤ 3
 le-three n h = grind (arith, nat_tests)
-
-not-not : (b : Bool) → not b ≡ false → b ≡ true
-not-not true h = refl
-not-not false h = absurd (cc)
 
 module _ (theory : DraftTheory) (program : DraftProgram) (keeps : TheoryKeeps theory) (also : ProgramKeeps theory program) where
   abbrev agent : Agent
@@ -189,7 +186,7 @@ module _ (theory : DraftTheory) (program : DraftProgram) (keeps : TheoryKeeps th
     unfolding main_in
     main-read p h =
         let t = past (not (nat_le (draft_nest program.main.body) 3072)) _ program.main.at (prog_in names program.main.body []) p h in
-        record { deep = not-not (nat_le (draft_nest program.main.body) 3072) t.none; read = t.rest }
+        record { deep = not-false (nat_le (draft_nest program.main.body) 3072) t.none; read = t.rest }
 
     has-programs : HasPrograms (agent_of theory program) (declared_by theory program.procs)
     has-programs = record {

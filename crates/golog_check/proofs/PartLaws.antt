@@ -16,7 +16,8 @@ use Rattle.golog_tree.specs.Ground.{Ground, all_from, args_of, fluent_args, grou
 use Rattle.golog_rows.specs.declared.least.Refusal.{Refusal}
 use Rattle.golog_check.specs.declared.starts.Start.{Start}
 use Rattle.golog_check.specs.declared.checking.Parts.{Parts}
-use Rattle.golog_check.specs.DeclaredItems.{Declared, sort_item, sort_place, fluent_item, action_item, param_sorts}
+use Rattle.golog_draft.specs.DraftPlaces.{sort_place}
+use Rattle.golog_check.specs.DeclaredItems.{Declared, sort_item, fluent_item, action_item, param_sorts}
 use Rattle.golog_check.specs.Sums.{fluent_sum, action_sum}
 use Rattle.golog_check.specs.Starts.{start_in, start_value}
 use Rattle.golog_check.specs.Effects.{poss_in, cause_in, senses_in}

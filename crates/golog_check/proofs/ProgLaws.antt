@@ -4,6 +4,7 @@ use Rattle.std.specs.Prelude.{⊤, not, nat_lt, slice_get, unwrap_or}
 use Rattle.std.specs.List.{list_all}
 use Rattle.std.specs.Option.{option_map_or}
 use Rattle.std.proofs.lemmas.Bool.{eqb-true, ltb-true}
+use Rattle.std.proofs.lemmas.List.{length-map}
 use Rattle.golog_tree.specs.declared.agent.Agent.{Agent}
 use Rattle.golog_tree.specs.declared.agent.SortItem.{SortItem}
 use Rattle.golog_tree.specs.declared.agent.FluentItem.{FluentItem}
@@ -56,10 +57,6 @@ use Rattle.golog_check.proofs.CondLaws.{kept, binds-more}
 use Rattle.golog_check.proofs.Signatures.{declared-signature}
 use Rattle.golog_check.proofs.Layers.{fits-prog, in-prog, written-prog}
 
-length-map : {A B : Type 0} (f : A → B) (xs : List A) → length (map f xs) ≡ length xs
-length-map f [] = refl
-length-map f (x ∷ xs) = ap suc (length-map f xs)
-
 false-not : false ≡ true → ⊥
 false-not h = cc
 
@@ -105,7 +102,7 @@ module _ (agent : Agent) (theory : DraftTheory) (procs : List DraftProc) (has : 
   has_block = block_at (proc_blocks agent)
 
   declared-sort : (sort : ℕ) → nat_lt sort (length theory.sorts) ≡ true → is_sort agent sort ≡ true
-  declared-sort sort h = ap (λ (items : List SortItem). nat_lt sort (length items)) has.items.sorts ∙ ap (nat_lt sort) (length-map sort_item theory.sorts) ∙ h
+  declared-sort sort h = ap (λ (items : List SortItem). nat_lt sort (length items)) has.items.sorts ∙ ap (nat_lt sort) (length-map theory.sorts sort_item) ∙ h
 
   -- an action of the program, with as many arguments as it has
   act-through : (n : ℕ) (items : List DraftAction) (action : ℕ) → option_map_or (λ (i : DraftAction). length i.args == n && is_empty i.posters) (slice_get items action) false ≡ true
@@ -117,7 +114,7 @@ module _ (agent : Agent) (theory : DraftTheory) (procs : List DraftProc) (has : 
   call-through : (n : ℕ) (items : List DraftProc) (item : ℕ) → option_map_or (λ (i : DraftProc). length i.params == n) (slice_get items item) false ≡ true
       → option_map_or (λ (sorts : List ℕ). length sorts == n) (slice_get (map param_sorts items) item) false ≡ true
   call-through n [] item h = h
-  call-through n (i ∷ items) zero h = ap (λ m. m == n) (length-map (λ (param : DraftParam). param.sort) i.params) ∙ h
+  call-through n (i ∷ items) zero h = ap (λ m. m == n) (length-map i.params (λ (param : DraftParam). param.sort)) ∙ h
   call-through n (i ∷ items) (suc item) h = call-through n items item h
 
   proc-through : (test : List ℕ → Bool) (items : List ProcItem) (item : ℕ) → option_map_or test (slice_get (map (λ (proc : ProcItem). proc.params) items) item) false ≡ true

@@ -5,7 +5,7 @@ use Rattle.std.specs.List.{list_any, flat_map, enumerate_from}
 use Rattle.std.specs.Option.{option_map_or}
 use Rattle.std.proofs.lemmas.Bool.Decides.{nat_tests}
 use Rattle.std.proofs.lemmas.Grind.{flat_map-append}
-use Rattle.std.proofs.lemmas.List.{append-nil, at_drop_more}
+use Rattle.std.proofs.lemmas.List.{append-nil, at_drop_more, length-map}
 use Rattle.golog_tree.specs.declared.agent.ProcItem.{ProcItem}
 use Rattle.golog_tree.specs.declared.draft.DraftProc.{DraftProc}
 use Rattle.golog_tree.specs.Nest.{nest}
@@ -20,7 +20,7 @@ use Rattle.golog_check.specs.Unguarded.{said, reaching, is_unguarded, has_no_nes
 use Rattle.golog_check.specs.Fronts.{reach_round, nest_of_calls, nest_round}
 use Rattle.golog_check.specs.Told.{nesting, calls_told, nesting_in, nestings_in, reached_by, reached_each, reaches_itself, is_endless}
 use Rattle.golog_check.proofs.Fores.{nest-same}
-use Rattle.golog_check.proofs.RoundLaws.{calls_in, map-alike, map-long, map-same, map-two, reaching-rounds}
+use Rattle.golog_check.proofs.RoundLaws.{calls_in, map-alike, map-same, map-two, reaching-rounds}
 
 -- one more that is numbered
 pub enumerate-more : {A : Type 0} (n : ℕ) (xs : List A) (i : ℕ) (x : A) → i < length xs → x ≡ get_or xs i x
@@ -102,7 +102,7 @@ deep-cap n = grind (arith, nat_tests)
 module _ (procs : List DraftProc) where
   nests-to : (k : ℕ) → rounds_of (nest_round 1025 (nestings_in procs)) k (replicate (length procs) 0) ≡ map cap (nests_to k (shapes procs))
   nests-to zero =
-      sym (map-two cap (λ (item : ProcItem). 0) (map shape_of procs) ∙ map-same 0 (map shape_of procs) ∙ ap (λ n. replicate n 0) (map-long shape_of procs))
+      sym (map-two cap (λ (item : ProcItem). 0) (map shape_of procs) ∙ map-same 0 (map shape_of procs) ∙ ap (λ n. replicate n 0) (length-map procs shape_of))
   nests-to (suc k) =
       let ns = nests_to k (shapes procs) in
       let nest_in : ProcItem → ℕ = λ item. nest item.body + greatest (map (slice_index ns) (front_calls (shapes procs) item.body)) in
@@ -123,12 +123,12 @@ module _ (procs : List DraftProc) where
 
     as-many : length items ≡ length procs
     as-many =
-        sym (map-long nesting items) ∙ ap length told
-        ∙ map-long (nesting_in procs) procs
+        sym (length-map items nesting) ∙ ap length told
+        ∙ length-map procs (nesting_in procs)
 
     reached-is : (goal : ℕ) → reached_by items goal ≡ reaching (shapes procs) goal
     reached-is goal =
-        ap (λ n. rounds_of (reach_round (calls_told items) goal) n (replicate n false)) (sym (map-long (λ (item : Nesting). item.calls) items))
+        ap (λ n. rounds_of (reach_round (calls_told items) goal) n (replicate n false)) (sym (length-map items (λ (item : Nesting). item.calls)))
         ∙ ap (λ calls. rounds_of (reach_round calls goal) (length calls) (replicate (length calls) false)) calls-are
         ∙ sym (reaching-rounds procs goal)
 
@@ -152,7 +152,7 @@ module _ (procs : List DraftProc) where
     nests-told =
         ap (λ own. rounds_of (nest_round 1025 own) (length items) (replicate (length items) 0)) told
         ∙ ap (λ n. rounds_of (nest_round 1025 (nestings_in procs)) n (replicate n 0)) as-many
-        ∙ nests-to (length procs) ∙ ap (λ n. map cap (nests_to n (shapes procs))) (sym (map-long shape_of procs))
+        ∙ nests-to (length procs) ∙ ap (λ n. map cap (nests_to n (shapes procs))) (sym (length-map procs shape_of))
 
     deep-told : (i : ℕ) → (not (is_endless (reached_each items) i) && nat_lt 1024 (slice_index nests_told i)) ≡ is_deep (shapes procs) i
     deep-told i =

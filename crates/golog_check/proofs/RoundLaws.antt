@@ -1,6 +1,6 @@
 -- Rounds that change nothing more, and the definitions that are settled by rounds.
 use Rattle.std.proofs.Common.{◌≡◌, ℕ, zero, suc, ◌+◌, ◌<◌, Bool, false, List, [], ◌∷◌, ◌++◌, length, get_or, map, take, refl, sym, ap, ◌∙◌, replicate}
-use Rattle.std.proofs.lemmas.List.{map-append, take_more}
+use Rattle.std.proofs.lemmas.List.{map-append, take_more, length-map}
 use Rattle.golog_tree.specs.declared.agent.ProcItem.{ProcItem}
 use Rattle.golog_tree.specs.declared.draft.DraftProc.{DraftProc}
 use Rattle.golog_semantics.specs.BlockFree.{has_block_by, proc_blocks, proc_blocks_to}
@@ -23,10 +23,6 @@ pub map-two : {A B C : Type 0} (f : B → C) (g : A → B) (xs : List A) → map
 map-two f g [] = refl
 map-two f g (x ∷ xs) = ap (λ ys. f (g x) ∷ ys) (map-two f g xs)
 
-pub map-long : {A B : Type 0} (f : A → B) (xs : List A) → length (map f xs) ≡ length xs
-map-long f [] = refl
-map-long f (x ∷ xs) = ap suc (map-long f xs)
-
 pub map-alike : {A B : Type 0} (f g : A → B) → ((x : A) → f x ≡ g x) → (xs : List A) → map f xs ≡ map g xs
 map-alike f g h [] = refl
 map-alike f g h (x ∷ xs) = ap (λ y. y ∷ map f xs) (h x) ∙ ap (λ ys. g x ∷ ys) (map-alike f g h xs)
@@ -40,7 +36,7 @@ map-pushed f g all after x xs i p e h k lt is =
 
 module _ (procs : List DraftProc) where
   none-said : {B : Type 0} (b : B) → map (λ (item : ProcItem). b) (map shape_of procs) ≡ replicate (length procs) b
-  none-said b = map-same b (map shape_of procs) ∙ ap (λ n. replicate n b) (map-long shape_of procs)
+  none-said b = map-same b (map shape_of procs) ∙ ap (λ n. replicate n b) (length-map procs shape_of)
 
   blocks-to : (k : ℕ) → proc_blocks_to k (shapes procs) ≡ rounds_of (block_round procs) k (replicate (length procs) false)
   blocks-to zero = none-said false
@@ -54,7 +50,7 @@ module _ (procs : List DraftProc) where
   pub blocks-rounds : proc_blocks (shapes procs) ≡ rounds_of (block_round procs) (length procs) (replicate (length procs) false)
   unfolding proc_blocks
   blocks-rounds =
-      ap (λ n. proc_blocks_to n (shapes procs)) (map-long shape_of procs) ∙ blocks-to (length procs)
+      ap (λ n. proc_blocks_to n (shapes procs)) (length-map procs shape_of) ∙ blocks-to (length procs)
 
   module _ (goal : ℕ) where
     reach-next : (said : List Bool) → map (λ (item : ProcItem). leads_to goal said (front_calls (shapes procs) item.body)) (map shape_of procs) ≡ reach_round (calls_in procs) goal said
@@ -70,7 +66,7 @@ module _ (procs : List DraftProc) where
     pub reaching-rounds : reaching (shapes procs) goal ≡ rounds_of (reach_round (calls_in procs) goal) (length (calls_in procs)) (replicate (length (calls_in procs)) false)
     unfolding reaching
     reaching-rounds =
-        let n = map-long shape_of procs in
-        let m = map-long (λ (item : DraftProc). front_calls (shapes procs) (shape item.body)) procs in
+        let n = length-map procs shape_of in
+        let m = length-map procs (λ (item : DraftProc). front_calls (shapes procs) (shape item.body)) in
         ap (λ k. reaching_to (shapes procs) k goal) n ∙ reaching-rounds-to (length procs)
         ∙ sym (ap (λ k. rounds_of (reach_round (calls_in procs) goal) k (replicate k false)) m)

@@ -1,6 +1,6 @@
 -- Terms that are not refused fit the agent, and can stand in its file.
-use Rattle.std.proofs.Common.{◌≡◌, ℕ, zero, suc, if◌then◌else◌, ℤ, ◌≤◌, Bool, true, false, ◌&&◌, ◌||◌, ◌==◌, List, [], ◌∷◌, length, map, refl, sym, ap, subst, ◌∙◌, Option, Some, None, Ok}
-use Rattle.std.specs.Prelude.{not, is_some, slice_get, option_map, option_and_then}
+use Rattle.std.proofs.Common.{◌≡◌, ℕ, zero, suc, ℤ, ◌≤◌, Bool, true, false, ◌&&◌, ◌||◌, ◌==◌, List, [], ◌∷◌, length, map, refl, sym, ap, subst, ◌∙◌, Option, Some, None, Ok}
+use Rattle.std.specs.Prelude.{not, is_some, slice_get, option_map}
 use Rattle.std.specs.Option.{option_map_or}
 use Rattle.std.specs.List.{list_all}
 use Rattle.std.proofs.lemmas.Bool.{eqb-true}
@@ -31,20 +31,15 @@ use Rattle.golog_check.specs.declared.scope.Meant.{Meant}
 use Rattle.golog_check.specs.Codes.{SORT_CLASH, UNBOUND}
 use Rattle.golog_check.specs.DeclaredItems.{Declared}
 use Rattle.golog_check.specs.Sorts as sorts
-use Rattle.golog_check.specs.Sorts.{same, place_of_word, listing, constant_of, constant, fluent_sort, fluent_sorts}
-use Rattle.golog_check.specs.Scope.{Scope, variable_no, innermost, or_else, meaning}
+use Rattle.golog_check.specs.Sorts.{same, place_of_word, fluent_sort, fluent_sorts}
+use Rattle.golog_check.specs.Scope.{Scope, meaning}
 use Rattle.golog_check.specs.Terms.{is_other, arg_sort, arg_as, args_in, term_place, term_sort, sort_step, term_as, as_step, term_in}
 use Rattle.golog_check.specs.CheckLaws.{HasItems, Binds, signature_of, IsTermOf, TermsFit}
+use Rattle.golog_semantics.proofs.Tests.{and_both, and_cases}
 use Rattle.golog_check.proofs.Readings.{both, past, found-it, ok-same}
-use Rattle.golog_check.proofs.ArgLaws.{some-same, no-other, below, same-number, arg-as-fits, args-fit-in}
+use Rattle.golog_check.proofs.ArgLaws.{some-same, no-other, below, same-number, arg-as-fits, args-fit-in, none-not}
+use Rattle.golog_check.proofs.Meanings.{OfConstants, OfVariables, meaning-means, word-means}
 use Rattle.golog_check.proofs.Layers.{as-term, fits-term, keeps-term, sort-term, wording}
-
-and-cases : (a b : Bool) → (a && b) ≡ true → (a ≡ true) × (b ≡ true)
-and-cases true b e = (refl, e)
-and-cases false b e = absurd (cc)
-
-pub and-both : (a b : Bool) → a ≡ true → b ≡ true → (a && b) ≡ true
-and-both a b e h = subst (λ c. (c && b) ≡ true) (sym e) h
 
 pub not-false : (a : Bool) → not a ≡ false → a ≡ true
 not-false true e = refl
@@ -61,16 +56,10 @@ module _ (agent : Agent) (names : Declared) (has : HasItems agent names) where
   pub same-range : (sort : ℕ) → sorts.is_range names sort ≡ is_range agent sort
   same-range sort = ap (λ items. option_map_or is_range_item (slice_get items sort) false) (sym has.sorts)
 
-  none-not : {A : Type 0} (x : A) → None ≡ Some x → ⊥
-  none-not x h = cc
-
   -- a variable, or a constant of a listed sort, and the sort is declared
   pub record IsShown (a : Arg) (sort : ℕ) : Type 0 where
     pub shows : ((written_arg a).shows_sort || not (is_range agent sort)) ≡ true
     pub declared : is_sort agent sort ≡ true
-
-  abbrev AreShown : Option Meant → Type 0
-  AreShown o = (meant : Meant) → o ≡ Some meant → IsShown meant.arg meant.sort
 
   listed-item : (word : List ℕ) (item : SortItem) (place : ℕ) → place_of_word word item ≡ Some place → is_range_item item ≡ false
   listed-item word (Range name low high) place h = absurd (none-not place h)
@@ -79,56 +68,27 @@ module _ (agent : Agent) (names : Declared) (has : HasItems agent names) where
   there-is : (sort : ℕ) (item : SortItem) → slice_get names.sorts sort ≡ Some item → is_sort agent sort ≡ true
   there-is sort item e = below sort (length agent.sorts) (slice_get_within agent.sorts sort item (ap (λ items. slice_get items sort) has.sorts ∙ e))
 
-  constant-shown-at : (word : List ℕ) (sort : ℕ) (o : Option SortItem) → slice_get names.sorts sort ≡ o → (p : Option ℕ) → option_and_then (place_of_word word) o ≡ p
-      → AreShown (option_map (λ place. record { arg = Const place; sort = sort }) p)
-  constant-shown-at word sort o e None k meant h = absurd (none-not meant h)
-  constant-shown-at word sort None e (Some place) k meant h = absurd (none-not place k)
-  constant-shown-at word sort (Some item) e (Some place) k meant h =
-      subst (λ (m : Meant). IsShown m.arg m.sort) (some-same _ meant h)
-      (record {
-        shows = ap not (sym (same-range sort) ∙ ap (λ o. option_map_or is_range_item o false) e ∙ listed-item word item place k);
-        declared = there-is sort item e;
-      })
+  constants-shown : OfConstants IsShown names
+  constants-shown word sort item place e k = record {
+    shows = ap not (sym (same-range sort) ∙ ap (λ o. option_map_or is_range_item o false) e ∙ listed-item word item place k);
+    declared = there-is sort item e;
+  }
 
-  constant-shown-of : (word : List ℕ) (o : Option ℕ) → AreShown (option_and_then (constant_of names word) o)
-  constant-shown-of word None meant h = absurd (none-not meant h)
-  constant-shown-of word (Some sort) meant h = constant-shown-at word sort (slice_get names.sorts sort) refl (option_and_then (place_of_word word) (slice_get names.sorts sort)) refl meant h
-
-  constant-shown : (word : List ℕ) (at : ℕ) → AreShown (constant names word at)
-  unfolding constant
-  constant-shown word at meant h = constant-shown-of word (listing names word at) meant h
-
-  innermost-shown : (bound : fits.Scope) (scope : Scope) → Binds agent bound scope → (word : List ℕ) → AreShown (innermost scope word)
-  innermost-shown bound [] binds word meant h = absurd (none-not meant h)
-  innermost-shown bound (v ∷ outer) binds word meant h = go (innermost-shown bound outer binds.1 word meant) (same word v.word) h
-    where
-      go : (innermost outer word ≡ Some meant → IsShown meant.arg meant.sort)
-          → (b : Bool) → (if b then Some (record { arg = Var (variable_no outer); sort = v.sort }) else innermost outer word) ≡ Some meant → IsShown meant.arg meant.sort
-      go rest true k = subst (λ (m : Meant). IsShown m.arg m.sort) (some-same _ meant k) (record { shows = refl; declared = binds.0.1 })
-      go rest false k = rest k
-
-  meaning-shown : (bound : fits.Scope) (scope : Scope) → Binds agent bound scope → (word : List ℕ) (at : ℕ) → AreShown (meaning names scope word at)
-  meaning-shown bound scope binds word at meant h = go (innermost scope word) refl h
-    where
-      go : (o : Option Meant) → innermost scope word ≡ o → or_else o (constant names word at) ≡ Some meant → IsShown meant.arg meant.sort
-      go (Some m) e k = innermost-shown bound scope binds word meant (e ∙ k)
-      go None e k = constant-shown word at meant k
-
-  word-shows : (sort : ℕ) (o : Option Meant) → AreShown o → is_other (option_map (λ (m : Meant). m.sort) o) sort ≡ false → (a : Arg) → option_map (λ (m : Meant). m.arg) o ≡ Some a → IsShown a sort
-  word-shows sort None shown other a h = absurd (none-not a h)
-  word-shows sort (Some m) shown other a h =
-      subst (λ x. IsShown x sort) (some-same m.arg a h) (subst (λ s. IsShown m.arg s) (no-other m.sort sort other) (shown m refl))
+  vars-shown : (bound : fits.Scope) (scope : Scope) → Binds agent bound scope → OfVariables IsShown scope
+  vars-shown bound [] binds = tt
+  vars-shown bound (v ∷ outer) binds = (record { shows = refl; declared = binds.0.1 }, vars-shown bound outer binds.1)
 
   arg-shows : (bound : fits.Scope) (scope : Scope) → Binds agent bound scope → (sort : ℕ) (draft : DraftArg) (a : Arg) → (arg_as names scope sort draft).outcome ≡ Ok a → is_other (arg_sort names scope draft) sort ≡ false
       → is_some (arg_sort names scope draft) ≡ true → IsShown a sort
-  arg-shows bound scope binds sort (Word word at) a h other shown = word-shows sort (meaning names scope word at) (meaning-shown bound scope binds word at) other a (found-it UNBOUND at (option_map (λ (m : Meant). m.arg) (meaning names scope word at)) a h)
+  arg-shows bound scope binds sort (Word word at) a h other shown = word-means IsShown sort (meaning names scope word at)
+      (meaning-means IsShown names constants-shown scope (vars-shown bound scope binds) word at) other a (found-it UNBOUND at (option_map (λ (m : Meant). m.arg) (meaning names scope word at)) a h)
   arg-shows bound scope binds sort (Number number at) a h other shown = absurd (let z : false ≡ true = shown in cc)
 
   -- a fluent is into a sort that is declared
   fluent-sorted : (items : List FluentItem) → list_all (λ (item : FluentItem). is_sort agent item.sort) items ≡ true → (fluent : ℕ) (item : FluentItem) → slice_get items fluent ≡ Some item → is_sort agent item.sort ≡ true
   fluent-sorted [] h fluent item e = absurd (none-not item e)
-  fluent-sorted (i ∷ items) h zero item e = subst (λ (x : FluentItem). is_sort agent x.sort ≡ true) (some-same i item e) (and-cases (is_sort agent i.sort) (list_all (λ (item : FluentItem). is_sort agent item.sort) items) h).0
-  fluent-sorted (i ∷ items) h (suc fluent) item e = fluent-sorted items (and-cases (is_sort agent i.sort) (list_all (λ (item : FluentItem). is_sort agent item.sort) items) h).1 fluent item e
+  fluent-sorted (i ∷ items) h zero item e = subst (λ (x : FluentItem). is_sort agent x.sort ≡ true) (some-same i item e) (and_cases (is_sort agent i.sort) (list_all (λ (item : FluentItem). is_sort agent item.sort) items) h).0
+  fluent-sorted (i ∷ items) h (suc fluent) item e = fluent-sorted items (and_cases (is_sort agent i.sort) (list_all (λ (item : FluentItem). is_sort agent item.sort) items) h).1 fluent item e
 
   fluent-shown-at : (fluent sort : ℕ) (o : Option FluentItem) → slice_get names.fluents fluent ≡ o → is_other (option_map (λ (i : FluentItem). i.sort) o) sort ≡ false → is_some (option_map (λ (i : FluentItem). i.sort) o) ≡ true → is_sort agent sort ≡ true
   fluent-shown-at fluent sort None e other shown = absurd (let z : false ≡ true = shown in cc)
@@ -178,7 +138,7 @@ module _ (agent : Agent) (names : Declared) (has : HasItems agent names) where
         → option_map_or (λ (i : FluentItem). i.sort == sort && args_fit agent bound i.args args) o false ≡ true
     fluent-in fluent drafts sort args None e keeps other h = absurd (let z : false ≡ true = keeps in cc)
     fluent-in fluent drafts sort args (Some item) e keeps other h =
-        and-both (item.sort == sort) (args_fit agent bound item.args args)
+        and_both (item.sort == sort) (args_fit agent bound item.args args)
         (ap (λ s. s == sort) (no-other item.sort sort other) ∙ same-number sort)
         (args-fit-in agent names has bound scope binds few item.args drafts (sym (eqb-true (length item.args) (length drafts) keeps)) args h)
 
@@ -227,13 +187,13 @@ module _ (agent : Agent) (names : Declared) (has : HasItems agent names) where
     shift-good sort d by at t takes keeps other h =
         let p = past (not (sorts.is_range names sort)) SORT_CLASH at (term_as names scope d sort >>= λ t. gives (term.Shift sort t by)) t h in
         let b = both (term_as names scope d sort) (λ t. gives (term.Shift sort t by)) t p.rest in
-        let k = and-cases (term_keeps (signature_of names) d) (is_amount by) keeps in
+        let k = and_cases (term_keeps (signature_of names) d) (is_amount by) keeps in
         let range : is_range agent sort ≡ true = sym (same-range sort) ∙ not-false (sorts.is_range names sort) p.none in
         let g = takes sort b.value k.0 other b.one in
         subst (Good agent bound sort (term_sort names scope d)) (ok-same (term.Shift sort b.value by) t b.other)
         (record {
-          of_sort = fits-shift bound sort sort b.value by ∙ and-both (sort == sort && is_range agent sort) (term_fits agent b.value bound sort) (and-both (sort == sort) (is_range agent sort) (same-number sort) range) g.of_sort;
-          written = ap (λ (w : Wording). w.written) (wording-shift sort b.value by) ∙ and-both (wording agent b.value).written (is_amount by) g.written k.1;
+          of_sort = fits-shift bound sort sort b.value by ∙ and_both (sort == sort && is_range agent sort) (term_fits agent b.value bound sort) (and_both (sort == sort) (is_range agent sort) (same-number sort) range) g.of_sort;
+          written = ap (λ (w : Wording). w.written) (wording-shift sort b.value by) ∙ and_both (wording agent b.value).written (is_amount by) g.written k.1;
           shows = λ shown. ap (λ (w : Wording). w.shows_sort || not (is_range agent sort)) (wording-shift sort b.value by) ∙ g.shows shown;
           declared = g.declared;
         })

@@ -27,7 +27,8 @@ use Rattle.golog_semantics.proofs.Tests.{and_cases, or_first, or_second}
 use Rattle.golog_check.specs.declared.heads.Head.{Head}
 use Rattle.golog_check.specs.declared.scope.Meant.{Meant}
 use Rattle.golog_check.specs.declared.scope.Variable.{Variable}
-use Rattle.golog_check.specs.DeclaredItems.{Declared, sort_item, sort_place}
+use Rattle.golog_draft.specs.DraftPlaces.{sort_place}
+use Rattle.golog_check.specs.DeclaredItems.{Declared, sort_item}
 use Rattle.golog_check.specs.Sorts as sorts
 use Rattle.golog_check.specs.Sorts.{same, constants_of, lists, place_of_word, listing, constant_of, constant}
 use Rattle.golog_check.specs.Scope.{Scope, variable_no, innermost, or_else, meaning}

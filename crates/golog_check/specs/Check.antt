@@ -47,20 +47,27 @@ module _ (theory : DraftTheory) where
   abbrev pub starts_of : Declared → List Start
   starts_of names = given (map (start_in names) theory.starts)
 
+-- What there is of each part of a theory and a program, in order, given what there is of readings and of refusals:
+-- the sums of ground things, the items, what procedures call without a step, search blocks, and `main`.
+abbrev pub of_parts : {R : Type 0} → ((A : Type 0) → List (Reading A) → List R) → (List CodeAt → List R)
+    → Declared → DraftTheory → DraftProgram → List R
+of_parts of_readings of_refusals names theory program =
+    of_readings _ (fluent_sum theory ∷ [])
+    ++ of_readings _ (action_sum theory ∷ [])
+    ++ of_readings _ (map (start_in names) theory.starts)
+    ++ of_readings _ (map (poss_in names) theory.poss)
+    ++ of_readings _ (map (cause_in names) theory.causes)
+    ++ of_readings _ (senses_in names [] theory.senses)
+    ++ of_readings _ (map (proc_in names) program.procs)
+    ++ of_refusals (all_front_refusals program.procs)
+    ++ of_refusals (all_block_refusals program.procs program.main.body)
+    ++ of_readings _ (main_in names program.main ∷ [])
+
 -- The refusals of a theory and a program: of each item the first row that fits, if one does, and beside these
 -- each of what procedures call without a step and of search blocks.
 abbrev pub refusals_in : Declared → DraftTheory → DraftProgram → List CodeAt
 refusals_in names theory program =
-    refusals (fluent_sum theory ∷ [])
-    ++ refusals (action_sum theory ∷ [])
-    ++ refusals (map (start_in names) theory.starts)
-    ++ refusals (map (poss_in names) theory.poss)
-    ++ refusals (map (cause_in names) theory.causes)
-    ++ refusals (senses_in names [] theory.senses)
-    ++ refusals (map (proc_in names) program.procs)
-    ++ all_front_refusals program.procs
-    ++ all_block_refusals program.procs program.main.body
-    ++ refusals (main_in names program.main ∷ [])
+    of_parts (λ A readings. refusals readings) (λ found. found) names theory program
 
 abbrev pub main_of : Result Prog CodeAt → Prog
 main_of (Ok p) = p

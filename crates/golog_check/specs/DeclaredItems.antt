@@ -13,6 +13,7 @@ use Rattle.golog_tree.specs.declared.draft.DraftParam.{DraftParam}
 use Rattle.golog_tree.specs.declared.draft.DraftProc.{DraftProc}
 use Rattle.golog_tree.specs.declared.draft.DraftTheory.{DraftTheory}
 use Rattle.golog_tree.specs.Ground.{item_size}
+use Rattle.golog_draft.specs.DraftPlaces.{sort_place}
 
 -- Sorts, fluents and actions by their numbers, the sorts of each procedure's parameters, and the places of
 -- the items of sorts. A sort without a place is declared everywhere.
@@ -32,10 +33,6 @@ pub record HasFewSorts (items : List SortItem) : Type 0 where
 abbrev pub sort_item : DraftSort → SortItem
 sort_item (Range name low high at) = item.Range name low high
 sort_item (Listed name constants at) = item.Listed name constants
-
-abbrev pub sort_place : DraftSort → ℕ
-sort_place (Range name low high at) = at
-sort_place (Listed name constants at) = at
 
 abbrev pub fluent_item : DraftFluent → FluentItem
 fluent_item draft = record { name = draft.name; args = draft.args; sort = draft.sort }

@@ -1,5 +1,5 @@
 -- What an argument or a term of a draft is, in a place of some sort.
-use Rattle.std.specs.Prelude.{ℕ, not, ◌==◌, ◌&&◌, if◌then◌else◌, Bool, false, Option, Some, None, List, [], length, slice_get, option_map}
+use Rattle.std.specs.Prelude.{ℕ, not, ◌==◌, ◌&&◌, if◌then◌else◌, Bool, true, false, Option, Some, None, List, [], length, slice_get, option_map}
 use Rattle.golog_tree.specs.declared.cond.Arg.{Arg}
 use Rattle.golog_tree.specs.declared.cond.Arg.TheVariants.{Const}
 use Rattle.golog_tree.specs.declared.cond.Term.{Term}
@@ -12,11 +12,18 @@ use Rattle.golog_tree.specs.declared.draft_cond.DraftTerm.TheFolds.{fold-DraftTe
 use Rattle.golog_draft.specs.DraftPlaces.{arg_place}
 use Rattle.golog_rows.specs.Reading.{Reading, gives, row, ◌>>=◌, found, each}
 use Rattle.golog_check.specs.declared.scope.Meant.{Meant}
+use Rattle.golog_check.specs.declared.terms.Comparison.{Comparison}
+use Rattle.golog_check.specs.declared.terms.Comparison.TheVariants.{Equal, Order}
 use Rattle.golog_check.specs.declared.terms.Sides.{Sides}
 use Rattle.golog_check.specs.Codes.{SORT_CLASH, UNBOUND}
 use Rattle.golog_check.specs.DeclaredItems.{Declared}
 use Rattle.golog_check.specs.Sorts.{number_in, is_range, fluent_sort, fluent_sorts}
 use Rattle.golog_check.specs.Scope.{Scope, meaning}
+
+-- a comparison is by the order of whole numbers
+abbrev pub is_by_order : Comparison → Bool
+is_by_order Equal = false
+is_by_order Order = true
 
 -- a sort is shown, and it is another
 abbrev pub is_other : Option ℕ → ℕ → Bool

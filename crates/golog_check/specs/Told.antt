@@ -8,6 +8,7 @@ use Rattle.golog_tree.specs.declared.draft_prog.DraftProg.{DraftProg}
 use Rattle.golog_semantics.specs.FrontCalls.{front_calls}
 use Rattle.golog_check.specs.declared.fronts.Nesting.{Nesting}
 use Rattle.golog_check.specs.DraftNest.{draft_nest}
+use Rattle.golog_check.specs.Limits.{told_nest}
 use Rattle.golog_check.specs.Shapes.{shape, shapes}
 use Rattle.golog_check.specs.Unguarded.{said}
 use Rattle.golog_check.specs.Settled.{rounds_of}
@@ -22,14 +23,14 @@ calls_told items = map (λ (item : Nesting). item.calls) items
 
 -- the same of a procedure among others; the nest is told up to the one that is too deep
 abbrev pub nesting_in : List DraftProc → DraftProc → ℕ × List ℕ
-nesting_in procs item = (min (draft_nest item.body) 1025, front_calls (shapes procs) (shape item.body))
+nesting_in procs item = (min (draft_nest item.body) told_nest, front_calls (shapes procs) (shape item.body))
 
 abbrev pub nestings_in : List DraftProc → List (ℕ × List ℕ)
 nestings_in procs = map (nesting_in procs) procs
 
 -- the same, by which procedures may be skipped
 abbrev pub nesting_by : List Bool → DraftProg → ℕ × List ℕ
-nesting_by skips prog = (min (draft_nest prog) 1025, (draft_fore skips prog).calls)
+nesting_by skips prog = (min (draft_nest prog) told_nest, (draft_fore skips prog).calls)
 
 -- which procedures reach one
 abbrev pub reached_by : List Nesting → ℕ → List Bool

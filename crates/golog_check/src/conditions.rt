@@ -15,7 +15,7 @@ use crate::args::{args_in, is_other};
 use crate::fault::{CheckFault, SORT_CLASH, refuse_where};
 use crate::names::Names;
 use crate::scope::{Variable, variable_no, within};
-use crate::terms::sides_in;
+use crate::terms::{Comparison, sides_in};
 use golog_base::{Boxed, List, Word};
 use golog_tree::{Agent, Arg, Cond, DraftArg, DraftCond, Place};
 use std::alloc::Global;
@@ -129,27 +129,27 @@ pub fn cond_in(
                 args,
             })
         }
-        DraftCond::Equal { one, other, .. } => sides_in(alloc, names, scope, false, one, other).map(
-            |sides| Cond::Equal {
+        DraftCond::Equal { one, other, .. } => {
+            sides_in(alloc, names, scope, Comparison::Equal, one, other).map(|sides| Cond::Equal {
                 sort: sides.sort,
                 one: sides.one,
                 other: sides.other,
-            },
-        ),
-        DraftCond::Less { one, other, .. } => sides_in(alloc, names, scope, true, one, other).map(
-            |sides| Cond::Less {
+            })
+        }
+        DraftCond::Less { one, other, .. } => {
+            sides_in(alloc, names, scope, Comparison::Order, one, other).map(|sides| Cond::Less {
                 sort: sides.sort,
                 one: sides.one,
                 other: sides.other,
-            },
-        ),
-        DraftCond::AtMost { one, other, .. } => sides_in(alloc, names, scope, true, one, other).map(
-            |sides| Cond::AtMost {
+            })
+        }
+        DraftCond::AtMost { one, other, .. } => {
+            sides_in(alloc, names, scope, Comparison::Order, one, other).map(|sides| Cond::AtMost {
                 sort: sides.sort,
                 one: sides.one,
                 other: sides.other,
-            },
-        ),
+            })
+        }
         DraftCond::Not { cond, .. } => boxed_in(alloc, names, scope, cond.get()).map(Cond::Not),
         DraftCond::And { conds, .. } => {
             conds_in(alloc, names, scope, conds.as_slice()).map(Cond::And)

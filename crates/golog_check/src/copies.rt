@@ -1,5 +1,6 @@
 ghost use Rattle.std.specs.Prelude.{◌≡◌, map, IfOk};
-ghost use Rattle.golog_check.specs.DeclaredItems.{sort_item, sort_place as spec_sort_place, fluent_item, action_item};
+ghost use Rattle.golog_draft.specs.DraftPlaces.{sort_place as spec_sort_place};
+ghost use Rattle.golog_check.specs.DeclaredItems.{sort_item, fluent_item, action_item};
 
 use golog_base::{List, NoMemory, Word, both};
 use golog_tree::{

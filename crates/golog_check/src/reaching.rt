@@ -3,6 +3,7 @@ ghost use Rattle.golog_semantics.specs.FrontCalls.{greatest};
 ghost use Rattle.golog_rows.specs.Least.{CodeAt, IsLeastOf};
 ghost use Rattle.golog_check.specs.Settled.{rounds_of};
 ghost use Rattle.golog_check.specs.Fronts.{nest_of_calls, nest_round};
+ghost use Rattle.golog_check.specs.Limits.{told_nest};
 ghost use Rattle.golog_check.specs.Told.{nesting, reached_each, is_endless as spec_is_endless, reaches_itself as spec_reaches_itself};
 ghost use Rattle.golog_check.specs.Unguarded.{leads_to as spec_leads_to, refused_where, said as spec_said, all_front_refusals};
 
@@ -132,7 +133,7 @@ fn greatest_of(nests: &[u32], calls: &[u32]) -> u32
 
 /// How deep a procedure nests with what it calls, up to the nest that is too deep.
 fn nest_with(item: &Nesting, before: &[u32]) -> u32
-    ensures { result ≡ nest_of_calls 1025 before.now (nesting item.now) }
+    ensures { result ≡ nest_of_calls told_nest before.now (nesting item.now) }
 {
     let own = item.own.min(TOO_DEEP);
     let called = greatest_of(before, item.calls.as_slice()).min(TOO_DEEP);
@@ -141,7 +142,7 @@ fn nest_with(item: &Nesting, before: &[u32]) -> u32
 
 /// How deep procedures nest with what they call without a step, by their nests in the round before.
 fn nests_after(alloc: Global, items: &[Nesting], before: &[u32]) -> Result<List<u32>, NoMemory>
-    ensures { IfOk result (λ after. after ≡ nest_round 1025 (map nesting items.now) before.now) }
+    ensures { IfOk result (λ after. after ≡ nest_round told_nest (map nesting items.now) before.now) }
 {
     let mut after = List::new(alloc);
     for item in items {
@@ -153,8 +154,8 @@ fn nests_after(alloc: Global, items: &[Nesting], before: &[u32]) -> Result<List<
 /// How deep procedures nest after as many rounds as there are procedures. It ends with the first round that
 /// changes nothing.
 fn nests_of(alloc: Global, items: &[Nesting]) -> Result<List<u32>, NoMemory>
-    ensures { IfOk result (λ nests. nests
-        ≡ rounds_of (nest_round 1025 (map nesting items.now)) (length items.now) (replicate (length items.now) 0)) }
+    ensures { IfOk result (λ nests. nests ≡ rounds_of (nest_round told_nest (map nesting items.now))
+        (length items.now) (replicate (length items.now) 0)) }
 {
     let count = items.len();
     let mut nests = List::from_vec(vec![in alloc; 0; count]?);

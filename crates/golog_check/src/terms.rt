@@ -1,6 +1,6 @@
 ghost use Rattle.std.specs.Prelude.{◌≡◌};
 ghost use Rattle.golog_check.specs.Faults.{Answers};
-ghost use Rattle.golog_check.specs.Terms.{term_place, term_sort, term_as, term_in, common, sides_in};
+ghost use Rattle.golog_check.specs.Terms.{term_place, term_sort, term_as, term_in, common, is_by_order, sides_in};
 
 use crate::args::{arg_as, arg_place, arg_sort, args_in, is_other};
 use crate::fault::{CheckFault, SORT_CLASH, refuse_where};
@@ -100,17 +100,36 @@ fn common(one: Option<u32>, other: Option<u32>) -> Option<u32>
     }
 }
 
+/// How the two sides of a comparison are compared: whether they are equal, or by the order of whole numbers.
+#[derive(Clone, Copy)]
+pub enum Comparison {
+    Equal,
+    Order,
+}
+
+impl Comparison {
+    /// Whether it is by the order of whole numbers.
+    fn is_by_order(self) -> bool
+        ensures { result ≡ is_by_order self }
+    {
+        match self {
+            Comparison::Equal => false,
+            Comparison::Order => true,
+        }
+    }
+}
+
 /// The two sides of a comparison, which is of their sort. An order is one of whole numbers.
 #[tactic(auto, unfolding(crate::specs::Terms::sides_in))]
 pub fn sides_in(
     alloc: Global,
     names: &Names<'_>,
     scope: &[Variable],
-    is_order: bool,
+    comparison: Comparison,
     one: &DraftTerm,
     other: &DraftTerm,
 ) -> Result<Sides, CheckFault>
-    ensures { Answers result (sides_in names.now scope.now is_order one.now other.now) }
+    ensures { Answers result (sides_in names.now scope.now (is_by_order comparison) one.now other.now) }
 {
     let at = term_place(one);
     let shown = common(term_sort(names, scope, one), term_sort(names, scope, other));
@@ -120,7 +139,11 @@ pub fn sides_in(
             at,
         });
     };
-    refuse_where(is_order && !names.is_range(sort), SORT_CLASH, at)?;
+    refuse_where(
+        comparison.is_by_order() && !names.is_range(sort),
+        SORT_CLASH,
+        at,
+    )?;
     let one = term_as(alloc, names, scope, sort, one);
     let (one, other) = both(one, term_as(alloc, names, scope, sort, other))?;
     Ok(Sides { sort, one, other })

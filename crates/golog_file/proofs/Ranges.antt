@@ -16,13 +16,10 @@ use Rattle.golog_theory.specs.Names.{same}
 use Rattle.golog_theory.specs.Heads.{head_word, arguments}
 use Rattle.golog_theory.specs.Parts.{word, new_name, number_of}
 use Rattle.golog_theory.specs.Sorts.{bound, is_above, is_too_wide, range_of, constant_of, listed_of, range_by, sort_by, sort_item}
-use Rattle.golog_theory.specs.Fluents.{fluent_item, start_item}
-use Rattle.golog_theory.specs.Actions.{device_item, action_item, exo_item}
-use Rattle.golog_theory.specs.Effects.{poss_item, causes_item, senses_item}
 use Rattle.golog_theory.specs.Keywords.{item_keyword}
 use Rattle.golog_theory.specs.declared.keyword.ItemKeyword.{ItemKeyword}
 use Rattle.golog_theory.specs.declared.keyword.ItemKeyword.TheVariants as keyword
-use Rattle.golog_theory.specs.Items.{built_in, sort_read, device_read, fluent_read, start_read, action_read, exo_read, poss_read, causes_read, senses_read, read_as, read_by, item_read, items_read, theory_of}
+use Rattle.golog_theory.specs.Items.{built_in, fluent_read, read_as, read_by, item_read, items_read, theory_of}
 use Rattle.golog_theory.proofs.Yields.{Yields, On, gives-yields, refused-yields, row-yields, found-yields, if-yields, then-yields}
 use Rattle.golog_check.specs.DeclaredItems.{sort_item as made_sort}
 use Rattle.golog_file.specs.Laws.{RangesOfAgentsFit}
@@ -128,7 +125,7 @@ module _ (theory : DraftTheory) (have : HasRanges theory) where
   other-yields outcome next have' = then-yields (λ _. Unit {0}) HasRanges outcome (λ item. gives (next item)) (λ x e. tt) (λ item _. gives-yields HasRanges (next item) (have' item))
 
   read_as-yields : (at : ℕ) (own : ItemKeyword) (fs : List Form) → Yields HasRanges (read_as theory at own fs)
-  unfolding read_as sort_read device_read fluent_read start_read action_read exo_read poss_read causes_read senses_read
+  unfolding read_as fluent_read
   read_as-yields at keyword.Sort fs =
       then-yields InRange _ (sort_item theory at fs).outcome _ (sort-yields theory at fs) (λ item fits. gives-yields HasRanges _ (pushed theory.sorts item have fits))
   read_as-yields at keyword.Proc fs = gives-yields HasRanges theory have

@@ -16,7 +16,7 @@ use Rattle.golog_check.specs.DeclaredItems.{declared_in}
 use Rattle.golog_check.specs.Conditions.{cond_in}
 use Rattle.golog_file.specs.Spelled.{SpellsForm}
 use Rattle.golog_file.specs.declared.fault.CondFault.{CondFault}
-use Rattle.golog_file.specs.declared.fault.CondFault.TheVariants.{Refused, Memory}
+use Rattle.golog_file.specs.Faults.{AnswersBy, cond_code_at}
 
 -- conditions that keep the rules over the theory keep them over the agent
 abbrev pub CondsStayKept : DraftTheory → Agent → Type 0
@@ -50,12 +50,8 @@ module _ (theory : DraftTheory) (agent : Agent) where
 
   -- what a reader of a form answers: the condition that it spells, or its first refusal, unless memory ran out
   abbrev pub FormAnswersCond : Result Cond CondFault → Form → Type 0
-  FormAnswersCond (Ok cond) form = FormSpellsCond form cond
-  FormAnswersCond (Err (Refused code at)) form = FormRefusesCond form code at
-  FormAnswersCond (Err Memory) form = Unit {0}
+  FormAnswersCond result form = AnswersBy cond_code_at (FormSpellsCond form) (FormRefusesCond form) result
 
   -- the same of bytes
   abbrev pub ReadsCond : Result Cond CondFault → List ℕ → Type 0
-  ReadsCond (Ok cond) bytes = SpellsCond bytes cond
-  ReadsCond (Err (Refused code at)) bytes = RefusesCond bytes code at
-  ReadsCond (Err Memory) bytes = Unit {0}
+  ReadsCond result bytes = AnswersBy cond_code_at (SpellsCond bytes) (RefusesCond bytes) result

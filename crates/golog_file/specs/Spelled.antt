@@ -1,7 +1,8 @@
 -- The agent that the bytes of a file spell, and the first refusal of bytes that spell none.
 --
 -- A file is read in stages: the form, the theory, the program, and the check of both.
-use Rattle.std.specs.Prelude.{◌≡◌, ◌≤◌, ◌^◌, ℕ, List, length, Result, Ok, Err}
+use Rattle.std.specs.Prelude.{◌≡◌, ◌≤◌, ℕ, List, length, Result, Ok, Err}
+use Rattle.golog_base.specs.Files.{file_limit}
 use Rattle.golog_form.specs.declared.form.Form.{Form}
 use Rattle.golog_form.specs.declared.fault.FormFault.TheVariants.{Refused as FormRefused}
 use Rattle.golog_form.specs.Spelling.{Spells}
@@ -17,7 +18,7 @@ use Rattle.golog_check.specs.Check.{agent_of}
 use Rattle.golog_check.specs.Order.{all_rows, IsLeastRow}
 use Rattle.golog_file.specs.declared.reading.Understood.{Understood}
 use Rattle.golog_file.specs.declared.fault.AgentFault.{AgentFault}
-use Rattle.golog_file.specs.declared.fault.AgentFault.TheVariants.{Refused, Memory}
+use Rattle.golog_file.specs.Faults.{AnswersBy, agent_code_at}
 
 module _ (theory : DraftTheory) (program : DraftProgram) where
   -- no row of the check fits
@@ -35,9 +36,7 @@ module _ (theory : DraftTheory) (program : DraftProgram) where
 
   -- the agent, or the first refusal, unless memory ran out
   abbrev pub DraftAnswers : Result Agent AgentFault → Type 0
-  DraftAnswers (Ok agent) = DraftSpells agent
-  DraftAnswers (Err (Refused code at)) = DraftRefuses code at
-  DraftAnswers (Err Memory) = Unit {0}
+  DraftAnswers result = AnswersBy agent_code_at DraftSpells DraftRefuses result
 
 -- the form spells the theory and the program
 pub record SpellsDraft (form : Form) (theory : DraftTheory) (program : DraftProgram) : Type 0 where
@@ -62,7 +61,7 @@ pub data FormRefuses (form : Form) : ℕ → ℕ → Type 0 where
 
 -- the bytes are within the limit and spell the form
 pub record SpellsForm (bytes : List ℕ) (form : Form) : Type 0 where
-  pub small : length bytes ≤ 2 ^ 20
+  pub small : length bytes ≤ file_limit
   pub spelled : Spells bytes form
 
 pub record SpellsAgent (bytes : List ℕ) (agent : Agent) : Type 0 where
@@ -79,15 +78,11 @@ pub data IsFirstRefusal (bytes : List ℕ) : ℕ → ℕ → Type 0 where
 
 -- what a reader of a form answers: the agent that it spells, or its first refusal, unless memory ran out
 abbrev pub FormAnswers : Result Agent AgentFault → Form → Type 0
-FormAnswers (Ok agent) form = FormSpells form agent
-FormAnswers (Err (Refused code at)) form = FormRefuses form code at
-FormAnswers (Err Memory) form = Unit {0}
+FormAnswers result form = AnswersBy agent_code_at (FormSpells form) (FormRefuses form) result
 
 -- the same of the bytes of a file
 abbrev pub Reads : Result Agent AgentFault → List ℕ → Type 0
-Reads (Ok agent) bytes = SpellsAgent bytes agent
-Reads (Err (Refused code at)) bytes = IsFirstRefusal bytes code at
-Reads (Err Memory) bytes = Unit {0}
+Reads result bytes = AnswersBy agent_code_at (SpellsAgent bytes) (IsFirstRefusal bytes) result
 
 -- the form spells the agent, over this theory
 pub record FormSpellsWith (form : Form) (theory : DraftTheory) (agent : Agent) : Type 0 where
@@ -102,9 +97,9 @@ pub record SpellsWith (bytes : List ℕ) (theory : DraftTheory) (agent : Agent) 
 
 -- the same answers, with the theory beside the agent
 abbrev pub FormAnswersWith : Result Understood AgentFault → Form → Type 0
-FormAnswersWith (Ok understood) form = FormSpellsWith form understood.theory understood.agent
-FormAnswersWith (Err fault) form = FormAnswers (Err fault) form
+FormAnswersWith result form =
+    AnswersBy agent_code_at (λ (u : Understood). FormSpellsWith form u.theory u.agent) (FormRefuses form) result
 
 abbrev pub ReadsWith : Result Understood AgentFault → List ℕ → Type 0
-ReadsWith (Ok understood) bytes = SpellsWith bytes understood.theory understood.agent
-ReadsWith (Err fault) bytes = Reads (Err fault) bytes
+ReadsWith result bytes =
+    AnswersBy agent_code_at (λ (u : Understood). SpellsWith bytes u.theory u.agent) (IsFirstRefusal bytes) result

@@ -1,5 +1,5 @@
 -- The places in each procedure and in the program of a file ascend, where the parts of its form stand in order.
-use Rattle.std.proofs.Common.{◌≡◌, ℕ, ◌+◌, ◌<◌, ◌≤◌, not, List, [], ◌∷◌, ◌++◌, length, map, Option, Some, None, Result, Ok, Err, refl, sym, ap, subst, ◌∙◌, arith}
+use Rattle.std.proofs.Common.{◌≡◌, ℕ, ◌+◌, ◌<◌, not, List, [], ◌∷◌, ◌++◌, length, map, Option, Some, Result, Ok, Err, subst, arith}
 use Rattle.std.specs.Prelude.{if◌then◌else◌, codes, nat_le, is_some, IfOk}
 use Rattle.std.specs.List.{list_any}
 use Rattle.golog_form.specs.declared.form.Form.{Form}
@@ -16,7 +16,8 @@ use Rattle.golog_theory.specs.Reading.{Answers, gives, refused, found, ◌>>=◌
 use Rattle.golog_theory.specs.Names.{same}
 use Rattle.golog_theory.specs.Heads.{head_word, arguments}
 use Rattle.golog_theory.specs.Before.{before}
-use Rattle.golog_theory.proofs.Inside.{end_of, Between, Stands, stands, arguments-between}
+use Rattle.golog_semantics.proofs.GroundNumbers.{some-same}
+use Rattle.golog_theory.proofs.Inside.{end_of, Between, stands, arguments-between}
 use Rattle.golog_theory.proofs.Ascend.{ascend-low, is_ascending, are_push}
 use Rattle.golog_theory.proofs.Yields.{Yields, gives-yields, refused-yields, row-yields, found-yields, if-yields, then-yields}
 use Rattle.golog_prog.specs.declared.items.SoFar.{SoFar}
@@ -30,14 +31,6 @@ use Rattle.golog_prog.proofs.AscendingProgs.{prog_of-ascend}
 with-body : (at : ℕ) (body : Form) (places : List ℕ) → at < place_of body → Ascend (place_of body) places (end_of body) → IsAscending (at ∷ places)
 with-body at body places lt a =
     is_ascending at (at ∷ places) (end_of body) (omega arith, ascend-low (at + 1) (place_of body) (end_of body) places (omega (arith, lt)) a)
-
-some_main : DraftMain → Option DraftMain → DraftMain
-some_main other None = other
-some_main other (Some main) = main
-
-main-is : (one other : DraftMain) → ◌≡◌ {A = Option DraftMain} (Some one) (Some other) → one ≡ other
-unfolding some_main
-main-is one other e = ap (some_main one) e
 
 abbrev ProcAscends : DraftProc → Type 0
 ProcAscends proc = IsAscending (proc_places proc)
@@ -85,7 +78,7 @@ module _ (theory : DraftTheory) (declared : List Declared) where
   with-proc so_far proc all one = record { procs = are_push proc_places so_far.procs proc all.procs one; main = all.main }
 
   with-main : (so_far : SoFar) (main : DraftMain) → Ascends so_far → MainAscends main → Ascends (record so_far { main = Some main })
-  with-main so_far main all one = record { procs = all.procs; main = λ other e. subst MainAscends (main-is main other e) one }
+  with-main so_far main all one = record { procs = all.procs; main = λ other e. subst MainAscends (some-same main other e) one }
 
   item_read-ascend : (so_far : SoFar) (f : Form) → IsInOrder f → Ascends so_far → Yields Ascends (item_read theory declared so_far f)
   unfolding read_by proc_read main_read

@@ -35,7 +35,7 @@ use Rattle.golog_prog.specs.declared.keyword.Keyword.TheVariants.{Act, Test, Seq
 use Rattle.golog_prog.specs.declared.procedures.Declared.{Declared}
 use Rattle.golog_prog.specs.declared.programs.Guarded.{Guarded}
 use Rattle.golog_prog.specs.Callees.{action_named, proc_named, named}
-use Rattle.golog_prog.specs.Constructs.{InScope, act_of, call_of, test_of, progs_of, several_of, seq_of, choice_of, conc_of, prio_of, pick_of, one_of, star_of, cstar_of, guarded_of, if_of, while_of, search_of, interrupt, interrupt_of, interrupts, interrupts_of}
+use Rattle.golog_prog.specs.Constructs.{InScope, act_of, call_of, test_of, progs_of, several_of, seq_of, choice_of, conc_of, prio_of, pick_of, one_of, star_of, cstar_of, guarded_of, guard_of, if_of, while_of, search_of, interrupt, interrupt_of, interrupts, interrupts_of}
 use Rattle.golog_prog.specs.Keywords.{keyword_of}
 use Rattle.golog_prog.specs.Programs.{nil_of, construct_of, list_of, prog_by, prog_of, prog_part}
 use Rattle.golog_prog.proofs.Progs.{prog_of-parts}
@@ -208,6 +208,19 @@ module _ (theory : DraftTheory) (procs : List Declared) where
       gives-yields (GuardedPlaced from (end_of c) to) (record { cond = cond; body = d })
       (record { cond = ascend-low from (place_of c) (end_of c) (cond_places cond) b.0 a; body = a' })))
 
+  -- the condition up to some place, and the program behind it
+  abbrev Apart : ℕ → ℕ → Guarded → Type 0
+  Apart from to guarded = (mid : ℕ) × GuardedPlaced from mid to guarded
+
+  guard_of-ascend : (scope at low : ℕ) (fs : List Form) (from to : ℕ) → low ≤ from → Between from fs to → Each ProgAscends fs
+      → Yields (Apart low to) (guard_of theory scope at (as_parts fs))
+  unfolding guard_of
+  guard_of-ascend scope at low [] from to le b e = refused-yields (Apart low to) 20 at
+  guard_of-ascend scope at low (c ∷ []) from to le b e = refused-yields (Apart low to) 20 at
+  guard_of-ascend scope at low (c ∷ body ∷ []) from to le b e =
+      λ g is. (end_of c, guarded_of-ascend scope c body low to (omega (arith, le, b.0), b.1, b.2) e.1.0 g is)
+  guard_of-ascend scope at low (c ∷ body ∷ other ∷ fs) from to le b e = refused-yields (Apart low to) 20 at
+
   if-ascend : (from mid end to at : ℕ) (c : DraftCond) (d other : DraftProg) → Ascend from (cond_places c) mid → Placed mid end d → Placed end to other
       → Placed from to (prog.If c d other at)
   if-ascend from mid end to at c d other a a' a'' =
@@ -238,13 +251,9 @@ module _ (theory : DraftTheory) (procs : List Declared) where
   while_of-ascend : (scope at : ℕ) (fs : List Form) (from to : ℕ) → at < from → Between from fs to → Each ProgAscends fs
       → Yields (Placed at to) (while_of theory scope at (as_parts fs))
   unfolding while_of
-  while_of-ascend scope at [] from to lt b e = none at to at
-  while_of-ascend scope at (c ∷ []) from to lt b e = none at to at
-  while_of-ascend scope at (c ∷ body ∷ []) from to lt b e =
-      then-yields _ _ (guarded_of theory scope (prog_part theory procs c) (prog_part theory procs body)).outcome _
-      (guarded_of-ascend scope c body at to (omega (arith, b.0), b.1, b.2) e.1.0) (λ g a.
-      gives-yields (Placed at to) (prog.While g.cond g.body at) (while-ascend at (end_of c) to at g.cond g.body a.cond a.body))
-  while_of-ascend scope at (c ∷ body ∷ other ∷ fs) from to lt b e = none at to at
+  while_of-ascend scope at fs from to lt b e =
+      then-yields _ _ (guard_of theory scope at (as_parts fs)).outcome _ (guard_of-ascend scope at at fs from to (omega arith) b e) (λ g a.
+      gives-yields (Placed at to) (prog.While g.cond g.body at) (while-ascend at a.0 to at g.cond g.body a.1.cond a.1.body))
 
   search_of-ascend : (scope at : ℕ) (fs : List Form) (from to : ℕ) → at < from → Between from fs to → Each ProgAscends fs
       → Yields (Placed at to) (search_of scope at (as_parts fs))
@@ -266,18 +275,14 @@ module _ (theory : DraftTheory) (procs : List Declared) where
   interrupt_of-ascend : (scope at : ℕ) (fs : List Form) (from to : ℕ) → at < from → Between from fs to → Each ProgAscends fs
       → Yields (Placed at to) (interrupt_of theory scope at (as_parts fs))
   unfolding interrupt_of
-  interrupt_of-ascend scope at [] from to lt b e = none at to at
-  interrupt_of-ascend scope at (c ∷ []) from to lt b e = none at to at
-  interrupt_of-ascend scope at (c ∷ body ∷ []) from to lt b e =
+  interrupt_of-ascend scope at fs from to lt b e =
       let never = prog.Test (cond.Truth false at) at in
-      then-yields _ _ (guarded_of theory scope (prog_part theory procs c) (prog_part theory procs body)).outcome _
-      (guarded_of-ascend scope c body (at + 1) to (omega (arith, b.0), b.1, b.2) e.1.0) (λ g a.
+      then-yields _ _ (guard_of theory scope at (as_parts fs)).outcome _ (guard_of-ascend scope at (at + 1) fs from to (omega arith) b e) (λ g a.
       gives-yields (Placed at to) (interrupt g.cond g.body at)
       (while-ascend at (at + 1) to at (cond.Is 0 [] at) (prog.If g.cond g.body never at)
       (subst (λ places. Ascend at places (at + 1)) (sym (running-place 0 at)) (omega arith, omega arith))
-      (if-ascend (at + 1) (end_of c) to to at g.cond g.body never a.cond a.body
+      (if-ascend (at + 1) a.0 to to at g.cond g.body never a.1.cond a.1.body
       (subst (λ places. Ascend to places to) (sym (never-places at)) (omega arith)))))
-  interrupt_of-ascend scope at (c ∷ body ∷ other ∷ fs) from to lt b e = none at to at
 
   interrupts_of-ascend : (scope at : ℕ) (fs : List Form) (from to : ℕ) → at < from → Between from fs to → Each ProgAscends fs
       → Yields (Placed at to) (interrupts_of scope at (as_parts fs))

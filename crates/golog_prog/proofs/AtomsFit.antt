@@ -39,6 +39,7 @@ use Rattle.golog_semantics.specs.BlockFree.{block_at, proc_blocks}
 use Rattle.golog_semantics.specs.Written.{Wording, is_amount, written_cond_step, written_term_step, is_written_cond, written_prog_step, is_written_prog}
 use Rattle.golog_semantics.proofs.Among.{among-get}
 use Rattle.golog_semantics.proofs.Words.{and-left, and-right, and-both}
+use Rattle.golog_check.proofs.ArgLaws.{none-not}
 use Rattle.golog_check.proofs.Layers.{fits-cond, fits-prog, fits-term, way_fits, way_written, written-cond, written-prog, written-term}
 use Rattle.golog_prog.specs.Printing.{stem_text, sign_text, truth_text, sort_name, fluent_name, action_name, proc_name, fluent_sorts, action_sorts, proc_sorts, variable_text, arg_text, args_texts}
 use Rattle.golog_prog.proofs.PrintedForms as form
@@ -46,6 +47,7 @@ use Rattle.golog_prog.proofs.PrintedForms.{atom, list, binder_form, fluent_form,
 use Rattle.golog_prog.proofs.AtomWords.{name-atom, count-atom, number-atom, variable-atom}
 use Rattle.golog_prog.proofs.DeclaredWords.{there-is, sort-word, fluent-word, action-word, proc-word, sort-name-word}
 use Rattle.golog_prog.proofs.RangeNumbers.{small}
+use Rattle.golog_prog.proofs.ReadArgs.{wrong}
 
 atoms-atom : (text : Text) → atoms_fit (atom text) ≡ atom_fits text
 atoms-atom text = fit-Atom text 0 0
@@ -80,18 +82,12 @@ atoms-three word f g i e h k l =
     atoms-list (atom word ∷ f ∷ g ∷ i ∷ [])
     (atoms-more (atom word) (f ∷ g ∷ i ∷ []) (atoms-atom word ∙ e) (atoms-more f (g ∷ i ∷ []) h (atoms-more g (i ∷ []) k (atoms-more i [] l refl))))
 
-wrong : {A : Type 0} → ◌≡◌ {A = Bool} false true → A
-wrong e = absurd (cc)
-
 -- only variables below 32 are bound
 abbrev pub FewBound : fits.Scope → Type 0
 FewBound scope = (x sort : ℕ) → scope x ≡ Some sort → x < 32
 
 pub few-none : FewBound fits.nothing_bound
-few-none x sort e = absurd (none sort e)
-  where
-    none : (sort : ℕ) → ◌≡◌ {A = Option ℕ} None (Some sort) → ⊥
-    none sort e = cc
+few-none x sort e = absurd (none-not sort e)
 
 pub few-more : (scope : fits.Scope) (var sort : ℕ) → var < 32 → FewBound scope → FewBound (fits.bound scope var sort)
 few-more scope var sort h few x s e = go (x == var) refl e

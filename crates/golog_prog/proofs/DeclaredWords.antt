@@ -1,5 +1,5 @@
 -- The names of a well-formed agent's things are words.
-use Rattle.std.proofs.Common.{◌≡◌, ℕ, zero, suc, ◌<◌, Bool, true, false, List, [], ◌∷◌, ◌++◌, length, map, refl, sym, subst, Some, arith, inl, inr}
+use Rattle.std.proofs.Common.{◌≡◌, ℕ, zero, suc, ◌<◌, true, false, List, [], ◌∷◌, ◌++◌, length, map, refl, sym, subst, Some, arith, inl, inr}
 use Rattle.std.specs.Prelude.{not, slice_get}
 use Rattle.std.specs.List.{flat_map, list_all, IsDistinct}
 use Rattle.std.specs.Option.{option_map_or}
@@ -15,6 +15,7 @@ use Rattle.golog_semantics.specs.Text.{Text}
 use Rattle.golog_semantics.specs.BuiltIn.{sort_names, declared_names, same_text, is_keyword}
 use Rattle.golog_semantics.specs.WellFormed.{WellFormed}
 use Rattle.golog_semantics.specs.Fits.{is_sort}
+use Rattle.golog_semantics.proofs.NoBlocks.{not_so}
 use Rattle.golog_semantics.proofs.Words.{and-left, and-right}
 use Rattle.golog_semantics.proofs.WellNamed.{distinct-left, distinct-right}
 use Rattle.golog_semantics.proofs.Among.{Among, contains-among, among-get, among-left, among-right, flat-among, map-among}
@@ -91,13 +92,9 @@ module _ (agent : Agent) (formed : WellFormed agent) where
   pub no-keyword : (name : Text) → Among (declared_names agent) name → is_keyword name ≡ false
   no-keyword name a = go (declared_names agent) formed.names.free a
     where
-      free : (b : Bool) → not b ≡ true → b ≡ false
-      free true h = absurd (let z : false ≡ true = h in cc)
-      free false h = refl
-
       go : (names : List Text) → list_all (λ name. not (is_keyword name)) names ≡ true → Among names name → is_keyword name ≡ false
       go [] h a = absurd a
-      go (x ∷ xs) h (inl e) = subst (λ y. is_keyword y ≡ false) e (free (is_keyword x) (and-left (not (is_keyword x)) (list_all (λ name. not (is_keyword name)) xs) h))
+      go (x ∷ xs) h (inl e) = subst (λ y. is_keyword y ≡ false) e (not_so (is_keyword x) (and-left (not (is_keyword x)) (list_all (λ name. not (is_keyword name)) xs) h))
       go (x ∷ xs) h (inr b) = go xs (and-right (not (is_keyword x)) (list_all (λ name. not (is_keyword name)) xs) h) b
 
   pub own-name : (item : SortItem) → Among (sort_names item) (sort_item_name agent item)

@@ -1,5 +1,5 @@
 -- What is declared before a place is declared in the theory, under the same number.
-use Rattle.std.proofs.Common.{◌≡◌, ℕ, ◌+◌, ◌<◌, ◌≤◌, zero, suc, Bool, true, false, ◌&&◌, ◌==◌, List, [], ◌∷◌, length, map, take, Option, Some, None, refl, sym, ap, subst, ◌∙◌, arith, cond}
+use Rattle.std.proofs.Common.{◌≡◌, ℕ, ◌≤◌, zero, suc, Bool, true, false, ◌&&◌, ◌==◌, List, [], ◌∷◌, length, map, refl, sym, ap, ◌∙◌, arith, cond}
 use Rattle.std.specs.Prelude.{nat_lt, slice_get}
 use Rattle.std.specs.List.{take_while}
 use Rattle.std.specs.Option.{option_map_or}
@@ -8,8 +8,9 @@ use Rattle.golog_tree.specs.declared.draft.DraftTheory.{DraftTheory}
 use Rattle.golog_tree.specs.declared.draft.DraftFluent.{DraftFluent}
 use Rattle.golog_tree.specs.declared.draft.DraftAction.{DraftAction}
 use Rattle.golog_tree.specs.declared.draft_cond.DraftArg.{DraftArg}
-use Rattle.golog_theory.specs.Before.{sort_place, before}
-use Rattle.golog_theory.proofs.KeptStill.{DeclaresMore}
+use Rattle.golog_draft.specs.DraftPlaces.{sort_place}
+use Rattle.golog_theory.specs.Before.{before}
+use Rattle.golog_theory.proofs.KeptStill.{DeclaresMore, more}
 use Rattle.golog_draft.specs.Drafts.{is_draft_sort, draft_action_at}
 
 module _ {X : Type 0} (p : X → Bool) where
@@ -47,9 +48,6 @@ pub record Knows (known theory : DraftTheory) : Type 0 where
 
 pub knows-sort : (known theory : DraftTheory) → Knows known theory → (sort : ℕ) → is_draft_sort known sort ≡ true → is_draft_sort theory sort ≡ true
 knows-sort known theory knows sort e = more sort (length known.sorts) (length theory.sorts) knows.declares.sorts e
-  where
-    more : (n m k : ℕ) → m ≤ k → nat_lt n m ≡ true → nat_lt n k ≡ true
-    more n m k le e = grind arith
 
 pub before-knows : (at : ℕ) (theory : DraftTheory) → Knows (before at theory) theory
 unfolding before

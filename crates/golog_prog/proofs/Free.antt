@@ -1,8 +1,7 @@
 -- Some stem is free where there are more stems than names, since a name begins with one stem at most.
 use Rattle.std.proofs.Common.{◌≡◌, ℕ, zero, suc, ◌+◌, ◌%◌, ◌^◌, ◌<◌, ◌≤◌, Bool, true, false, not, ◌&&◌, ◌||◌, List, [], ◌∷◌, ◌++◌, length, take, drop, Some, refl, sym, ap, ◌∙◌, arith}
-use Rattle.std.specs.Prelude.{if◌then◌else◌, nat_eq, nat_le, find, decimal}
+use Rattle.std.specs.Prelude.{if◌then◌else◌, nat_eq, find, decimal}
 use Rattle.std.specs.List.{filter, list_any, list_all, range_with_len, starts_with}
-use Rattle.std.proofs.lemmas.Bool.{le-leb}
 use Rattle.std.proofs.Math.Nat.{mod-lt}
 use Rattle.std.proofs.lemmas.Fmt.{decimal_injective, decimal_by_steps}
 use Rattle.std.proofs.lemmas.List.{take-append-drop, append_assoc}
@@ -13,9 +12,7 @@ use Rattle.golog_semantics.proofs.Words.{and-left, and-right, and-both}
 use Rattle.golog_semantics.proofs.GroundNumbers.{some-same}
 use Rattle.golog_semantics.proofs.Levels.{same_values-eq}
 use Rattle.golog_prog.specs.Printing.{stem_text}
-
-digit : (d : ℕ) → d < 10 → is_digit (48 + d) ≡ true
-digit d h = and-both (nat_le 48 (48 + d)) (nat_le (48 + d) 57) (le-leb 48 (48 + d) (omega arith)) (le-leb (48 + d) 57 (omega arith))
+use Rattle.golog_prog.proofs.Numbers.{digit}
 
 pub are-digits : (n : ℕ) → n < 2 ^ 64 → list_all is_digit (decimal n) ≡ true
 are-digits n h = decimal_by_steps (λ n ds. list_all is_digit ds ≡ true)

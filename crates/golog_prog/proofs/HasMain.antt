@@ -1,5 +1,5 @@
 -- Where some item is `main`, and the items are read, the program of `main` was read.
-use Rattle.std.proofs.Common.{◌≡◌, ℕ, Bool, true, false, ◌||◌, List, [], ◌∷◌, ◌++◌, Option, Some, None, Ok, refl, sym, ap, subst, ◌∙◌}
+use Rattle.std.proofs.Common.{◌≡◌, ℕ, Bool, true, false, ◌||◌, List, [], ◌∷◌, ◌++◌, Some, refl, sym, subst}
 use Rattle.std.specs.Prelude.{if◌then◌else◌, codes, is_some}
 use Rattle.std.specs.List.{list_any}
 use Rattle.std.specs.Cmp.Lexicographic.{bytes_decides}
@@ -9,6 +9,7 @@ use Rattle.golog_tree.specs.declared.draft.DraftTheory.{DraftTheory}
 use Rattle.golog_theory.specs.Reading.{gives}
 use Rattle.golog_theory.specs.Names.{same}
 use Rattle.golog_theory.specs.Heads.{head_word, arguments}
+use Rattle.golog_semantics.proofs.Tests.{or_first, or_second}
 use Rattle.golog_theory.proofs.Yields.{Yields, gives-yields, if-yields, then-yields}
 use Rattle.golog_prog.specs.declared.items.SoFar.{SoFar}
 use Rattle.golog_prog.specs.declared.procedures.Declared.{Declared}
@@ -42,14 +43,6 @@ module _ (theory : DraftTheory) (procs : List Declared) where
   item_read-main : (so_far : SoFar) (f : Form) → (is_some so_far.main || is_main f) ≡ true → Yields HasMain (item_read theory procs so_far f)
   item_read-main so_far f some = read_by-main so_far (place_of f) (head_word f) (arguments f) some
 
-  or-left : (a b : Bool) → a ≡ true → (a || b) ≡ true
-  or-left true b e = refl
-  or-left false b e = absurd cc
-
-  or-right : (a b : Bool) → b ≡ true → (a || b) ≡ true
-  or-right true b e = refl
-  or-right false b e = e
-
   or-none : (a : Bool) → (a || false) ≡ true → a ≡ true
   or-none true e = refl
   or-none false e = e
@@ -67,8 +60,8 @@ module _ (theory : DraftTheory) (procs : List Declared) where
   items_read-main so_far (f ∷ fs) some =
       choose (is_some so_far.main) (is_main f) (list_any is_main fs) some
       (λ is. then-yields (λ _. Unit {0}) HasMain (item_read theory procs so_far f).outcome (λ next. items_read theory procs next fs) (λ x e. tt)
-      (λ next _. items_read-main next fs (or-right (is_some next.main) (list_any is_main fs) is)))
+      (λ next _. items_read-main next fs (or_second (is_some next.main) (list_any is_main fs) is)))
       (λ is. then-yields HasMain HasMain (item_read theory procs so_far f).outcome (λ next. items_read theory procs next fs) (item_read-main so_far f is)
-      (λ next has. items_read-main next fs (or-left (is_some next.main) (list_any is_main fs) has)))
+      (λ next has. items_read-main next fs (or_first (is_some next.main) (list_any is_main fs) has)))
 
 pub ruleset laws = (items_read-main)

@@ -21,7 +21,8 @@ use Rattle.golog_theory.specs.Before.{before}
 use Rattle.golog_semantics.specs.BuiltIn.{same_text}
 use Rattle.golog_draft.specs.Drafts.{BeginsBuiltIn, is_draft_sort, draft_args_keep, prog_keeps, param_words}
 use Rattle.golog_theory.proofs.Yields.{Yields, gives-yields, refused-yields, row-yields, if-yields, then-yields, each-yields}
-use Rattle.golog_theory.proofs.Kept.{or_left, or_right, not_true, all_push, all_still, and_still, sort_of-yields}
+use Rattle.golog_semantics.proofs.Tests.{neither_first, neither_second, and_more}
+use Rattle.golog_theory.proofs.Kept.{not_true, all_push, all_still, sort_of-yields}
 use Rattle.golog_prog.specs.declared.procedures.Declared.{Declared}
 use Rattle.golog_prog.specs.Procedures.{is_word, with_list, by_shape}
 use Rattle.golog_prog.specs.Programs.{prog_of}
@@ -51,8 +52,8 @@ proc_name-yields theory done f =
     gives-yields (λ name. NameKeeps theory done name × (name ≡ word f)) (word f) (
       record {
         word = record { named = not_true (is_name (word f)) named; short = grind arith };
-        free = or_left taken again free;
-        new = or_right taken again free;
+        free = neither_first taken again free;
+        new = neither_second taken again free;
       },
       refl,
     ))))
@@ -168,7 +169,7 @@ pub record ProcKeeps (theory : DraftTheory) (declared : List Declared) (done : L
 
 args-known : (at : ℕ) (theory : DraftTheory) (sorts : List ℕ) → draft_args_keep (before at theory) sorts ≡ true → draft_args_keep theory sorts ≡ true
 args-known at theory sorts e =
-    and_still (nat_le (length sorts) 3) (nat_le (length sorts) 3) (list_all (is_draft_sort (before at theory)) sorts) (list_all (is_draft_sort theory) sorts) (λ h. h)
+    and_more (nat_le (length sorts) 3) (nat_le (length sorts) 3) (list_all (is_draft_sort (before at theory)) sorts) (list_all (is_draft_sort theory) sorts) (λ h. h)
     (all_still (is_draft_sort (before at theory)) (is_draft_sort theory) sorts (knows-sort (before at theory) theory (before-knows at theory))) e
 
 module _ (theory : DraftTheory) (declared : List Declared) (begins : BeginsBuiltIn theory) where

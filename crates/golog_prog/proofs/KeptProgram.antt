@@ -1,13 +1,12 @@
 -- The procedures and the program of a file keep the rules for drafts.
-use Rattle.std.proofs.Common.{◌≡◌, ℕ, ◌+◌, ◌<◌, ◌≤◌, Bool, true, false, not, ◌&&◌, ◌||◌, List, [], ◌∷◌, ◌++◌, length, map, Option, Some, None, Result, Ok, Err, refl, sym, ap, subst, ◌∙◌, arith}
-use Rattle.std.specs.Prelude.{if◌then◌else◌, codes, All, filter_map, IfOk}
+use Rattle.std.proofs.Common.{◌≡◌, ℕ, ◌+◌, ◌≤◌, true, false, not, List, [], ◌∷◌, ◌++◌, length, map, Option, Some, None, Result, Ok, Err, refl, sym, ap, subst, ◌∙◌, arith}
+use Rattle.std.specs.Prelude.{if◌then◌else◌, codes, All, IfOk}
 use Rattle.std.specs.List.{list_all, list_any, cons_option, AllByRecursion, IsDistinct}
 use Rattle.std.proofs.lemmas.List.{map-append, append_assoc, append-nil, length_push}
 use Rattle.std.proofs.lemmas.List.Elements.{All-push, All-from_recursion}
 use Rattle.std.proofs.lemmas.List.Folds.{list_any-append}
 use Rattle.std.proofs.lemmas.Map.Keys.{IsDistinct-push}
 use Rattle.std.proofs.lemmas.Cmp.{nat_list_eq_equiv}
-use Rattle.std.specs.Cmp.Lexicographic.{bytes_decides}
 use Rattle.golog_base.specs.Names.{IsWord}
 use Rattle.golog_form.specs.declared.form.Form.{Form}
 use Rattle.golog_form.specs.Shape.{place_of}
@@ -17,10 +16,11 @@ use Rattle.golog_tree.specs.declared.draft.DraftMain.{DraftMain}
 use Rattle.golog_tree.specs.declared.draft.DraftProgram.{DraftProgram}
 use Rattle.golog_theory.specs.declared.fault.TheoryFault.{TheoryFault}
 use Rattle.golog_theory.specs.Reading.{Answers, gives, refused, found, ◌>>=◌}
-use Rattle.golog_theory.specs.Names.{same, is_taken}
+use Rattle.golog_theory.specs.Names.{same}
 use Rattle.golog_theory.specs.Heads.{head_word, arguments}
 use Rattle.golog_semantics.specs.BuiltIn.{is_keyword, same_text}
-use Rattle.golog_draft.specs.Drafts.{AreNames, BeginsBuiltIn, TheoryKeeps, ProgramKeeps, theory_names, proc_names, param_words, draft_args_keep, draft_proc_keeps, prog_keeps}
+use Rattle.golog_draft.specs.Drafts.{AreNames, BeginsBuiltIn, TheoryKeeps, ProgramKeeps, theory_names, proc_names, param_words, draft_proc_keeps}
+use Rattle.golog_semantics.proofs.GroundNumbers.{some-same}
 use Rattle.golog_theory.proofs.Yields.{Yields, gives-yields, refused-yields, row-yields, found-yields, if-yields, then-yields}
 use Rattle.golog_theory.proofs.Kept.{all_push}
 use Rattle.golog_theory.proofs.Amid.{Absent, all-append}
@@ -30,7 +30,7 @@ use Rattle.golog_prog.specs.declared.procedures.Declared.{Declared}
 use Rattle.golog_prog.specs.Procedures.{by_shape, declared_by, declared_in}
 use Rattle.golog_prog.specs.Items.{proc_item, main_item, proc_read, main_read, read_by, item_read, items_read, nothing, is_main, program_with, program_in, program_of}
 use Rattle.golog_prog.proofs.KeptProgs.{Counts}
-use Rattle.golog_prog.proofs.KeptItems.{any-through, NameKeeps, sorts_in, counted, BodyKeeps, ProcRules, ProcKeeps, proc_item-yields, MainRules, main_item-yields}
+use Rattle.golog_prog.proofs.KeptItems.{any-through, NameKeeps, counted, ProcRules, ProcKeeps, proc_item-yields, MainRules, main_item-yields}
 
 -- ---- names
 
@@ -78,14 +78,6 @@ record Kept (theory : DraftTheory) (declared : List Declared) (begins : BeginsBu
   procs : AllByRecursion (ProcRules theory declared) so_far.procs
   main : (main : DraftMain) → so_far.main ≡ Some main → MainRules theory declared begins main
 
-some_main : DraftMain → Option DraftMain → DraftMain
-some_main other None = other
-some_main other (Some main) = main
-
-main-is : (one other : DraftMain) → ◌≡◌ {A = Option DraftMain} (Some one) (Some other) → one ≡ other
-unfolding some_main
-main-is one other e = ap (some_main one) e
-
 module _ (theory : DraftTheory) (declared : List Declared) (begins : BeginsBuiltIn theory) where
   abbrev IsKept : SoFar → Type 0
   IsKept = Kept theory declared begins
@@ -104,7 +96,7 @@ module _ (theory : DraftTheory) (declared : List Declared) (begins : BeginsBuilt
     names = k.names;
     few = k.few;
     procs = k.procs;
-    main = λ other e. subst (MainRules theory declared begins) (main-is main other e) one;
+    main = λ other e. subst (MainRules theory declared begins) (some-same main other e) one;
   }
 
   -- what is kept behind an item, and the numbers of parameters

@@ -25,7 +25,7 @@ use Rattle.golog_theory.specs.declared.conditions.Binder.{Binder}
 use Rattle.golog_theory.specs.Reading.{Reading, gives, refused, row, ◌>>=◌, each}
 use Rattle.golog_theory.specs.Names.{same, action_no}
 use Rattle.golog_theory.specs.Parts.{word, parts, number_of}
-use Rattle.golog_theory.specs.Heads.{arguments, args_of}
+use Rattle.golog_theory.specs.Heads.{arguments, args_of, declared_with}
 use Rattle.golog_theory.specs.Conditions.{binder_of, cond_of}
 use Rattle.golog_theory.specs.Recursion.{Part}
 use Rattle.golog_semantics.specs.Ways.{is_empty}
@@ -33,17 +33,17 @@ use Rattle.golog_draft.specs.Drafts.{BeginsBuiltIn, signature, cond_keeps, draft
 use Rattle.golog_theory.proofs.Inside.{Each, by_parts}
 use Rattle.golog_theory.proofs.Yields.{Yields, gives-yields, refused-yields, row-yields, if-yields, then-yields}
 use Rattle.golog_theory.proofs.Kept.{all_push}
-use Rattle.golog_theory.proofs.KeptTerms.{args_of-yields}
+use Rattle.golog_theory.proofs.KeptTerms.{same-count, args_of-yields, equals}
 use Rattle.golog_theory.proofs.KeptConds as conds
 use Rattle.golog_theory.proofs.KeptConds.{cond_of-yields, binder_of-yields, room}
 use Rattle.golog_theory.proofs.KeptStill.{cond-still}
-use Rattle.golog_prog.specs.declared.callees.Callee.{Callee}
+use Rattle.golog_theory.specs.declared.heads.Callee.{Callee}
 use Rattle.golog_prog.specs.declared.keyword.Keyword.{Keyword}
 use Rattle.golog_prog.specs.declared.keyword.Keyword.TheVariants.{Act, Test, Seq, Choice, Pick, Star, If, While, Conc, Prio, Cstar, Call, Search, Interrupt, Interrupts}
 use Rattle.golog_prog.specs.declared.procedures.Declared.{Declared}
 use Rattle.golog_prog.specs.declared.programs.Guarded.{Guarded}
-use Rattle.golog_prog.specs.Callees.{own_action, action_at, action_named, procedure, proc_at, proc_named, declared_with, named}
-use Rattle.golog_prog.specs.Constructs.{InScope, act_of, call_of, test_of, progs_of, several_of, seq_of, choice_of, conc_of, prio_of, pick_of, one_of, star_of, cstar_of, guarded_of, if_of, while_of, search_of, interrupt, interrupt_of, interrupts, interrupts_of}
+use Rattle.golog_prog.specs.Callees.{own_action, action_at, action_named, procedure, proc_at, proc_named, named}
+use Rattle.golog_prog.specs.Constructs.{InScope, act_of, call_of, test_of, progs_of, several_of, seq_of, choice_of, conc_of, prio_of, pick_of, one_of, star_of, cstar_of, guarded_of, guard_of, if_of, while_of, search_of, interrupt, interrupt_of, interrupts, interrupts_of}
 use Rattle.golog_prog.specs.Keywords.{keyword_of}
 use Rattle.golog_prog.specs.Programs.{nil_of, construct_of, list_of, prog_by, prog_of, prog_part}
 use Rattle.golog_prog.proofs.Progs.{prog_of-parts}
@@ -56,10 +56,8 @@ record IsNamed (args : List Form) (callee : Option Callee) (item : ℕ) : Type 0
   number : is.item ≡ item
   count : length args ≡ is.arity
 
-same-count : (a b : ℕ) → not (a == b) ≡ false → a ≡ b
-same-count a b e = grind arith
-
 declared_with-yields : (at name : ℕ) (args : List Form) (callee : Option Callee) → Yields (IsNamed args callee) (declared_with at name (length args) callee)
+unfolding declared_with
 declared_with-yields at name args None = refused-yields (IsNamed args None) 23 name
 declared_with-yields at name args (Some callee) =
     row-yields (IsNamed args (Some callee)) (not (length args == callee.arity)) (24, at) _ (λ count.
@@ -82,9 +80,6 @@ some_value other (Some callee) = callee
 callee-is : (one other : Callee) → ◌≡◌ {A = Option Callee} (Some one) (Some other) → one ≡ other
 unfolding some_value
 callee-is one other e = ap (some_value one) e
-
-equals : (a b : ℕ) → a ≡ b → (a == b) ≡ true
-equals a b h = grind arith
 
 own-keeps : (item : ℕ) (action : DraftAction) (callee : Callee) (n : ℕ) → own_action item (Some action) ≡ Some callee → n ≡ callee.arity → (callee.item ≡ item) × (Fits n action ≡ true)
 own-keeps item action callee n e count = go action.posters e
@@ -290,6 +285,13 @@ module _ (theory known : DraftTheory) (declared : List Declared) (procs : List D
       then-yields _ _ (prog_of known declared body scope).outcome _ (kept scope) (λ d k'.
       gives-yields (GuardedKeeps scope) (record { cond = cond; body = d }) (record { cond = k; body = k' })))
 
+  guard_of-yields : (scope at : ℕ) (fs : List Form) → Each IsKept fs → Yields (GuardedKeeps scope) (guard_of known scope at (as_parts fs))
+  unfolding guard_of
+  guard_of-yields scope at [] e = refused-yields (GuardedKeeps scope) 20 at
+  guard_of-yields scope at (c ∷ []) e = refused-yields (GuardedKeeps scope) 20 at
+  guard_of-yields scope at (c ∷ body ∷ []) e = guarded_of-yields scope c body e.1.0
+  guard_of-yields scope at (c ∷ body ∷ other ∷ fs) e = refused-yields (GuardedKeeps scope) 20 at
+
   if-keeps : (scope at : ℕ) (c : DraftCond) (d other : DraftProg) → CondKept scope c → Keeps scope d → Keeps scope other → Keeps scope (prog.If c d other at)
   if-keeps scope at c d other k k' k'' = by-layer (draft.If c d other at) (prog.If c d other at) scope (prog.rolls-If c d other at) (rw (k, k', k'') refl)
 
@@ -311,12 +313,9 @@ module _ (theory known : DraftTheory) (declared : List Declared) (procs : List D
 
   while_of-yields : (scope at : ℕ) (fs : List Form) → Each IsKept fs → Yields (Keeps scope) (while_of known scope at (as_parts fs))
   unfolding while_of
-  while_of-yields scope at [] e = none scope at
-  while_of-yields scope at (c ∷ []) e = none scope at
-  while_of-yields scope at (c ∷ body ∷ []) e =
-      then-yields _ _ (guarded_of known scope (prog_part known declared c) (prog_part known declared body)).outcome _ (guarded_of-yields scope c body e.1.0) (λ g k.
+  while_of-yields scope at fs e =
+      then-yields _ _ (guard_of known scope at (as_parts fs)).outcome _ (guard_of-yields scope at fs e) (λ g k.
       gives-yields (Keeps scope) (prog.While g.cond g.body at) (while-keeps scope at g.cond g.body k.cond k.body))
-  while_of-yields scope at (c ∷ body ∷ other ∷ fs) e = none scope at
 
   search_of-yields : (scope at : ℕ) (fs : List Form) → Each IsKept fs → Yields (Keeps scope) (search_of scope at (as_parts fs))
   unfolding search_of
@@ -357,14 +356,11 @@ module _ (theory known : DraftTheory) (declared : List Declared) (procs : List D
 
   interrupt_of-yields : (scope at : ℕ) (fs : List Form) → Each IsKept fs → Yields (Keeps scope) (interrupt_of known scope at (as_parts fs))
   unfolding interrupt_of
-  interrupt_of-yields scope at [] e = none scope at
-  interrupt_of-yields scope at (c ∷ []) e = none scope at
-  interrupt_of-yields scope at (c ∷ body ∷ []) e =
-      then-yields _ _ (guarded_of known scope (prog_part known declared c) (prog_part known declared body)).outcome _ (guarded_of-yields scope c body e.1.0) (λ g k.
+  interrupt_of-yields scope at fs e =
+      then-yields _ _ (guard_of known scope at (as_parts fs)).outcome _ (guard_of-yields scope at fs e) (λ g k.
       gives-yields (Keeps scope) (interrupt g.cond g.body at)
       (while-keeps scope at (cond.Is 0 [] at) (prog.If g.cond g.body (prog.Test (cond.Truth false at) at) at) (running-keeps at scope)
       (if-keeps scope at g.cond g.body (prog.Test (cond.Truth false at) at) k.cond k.body (never-keeps at scope))))
-  interrupt_of-yields scope at (c ∷ body ∷ other ∷ fs) e = none scope at
 
   interrupts-keeps : (scope at : ℕ) (d : DraftProg) → Keeps scope d → Keeps scope (interrupts d at)
   interrupts-keeps scope at d k =

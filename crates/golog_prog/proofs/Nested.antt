@@ -13,20 +13,20 @@ use Rattle.golog_theory.specs.declared.conditions.Binder.{Binder}
 use Rattle.golog_theory.specs.Reading.{Reading, gives, refused, row, ◌>>=◌, each}
 use Rattle.golog_theory.specs.Names.{same}
 use Rattle.golog_theory.specs.Parts.{word, parts, number_of}
-use Rattle.golog_theory.specs.Heads.{arguments, args_of}
+use Rattle.golog_theory.specs.Heads.{arguments, args_of, declared_with}
 use Rattle.golog_theory.specs.Conditions.{binder_of, cond_of}
 use Rattle.golog_theory.specs.Recursion.{Part}
-use Rattle.golog_rows.proofs.Chain.{Chain, chain-low, chain-high, Spans, then-spans, gives-spans, Parts, ReadsFrom, each-spans, if-chain}
+use Rattle.golog_rows.proofs.Chain.{Chain, chain-low, chain-high, Spans, then-spans, gives-spans, each-spans, if-chain}
 use Rattle.golog_theory.proofs.Inside.{Each, by_parts, end_of, Between, stands, arguments-between}
-use Rattle.golog_theory.proofs.Tables.{Covers, row-chain, between-le, number_of-covers, args_of-spans}
-use Rattle.golog_theory.proofs.Nested.{within, refused-covers, cond_of-covers, first-spans, last-spans, binder_of-covers}
-use Rattle.golog_prog.specs.declared.callees.Callee.{Callee}
+use Rattle.golog_theory.proofs.Tables.{Covers, row-chain, between-le, number_of-covers, args_of-spans, declared_with-spans}
+use Rattle.golog_theory.proofs.Nested.{within, refused-covers, parts-read, cond_of-covers, first-spans, last-spans, binder_of-covers}
+use Rattle.golog_theory.specs.declared.heads.Callee.{Callee}
 use Rattle.golog_prog.specs.declared.keyword.Keyword.{Keyword}
 use Rattle.golog_prog.specs.declared.keyword.Keyword.TheVariants.{Act, Test, Seq, Choice, Pick, Star, If, While, Conc, Prio, Cstar, Call, Search, Interrupt, Interrupts}
 use Rattle.golog_prog.specs.declared.procedures.Declared.{Declared}
 use Rattle.golog_prog.specs.declared.programs.Guarded.{Guarded}
-use Rattle.golog_prog.specs.Callees.{action_named, proc_named, declared_with, named}
-use Rattle.golog_prog.specs.Constructs.{InScope, act_of, call_of, test_of, progs_of, several_of, seq_of, choice_of, conc_of, prio_of, pick_of, one_of, star_of, cstar_of, guarded_of, if_of, while_of, search_of, interrupt, interrupt_of, interrupts, interrupts_of}
+use Rattle.golog_prog.specs.Callees.{action_named, proc_named, named}
+use Rattle.golog_prog.specs.Constructs.{InScope, act_of, call_of, test_of, progs_of, several_of, seq_of, choice_of, conc_of, prio_of, pick_of, one_of, star_of, cstar_of, guarded_of, guard_of, if_of, while_of, search_of, interrupt, interrupt_of, interrupts, interrupts_of}
 use Rattle.golog_prog.specs.Keywords.{keyword_of}
 use Rattle.golog_prog.specs.Programs.{nil_of, construct_of, list_of, prog_by, prog_of, prog_part}
 use Rattle.golog_prog.proofs.Progs.{prog_of-parts}
@@ -40,13 +40,6 @@ earlier : {A : Type 0} (from end to : ℕ) (reading : Reading A) → end ≤ to 
 earlier from end to reading le c = chain-high (64 * from) (64 * end) (64 * to) reading.rows (omega arith) c
 
 -- what a form names
-declared_with-spans : (at : ℕ) (name : Form) (count : ℕ) (callee : Option Callee) → IsInOrder name → at < place_of name
-    → Spans at (end_of name) (declared_with at (place_of name) count callee)
-declared_with-spans at name count None order lt =
-    let size = (stands name order).size in (omega arith, omega arith, omega arith, omega arith)
-declared_with-spans at name count (Some callee) order lt =
-    let size = (stands name order).size in (omega arith, omega arith, omega arith, omega arith)
-
 named-spans : (at : ℕ) (name : Form) (args : List Form) (callee : Option Callee) → IsInOrder name → at < place_of name
     → Spans at (end_of name) (named at name args callee)
 unfolding named
@@ -99,17 +92,10 @@ module _ (theory : DraftTheory) (procs : List Declared) where
       (within at to c (cond_of theory c scope) (omega (arith, b.0)) b.2 (cond_of-covers theory c b.1 scope))
   test_of-spans scope at (c ∷ other ∷ fs) from to lt size b = none at to size
 
-  progs_parts : (scope from : ℕ) (fs : List Form) (to : ℕ) → Between from fs to → Each ProgCovers fs
-      → Parts (ReadsFrom (λ (_ : List DraftProg) (part : Part InScope). part.spelled scope)) from (as_parts fs) to
-  progs_parts scope from [] to b e = b
-  progs_parts scope from (f ∷ fs) to b e =
-      let size = (stands f b.1).size in
-      (place_of f, end_of f, b.0, omega (arith, size), (λ before. e.0 b.1 scope), progs_parts scope (end_of f) fs to b.2 e.1)
-
   progs_of-spans : (scope : ℕ) (fs : List Form) (from to : ℕ) → Between from fs to → Each ProgCovers fs → Spans from to (progs_of scope (as_parts fs))
   unfolding progs_of
   progs_of-spans scope fs from to b e =
-      each-spans (λ (_ : List DraftProg) (part : Part InScope). part.spelled scope) [] (as_parts fs) from to (progs_parts scope from fs to b e)
+      each-spans (λ (_ : List DraftProg) (part : Part InScope). part.spelled scope) [] (as_parts fs) from to (parts-read (prog_of theory procs) scope from fs to b e)
 
   several_of-spans : (scope at : ℕ) (fs : List Form) (from to : ℕ) → at < from → Between from fs to → Each ProgCovers fs → Spans at to (several_of scope at (as_parts fs))
   unfolding several_of
@@ -144,21 +130,29 @@ module _ (theory : DraftTheory) (procs : List Declared) where
       (λ c. prog_of theory procs body scope >>= λ body. gives (record { cond = c; body = body })) b (cond_of-covers theory c b.1 scope)
       (λ c'. last-spans (end_of c) body (end_of body) (prog_of theory procs body scope) (λ body. record { cond = c'; body = body }) b.2 (covers b.2.1 scope))
 
-  -- such a pair among the parts of a form, and what is made of it
-  guard-spans : (scope at : ℕ) (c body : Form) (from to : ℕ) (made : Guarded → DraftProg) → at < from → Between from (c ∷ body ∷ []) to → ProgCovers body
-      → Spans at to (guarded_of theory scope (prog_part theory procs c) (prog_part theory procs body) >>= λ guarded. gives (made guarded))
-  guard-spans scope at c body from to made lt b covers =
+  -- such a pair among the parts of a form
+  guard-spans : (scope at : ℕ) (c body : Form) (from to : ℕ) → at < from → Between from (c ∷ body ∷ []) to → ProgCovers body
+      → Spans at to (guarded_of theory scope (prog_part theory procs c) (prog_part theory procs body))
+  guard-spans scope at c body from to lt b covers =
       let read = guarded_of theory scope (prog_part theory procs c) (prog_part theory procs body) in
-      gives-spans at to read made
-      (later at from to read (omega arith)
-      (earlier from (end_of body) to read b.2.2 (guarded_of-spans scope c body from (b.0, b.1, (b.2.0, b.2.1, omega arith)) covers)))
+      later at from to read (omega arith)
+      (earlier from (end_of body) to read b.2.2 (guarded_of-spans scope c body from (b.0, b.1, (b.2.0, b.2.1, omega arith)) covers))
+
+  -- such a pair alone
+  guard_of-spans : (scope at : ℕ) (fs : List Form) (from to : ℕ) → at < from → at < to → Between from fs to → Each ProgCovers fs → Spans at to (guard_of theory scope at (as_parts fs))
+  unfolding guard_of
+  guard_of-spans scope at [] from to lt size b e = refused-covers Guarded at to 20 size (omega arith) (omega arith)
+  guard_of-spans scope at (c ∷ []) from to lt size b e = refused-covers Guarded at to 20 size (omega arith) (omega arith)
+  guard_of-spans scope at (c ∷ body ∷ []) from to lt size b e = guard-spans scope at c body from to lt b e.1.0
+  guard_of-spans scope at (c ∷ body ∷ other ∷ fs) from to lt size b e = refused-covers Guarded at to 20 size (omega arith) (omega arith)
 
   if_of-spans : (scope at : ℕ) (fs : List Form) (from to : ℕ) → at < from → at < to → Between from fs to → Each ProgCovers fs → Spans at to (if_of theory scope at (as_parts fs))
   unfolding if_of
   if_of-spans scope at [] from to lt size b e = none at to size
   if_of-spans scope at (c ∷ []) from to lt size b e = none at to size
   if_of-spans scope at (c ∷ body ∷ []) from to lt size b e =
-      guard-spans scope at c body from to (λ guarded. prog.If guarded.cond guarded.body (prog.Nil at) at) lt b e.1.0
+      gives-spans at to (guarded_of theory scope (prog_part theory procs c) (prog_part theory procs body)) (λ guarded. prog.If guarded.cond guarded.body (prog.Nil at) at)
+      (guard-spans scope at c body from to lt b e.1.0)
   if_of-spans scope at (c ∷ body ∷ other ∷ []) from to lt size b e =
       let read = guarded_of theory scope (prog_part theory procs c) (prog_part theory procs body) in
       then-spans at (end_of body) to read (λ guarded. prog_of theory procs other scope >>= λ other. gives (prog.If guarded.cond guarded.body other at))
@@ -170,11 +164,8 @@ module _ (theory : DraftTheory) (procs : List Declared) where
 
   while_of-spans : (scope at : ℕ) (fs : List Form) (from to : ℕ) → at < from → at < to → Between from fs to → Each ProgCovers fs → Spans at to (while_of theory scope at (as_parts fs))
   unfolding while_of
-  while_of-spans scope at [] from to lt size b e = none at to size
-  while_of-spans scope at (c ∷ []) from to lt size b e = none at to size
-  while_of-spans scope at (c ∷ body ∷ []) from to lt size b e =
-      guard-spans scope at c body from to (λ guarded. prog.While guarded.cond guarded.body at) lt b e.1.0
-  while_of-spans scope at (c ∷ body ∷ other ∷ fs) from to lt size b e = none at to size
+  while_of-spans scope at fs from to lt size b e =
+      gives-spans at to (guard_of theory scope at (as_parts fs)) (λ guarded. prog.While guarded.cond guarded.body at) (guard_of-spans scope at fs from to lt size b e)
 
   search_of-spans : (scope at : ℕ) (fs : List Form) (from to : ℕ) → at < from → at < to → Between from fs to → Each ProgCovers fs → Spans at to (search_of scope at (as_parts fs))
   unfolding search_of
@@ -192,11 +183,8 @@ module _ (theory : DraftTheory) (procs : List Declared) where
 
   interrupt_of-spans : (scope at : ℕ) (fs : List Form) (from to : ℕ) → at < from → at < to → Between from fs to → Each ProgCovers fs → Spans at to (interrupt_of theory scope at (as_parts fs))
   unfolding interrupt_of
-  interrupt_of-spans scope at [] from to lt size b e = none at to size
-  interrupt_of-spans scope at (c ∷ []) from to lt size b e = none at to size
-  interrupt_of-spans scope at (c ∷ body ∷ []) from to lt size b e =
-      guard-spans scope at c body from to (λ guarded. interrupt guarded.cond guarded.body at) lt b e.1.0
-  interrupt_of-spans scope at (c ∷ body ∷ other ∷ fs) from to lt size b e = none at to size
+  interrupt_of-spans scope at fs from to lt size b e =
+      gives-spans at to (guard_of theory scope at (as_parts fs)) (λ guarded. interrupt guarded.cond guarded.body at) (guard_of-spans scope at fs from to lt size b e)
 
   construct_of-covers : (f : Form) (scope : ℕ) (keyword : Keyword) (fs : List Form) (from : ℕ) → IsInOrder f → place_of f < from → Between from fs (end_of f) → Each ProgCovers fs
       → Covers f (construct_of theory procs f scope keyword (as_parts fs))

@@ -12,7 +12,7 @@ use Rattle.golog_base.specs.Names.{is_digit, begins_name, continues_name, is_nam
 use Rattle.golog_base.specs.Numbers.{are_digits, is_zero, is_positive, has_sign, without_sign, is_number, amount_on, amount, minus, below_zero, value}
 use Rattle.golog_semantics.proofs.Words.{and-both, and-left, and-right}
 
-digit : (d : ℕ) → d < 10 → is_digit (48 + d) ≡ true
+pub digit : (d : ℕ) → d < 10 → is_digit (48 + d) ≡ true
 digit d h = and-both (nat_le 48 (48 + d)) (nat_le (48 + d) 57) (le-leb 48 (48 + d) (omega arith)) (le-leb (48 + d) 57 (omega arith))
 
 -- one more digit
@@ -50,11 +50,7 @@ positive-push (b ∷ ds) d h e =
 
 digits-of-positive : (ds : List ℕ) → is_positive ds ≡ true → are_digits ds ≡ true
 digits-of-positive [] e = absurd cc
-digits-of-positive (b ∷ ds) e = go (are_digits (b ∷ ds)) (not (nat_eq b 48)) e
-  where
-    go : (a c : Bool) → (a && c) ≡ true → a ≡ true
-    go true c e = refl
-    go false c e = e
+digits-of-positive (b ∷ ds) e = and-left (are_digits (b ∷ ds)) (not (nat_eq b 48)) e
 
 more-digits : (n : ℕ) (ds : List ℕ) → 10 ≤ n → Spells (n / 10) ds → Spells n (ds ++ (48 + n % 10) ∷ [])
 more-digits n ds h s =

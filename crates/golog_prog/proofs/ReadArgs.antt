@@ -56,7 +56,7 @@ use Rattle.golog_prog.proofs.PrintedForms.{atom}
 use Rattle.golog_prog.proofs.RangeNumbers.{inside, place-of}
 use Rattle.golog_prog.proofs.Scopes.{Scoped, variable}
 
-wrong : {A : Type 0} → ◌≡◌ {A = Bool} false true → A
+pub wrong : {A : Type 0} → ◌≡◌ {A = Bool} false true → A
 wrong e = absurd (cc)
 
 no-more : (n : ℕ) → n ≤ 31 → nat_lt NAME_BYTES n ≡ false
@@ -230,9 +230,6 @@ module _ (agent : Agent) (k : ℕ) (ready : Ready agent k) where
       count : length drafts ≡ length rest
       counted : length forms ≡ length rest
 
-    one-end : {A : Type 0} (xs ys : List A) (x : A) → (xs ++ x ∷ []) ++ ys ≡ xs ++ x ∷ ys
-    one-end xs ys x = append_assoc xs (x ∷ []) ys
-
     one-longer : {A B : Type 0} (xs : List A) (ys : List B) (x : A) (y : B) → length xs ≡ length ys → length (xs ++ x ∷ []) ≡ length (ys ++ y ∷ [])
     one-longer xs ys x y e = length-append xs (x ∷ []) ∙ ap (λ n. n + 1) e ∙ sym (length-append ys (y ∷ []))
 
@@ -254,17 +251,17 @@ module _ (agent : Agent) (k : ℕ) (ready : Ready agent k) where
         let others = behind (front ++ sort ∷ []) rest args f.others (before ++ one.draft ∷ []) (done ++ arg ∷ []) (one-longer done front arg sort long)
         (and-right (arg_fits agent bound sort arg) (args_fit agent bound rest args) h) f.rest in
         let later : (each (next_arg names scope (front ++ sort ∷ rest)) (done ++ arg ∷ []) others.drafts).outcome ≡ Ok ((done ++ arg ∷ []) ++ args) =
-        subst (λ (ss : List ℕ). (each (next_arg names scope ss) (done ++ arg ∷ []) others.drafts).outcome ≡ Ok ((done ++ arg ∷ []) ++ args)) (one-end front rest sort) others.means in
+        subst (λ (ss : List ℕ). (each (next_arg names scope ss) (done ++ arg ∷ []) others.drafts).outcome ≡ Ok ((done ++ arg ∷ []) ++ args)) (append_assoc front (sort ∷ []) rest) others.means in
         record {
           drafts = one.draft ∷ others.drafts;
           read =
               ap (λ (fs : List Form). (each (λ (_ : List DraftArg). arg_of) before fs).outcome) f.are
               ∙ then-ok (arg_of f.first) (λ (x : DraftArg). each (λ (_ : List DraftArg). arg_of) (before ++ x ∷ []) f.others) one.draft ((before ++ one.draft ∷ []) ++ others.drafts) one.read others.read
-              ∙ ap Ok (one-end before others.drafts one.draft);
+              ∙ ap Ok (append_assoc before (one.draft ∷ []) others.drafts);
           means =
               then-ok (next_arg names scope (front ++ sort ∷ rest) done one.draft) (λ (x : Arg). each (next_arg names scope (front ++ sort ∷ rest)) (done ++ x ∷ []) others.drafts) arg ((done ++ arg ∷ []) ++ args)
               (next-ok front rest sort done arg one.draft long (arg-placed sort arg f.first one)) later
-              ∙ ap Ok (one-end done args arg);
+              ∙ ap Ok (append_assoc done (arg ∷ []) args);
           count = ap suc others.count;
           counted = ap length f.are ∙ ap suc others.counted;
         }

@@ -77,8 +77,8 @@ use Rattle.golog_prog.proofs.Outcomes.{then-ok, row-ok, found-ok}
 use Rattle.golog_prog.proofs.Placed.{found-at, position-map}
 use Rattle.golog_prog.proofs.PrintedForms as form
 use Rattle.golog_prog.proofs.PrintedForms.{atom, list, binder_form, fluent_form, term_form, cond_form, form-term, form-cond}
-use Rattle.golog_prog.proofs.ReadArgs.{Ready, short-ok, variable-name, variable-short}
-use Rattle.golog_prog.proofs.ReadTerms.{wrong, parts-as, no-parts, name-not, call_of, FluentRead, fluent-read, TermRead, arg-term, fluent-of, shift-of}
+use Rattle.golog_prog.proofs.ReadArgs.{Ready, short-ok, variable-name, variable-short, wrong}
+use Rattle.golog_prog.proofs.ReadTerms.{parts-as, no-parts, name-not, call_of, FluentRead, fluent-read, TermRead, arg-term, fluent-of, shift-of}
 use Rattle.golog_prog.proofs.Scopes.{Scoped, variable, within-scoped}
 
 -- forms of which the first two, the first three and the first four are like these
@@ -486,9 +486,6 @@ module _ (agent : Agent) (k : ℕ) (ready : Ready agent k) (theory : DraftTheory
       read : (each (λ (_ : List DraftCond) (part : Part (ℕ → Reading DraftCond)). part.spelled n) before (map (cond_part theory) forms)).outcome ≡ Ok (before ++ drafts)
       means : (each (λ (_ : List Cond) (one : InScope). one scope) done (map (cond_in names) drafts)).outcome ≡ Ok (done ++ cs)
 
-    one-end : {A : Type 0} (xs ys : List A) (x : A) → (xs ++ x ∷ []) ++ ys ≡ xs ++ x ∷ ys
-    one-end xs ys x = append_assoc xs (x ∷ []) ys
-
     behind : (cs : List AC) (forms : List Form) (before : List DraftCond) (done : List Cond)
         → list_all (λ (c : fits.Scope → Bool). c bound) (map (cond_fits agent) (map (λ (e : AC). e.0) cs)) ≡ true
         → list_all (λ (c : ℕ → Bool). c n) (map (is_written_cond agent) (map (λ (e : AC). e.0) cs)) ≡ true
@@ -512,10 +509,10 @@ module _ (agent : Agent) (k : ℕ) (ready : Ready agent k) (theory : DraftTheory
           read =
               ap (λ (fs : List Form). (each (λ (_ : List DraftCond) (part : Part (ℕ → Reading DraftCond)). part.spelled n) before (map (cond_part theory) fs)).outcome) p.are
               ∙ then-ok (cond_of theory p.first n) (λ (x : DraftCond). each (λ (_ : List DraftCond) (part : Part (ℕ → Reading DraftCond)). part.spelled n) (before ++ x ∷ []) (map (cond_part theory) p.others)) r.draft ((before ++ r.draft ∷ []) ++ others.drafts) r.read others.read
-              ∙ ap Ok (one-end before others.drafts r.draft);
+              ∙ ap Ok (append_assoc before (r.draft ∷ []) others.drafts);
           means =
               then-ok (cond_in names r.draft scope) (λ (x : Cond). each (λ (_ : List Cond) (one : InScope). one scope) (done ++ x ∷ []) (map (cond_in names) others.drafts)) c.0 ((done ++ c.0 ∷ []) ++ rest) r.means others.means
-              ∙ ap Ok (one-end done rest c.0);
+              ∙ ap Ok (append_assoc done (c.0 ∷ []) rest);
         }
 
     and-spelled : (f sign : Form) (others : List Form) (ds : List DraftCond) → parts f ≡ sign ∷ others → word sign ≡ codes "and"

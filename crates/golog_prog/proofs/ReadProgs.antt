@@ -43,7 +43,7 @@ use Rattle.golog_theory.specs.Codes.{UNKNOWN_FORM, COUNT, ARITY}
 use Rattle.golog_theory.specs.Limits.{VARIABLES}
 use Rattle.golog_theory.specs.Names.{same, action_no}
 use Rattle.golog_theory.specs.Parts.{word, parts, number_of}
-use Rattle.golog_theory.specs.Heads.{args_of}
+use Rattle.golog_theory.specs.Heads.{args_of, declared_with}
 use Rattle.golog_theory.specs.Conditions.{binder_of, cond_of}
 use Rattle.golog_theory.specs.Recursion.{Part}
 use Rattle.golog_tree.specs.declared.join.Join.{Join}
@@ -56,13 +56,13 @@ use Rattle.golog_check.specs.Conditions.{cond_in}
 use Rattle.golog_check.specs.Programs.{InScope, joined, nested, progs_in, parts_in, with_no, with_body, prog_step, prog_in}
 use Rattle.golog_check.proofs.ArgLaws.{same-number}
 use Rattle.golog_check.proofs.Layers.{fits-prog, in-prog, way_fits, way_written, written-prog}
-use Rattle.golog_prog.specs.declared.callees.Callee.{Callee}
+use Rattle.golog_theory.specs.declared.heads.Callee.{Callee}
 use Rattle.golog_prog.specs.declared.keyword.Keyword.{Keyword}
 use Rattle.golog_prog.specs.declared.keyword.Keyword.TheVariants as key
 use Rattle.golog_prog.specs.declared.programs.Guarded.{Guarded}
 use Rattle.golog_prog.specs.declared.procedures.Declared.{Declared as DeclaredProc}
-use Rattle.golog_prog.specs.Callees.{own_action, action_at, action_named, procedure, proc_at, proc_named, declared_with, named}
-use Rattle.golog_prog.specs.Constructs.{act_of, call_of, test_of, progs_of, several_of, seq_of, choice_of, conc_of, prio_of, pick_of, one_of, star_of, cstar_of, guarded_of, if_of, while_of, search_of}
+use Rattle.golog_prog.specs.Callees.{own_action, action_at, action_named, procedure, proc_at, proc_named, named}
+use Rattle.golog_prog.specs.Constructs.{act_of, call_of, test_of, progs_of, several_of, seq_of, choice_of, conc_of, prio_of, pick_of, one_of, star_of, cstar_of, guarded_of, guard_of, if_of, while_of, search_of}
 use Rattle.golog_prog.specs.Keywords.{keyword_of}
 use Rattle.golog_prog.specs.Programs.{nil_of, construct_of, list_of, prog_by, prog_of, prog_part}
 use Rattle.golog_prog.specs.Printing as say
@@ -76,8 +76,8 @@ use Rattle.golog_prog.proofs.Placed.{found-at, position-map}
 use Rattle.golog_prog.proofs.PrintedForms as form
 use Rattle.golog_prog.proofs.PrintedForms.{atom, list, binder_form, cond_form, prog_form}
 use Rattle.golog_prog.proofs.Progs.{prog_of-parts, prog_of-none}
-use Rattle.golog_prog.proofs.ReadArgs.{Ready, number-ok, args-read}
-use Rattle.golog_prog.proofs.ReadTerms.{wrong, parts-as, no-parts, mapped}
+use Rattle.golog_prog.proofs.ReadArgs.{Ready, number-ok, args-read, wrong}
+use Rattle.golog_prog.proofs.ReadTerms.{parts-as, no-parts, mapped}
 use Rattle.golog_prog.proofs.ReadConds.{two-of, three-of, binder_made, binder-ok, cond-reads, deeper}
 use Rattle.golog_prog.proofs.Scopes.{Scoped, variable}
 
@@ -99,7 +99,7 @@ abbrev guarded_made : DraftCond → DraftProg → Guarded
 guarded_made cond body = record { cond = cond; body = body }
 
 named-ok : (at : ℕ) (name : Form) (args : List Form) (o : Option Callee) (item arity : ℕ) → is_name (word name) ≡ true → o ≡ Some (callee item arity) → length args ≡ arity → (named at name args o).outcome ≡ Ok item
-unfolding named
+unfolding named declared_with
 named-ok at name args o item arity w e count =
     ap (λ (b : Bool). (if b then declared_with at (place_of name) (length args) o else refused UNKNOWN_FORM (place_of name)).outcome) w
     ∙ ap (λ (x : Option Callee). (declared_with at (place_of name) (length args) x).outcome) e
@@ -495,7 +495,7 @@ module _ (agent : Agent) (k : ℕ) (ready : Ready agent k) (theory : DraftTheory
 
     while-spelled : (f head cond body : Form) (c : DraftCond) (d : DraftProg) → parts f ≡ head ∷ cond ∷ body ∷ [] → word head ≡ codes "while"
         → (cond_of theory cond n).outcome ≡ Ok c → (prog_of theory procs body n).outcome ≡ Ok d → (prog_of theory procs f n).outcome ≡ Ok (draft.While c d (place_of f))
-    unfolding construct_of while_of keyword_of
+    unfolding construct_of while_of guard_of keyword_of
     while-spelled f head cond body c d are s h g =
         ap (λ (r : Reading DraftProg). r.outcome) (by-word f head (cond ∷ body ∷ []) n (codes "while") key.While are s refl)
         ∙ then-ok (guarded_of theory n (prog_part theory procs cond) (prog_part theory procs body)) (λ (x : Guarded). gives (draft.While x.cond x.body (place_of f))) (guarded_made c d) (draft.While c d (place_of f)) (guarded-ok cond body c d h g) refl

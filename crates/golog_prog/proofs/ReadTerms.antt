@@ -33,11 +33,11 @@ use Rattle.golog_semantics.proofs.GroundNumbers.{some-same}
 use Rattle.golog_semantics.proofs.Levels.{same_values-eq}
 use Rattle.golog_semantics.proofs.Words.{and-left, and-right}
 use Rattle.golog_theory.specs.declared.heads.Called.{Called}
-use Rattle.golog_theory.specs.Codes.{UNKNOWN_FORM, UNKNOWN_NAME, ARITY, NUMBER_RANGE}
+use Rattle.golog_theory.specs.Codes.{UNKNOWN_FORM, ARITY, NUMBER_RANGE}
 use Rattle.golog_theory.specs.Names.{same, fluent_no, fluent_args, fluent_arity}
 use Rattle.golog_base.specs.Numbers.{is_number, has_sign, value}
 use Rattle.golog_theory.specs.Parts.{word, parts, arg_of}
-use Rattle.golog_theory.specs.Heads.{first_word, head_word, head_place, arguments, args_of, has_others, called, fluent_called}
+use Rattle.golog_theory.specs.Heads.{first_word, head_word, head_place, arguments, args_of, with_arity, fluent_named, declared_with, called, fluent_called}
 use Rattle.golog_theory.specs.Recursion.{Part}
 use Rattle.golog_theory.specs.Terms.{step_of, plus_of, minus_of, fluent_term, atom_term, term_list, term_by, term_of, term_part}
 use Rattle.golog_theory.proofs.Descent.{term_of-parts}
@@ -59,11 +59,8 @@ use Rattle.golog_prog.proofs.Numbers.{count-number, count-unsigned, count-value}
 use Rattle.golog_prog.proofs.Outcomes.{then-ok, row-ok, found-ok}
 use Rattle.golog_prog.proofs.Placed.{found-at, position-map}
 use Rattle.golog_prog.proofs.PrintedForms.{atom, list, fluent_form, term_form}
-use Rattle.golog_prog.proofs.ReadArgs.{Ready, arg-read, ArgsRead, args-read}
+use Rattle.golog_prog.proofs.ReadArgs.{Ready, arg-read, ArgsRead, args-read, wrong}
 use Rattle.golog_prog.proofs.Scopes.{Scoped}
-
-pub wrong : {A : Type 0} → ◌≡◌ {A = Bool} false true → A
-wrong e = absurd (cc)
 
 -- the parts of a form that is like a list, and like an atom
 pub parts-as : (f : Form) (items : List Form) → Alike f (list items) → AreAlike (parts f) items
@@ -84,12 +81,13 @@ pub mapped : {A B : Type 0} (f : A → B) (o : Option A) (y : B) → option_map 
 mapped f None y e = absurd (cc)
 mapped f (Some x) y e = (x, (refl, some-same (f x) y e))
 
-pub called-ok : (f : Form) (arity : ℕ → ℕ) (o : Option ℕ) (item : ℕ) → is_name (head_word f) ≡ true → o ≡ Some item → length (arguments f) ≡ arity item → (called f arity o).outcome ≡ Ok item
+pub called-ok : (f : Form) (arity : ℕ → ℕ) (o : Option ℕ) (item : ℕ) → is_name (head_word f) ≡ true → o ≡ Some item → length (arguments f) ≡ arity item → (called f (with_arity arity o)).outcome ≡ Ok item
+unfolding called declared_with
 called-ok f arity o item name e count =
-    ap (λ (b : Bool). (if b then row (has_others (length (arguments f)) arity o) ARITY (place_of f) (found UNKNOWN_NAME (head_place f) o) else refused UNKNOWN_FORM (place_of f)).outcome) name
-    ∙ row-ok (has_others (length (arguments f)) arity o) ARITY (place_of f) (found UNKNOWN_NAME (head_place f) o) item
-    (ap (has_others (length (arguments f)) arity) e ∙ ap (λ n. not (n == arity item)) count ∙ ap not (same-number (arity item)))
-    (found-ok UNKNOWN_NAME (head_place f) o item e)
+    ap (λ (b : Bool). (if b then declared_with (place_of f) (head_place f) (length (arguments f)) (with_arity arity o) else refused UNKNOWN_FORM (place_of f)).outcome) name
+    ∙ ap (λ (x : Option ℕ). (declared_with (place_of f) (head_place f) (length (arguments f)) (with_arity arity x)).outcome) e
+    ∙ row-ok (not (length (arguments f) == arity item)) ARITY (place_of f) (gives item) item
+    (ap (λ (n : ℕ). not (n == arity item)) count ∙ ap not (same-number (arity item))) refl
 
 abbrev pub call_of : ℕ → List DraftArg → Called
 call_of item args = record { item = item; args = args }
@@ -145,12 +143,12 @@ module _ (agent : Agent) (k : ℕ) (ready : Ready agent k) (theory : DraftTheory
 
     fluent-calls : (fluent : ℕ) (item : FluentItem) (args : List Arg) (f : Form) (first : Form) (others : List Form) → slice_get agent.fluents fluent ≡ Some item → parts f ≡ first ∷ others
         → word first ≡ item.name → (r : ArgsRead agent k ready bound scope scoped item.args args others) → (fluent_called theory f).outcome ≡ Ok (call_of fluent r.drafts)
-    unfolding fluent_called
+    unfolding fluent_called fluent_named
     fluent-calls fluent item args f first others e are named r =
         let head : head_word f ≡ item.name = ap first_word are ∙ named in
         let rest : arguments f ≡ others = ap (drop 1) are in
         let count : length (arguments f) ≡ fluent_arity theory fluent = ap length rest ∙ r.counted ∙ sym (fluent-count fluent item e) in
-        then-ok (called f (fluent_arity theory) (fluent_no theory (head_word f))) (λ (n : ℕ). args_of (arguments f) >>= λ (xs : List DraftArg). gives (call_of n xs)) fluent (call_of fluent r.drafts)
+        then-ok (called f (fluent_named theory (head_word f))) (λ (n : ℕ). args_of (arguments f) >>= λ (xs : List DraftArg). gives (call_of n xs)) fluent (call_of fluent r.drafts)
         (called-ok f (fluent_arity theory) (fluent_no theory (head_word f)) fluent (ap is_name head ∙ (fluent-word agent ready.formed fluent item e).named) (ap (fluent_no theory) head ∙ fluent-found fluent item e) count)
         (then-ok (args_of (arguments f)) (λ (xs : List DraftArg). gives (call_of fluent xs)) r.drafts (call_of fluent r.drafts) (ap (λ (fs : List Form). (args_of fs).outcome) rest ∙ r.read) refl)
 

@@ -1,5 +1,5 @@
 -- The words that stand for variables, in the scopes where a printed program is read.
-use Rattle.std.proofs.Common.{◌≡◌, ℕ, ◌<◌, ◌≤◌, Bool, true, false, [], ◌++◌, length, Option, Some, None, refl, sym, ap, ◌∙◌, arith}
+use Rattle.std.proofs.Common.{◌≡◌, ℕ, ◌<◌, ◌≤◌, Bool, true, false, [], ◌++◌, length, Some, None, refl, sym, ap, ◌∙◌, arith}
 use Rattle.std.specs.Prelude.{if◌then◌else◌, ◌==◌, nat_eq, decimal}
 use Rattle.std.specs.List.{starts_with}
 use Rattle.std.proofs.lemmas.Fmt.{decimal_injective}
@@ -11,6 +11,7 @@ use Rattle.golog_semantics.proofs.GroundNumbers.{some-same}
 use Rattle.golog_semantics.proofs.Levels.{same_values-same, same_values-eq}
 use Rattle.golog_check.specs.Sorts.{same}
 use Rattle.golog_check.specs.Scope.{Scope, variable_no, within, innermost}
+use Rattle.golog_check.proofs.ArgLaws.{none-not}
 
 module _ (stem : Text) where
   abbrev pub variable : ℕ → Text
@@ -22,13 +23,10 @@ module _ (stem : Text) where
     pub binds : (x sort : ℕ) → bound x ≡ Some sort → (x < 32) × (innermost scope (variable x) ≡ Some (record { arg = Var x; sort = sort }))
     pub clear : (word : Text) → starts_with nat_eq word stem ≡ false → innermost scope word ≡ None
 
-  none-bound : (sort : ℕ) → ◌≡◌ {A = Option ℕ} None (Some sort) → ⊥
-  none-bound sort e = cc
-
   pub nothing-scoped : Scoped fits.nothing_bound []
   nothing-scoped = record {
     few = omega arith;
-    binds = λ x sort e. absurd (none-bound sort e);
+    binds = λ x sort e. absurd (none-not sort e);
     clear = λ word e. refl;
   }
 

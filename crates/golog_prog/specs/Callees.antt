@@ -1,16 +1,17 @@
 -- The actions and procedures that a program names.
-use Rattle.std.specs.Prelude.{ℕ, ◌==◌, not, if◌then◌else◌, List, length, Option, Some, None, position, slice_get, nat_lt}
+use Rattle.std.specs.Prelude.{ℕ, if◌then◌else◌, List, length, Option, Some, None, position, slice_get, nat_lt}
 use Rattle.golog_base.specs.Names.{is_name}
 use Rattle.golog_form.specs.declared.form.Form.{Form}
 use Rattle.golog_form.specs.Shape.{place_of}
 use Rattle.golog_tree.specs.declared.draft.DraftTheory.{DraftTheory}
 use Rattle.golog_tree.specs.declared.draft.DraftAction.{DraftAction}
-use Rattle.golog_theory.specs.Codes.{UNKNOWN_FORM, UNKNOWN_NAME, ARITY}
-use Rattle.golog_theory.specs.Reading.{Reading, gives, refused, row}
+use Rattle.golog_theory.specs.declared.heads.Callee.{Callee}
+use Rattle.golog_theory.specs.Codes.{UNKNOWN_FORM}
+use Rattle.golog_theory.specs.Heads.{declared_with}
+use Rattle.golog_theory.specs.Reading.{Reading, refused}
 use Rattle.golog_theory.specs.Names.{same, action_no}
 use Rattle.golog_theory.specs.Parts.{word}
 use Rattle.golog_prog.specs.declared.procedures.Declared.{Declared}
-use Rattle.golog_prog.specs.declared.callees.Callee.{Callee}
 
 -- an action that a program may do, which is none that devices post
 abbrev pub own_action : ℕ → Option DraftAction → Option Callee
@@ -37,11 +38,6 @@ proc_at procs (Some item) = procedure item (slice_get procs item)
 -- the procedure with the name
 unfoldable pub proc_named : List Declared → List ℕ → Option Callee
 proc_named procs name = proc_at procs (position (λ (proc : Declared). same name proc.name) procs)
-
--- what is named is declared, with so many arguments
-abbrev pub declared_with : ℕ → ℕ → ℕ → Option Callee → Reading ℕ
-declared_with at name count None = refused UNKNOWN_NAME name
-declared_with at name count (Some callee) = row (not (count == callee.arity)) ARITY at (gives callee.item)
 
 -- The number of the action or procedure that a form names, with these arguments, in a form at the place.
 unfoldable pub named : ℕ → Form → List Form → Option Callee → Reading ℕ

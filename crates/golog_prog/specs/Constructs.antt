@@ -104,11 +104,15 @@ if_of theory scope at (cond ∷ body ∷ other ∷ []) =
     gives (If guarded.cond guarded.body other at)
 if_of theory scope at _ = refused UNKNOWN_FORM at
 
+-- a condition and a program, and nothing more
+unfoldable pub guard_of : DraftTheory → ℕ → ℕ → List (Part InScope) → Reading Guarded
+guard_of theory scope at (cond ∷ body ∷ []) = guarded_of theory scope cond body
+guard_of theory scope at _ = refused UNKNOWN_FORM at
+
 -- `(while COND PROG)`
 unfoldable pub while_of : DraftTheory → ℕ → ℕ → List (Part InScope) → Reading DraftProg
-while_of theory scope at (cond ∷ body ∷ []) =
-    guarded_of theory scope cond body >>= λ guarded. gives (While guarded.cond guarded.body at)
-while_of theory scope at _ = refused UNKNOWN_FORM at
+while_of theory scope at parts =
+    guard_of theory scope at parts >>= λ guarded. gives (While guarded.cond guarded.body at)
 
 -- `(search DEPTH FUEL PROG)`
 unfoldable pub search_of : ℕ → ℕ → List (Part InScope) → Reading DraftProg
@@ -125,9 +129,8 @@ interrupt cond body at = While (Is INTERRUPTS_RUNNING [] at) (If cond body (Test
 
 -- `(interrupt COND PROG)`
 unfoldable pub interrupt_of : DraftTheory → ℕ → ℕ → List (Part InScope) → Reading DraftProg
-interrupt_of theory scope at (cond ∷ body ∷ []) =
-    guarded_of theory scope cond body >>= λ guarded. gives (interrupt guarded.cond guarded.body at)
-interrupt_of theory scope at _ = refused UNKNOWN_FORM at
+interrupt_of theory scope at parts =
+    guard_of theory scope at parts >>= λ guarded. gives (interrupt guarded.cond guarded.body at)
 
 -- `(seq (act start_interrupts) (prio PROG (act stop_interrupts)))`
 abbrev pub interrupts : DraftProg → ℕ → DraftProg

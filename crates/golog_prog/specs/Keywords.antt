@@ -1,30 +1,38 @@
 -- The words that a program in a list begins with.
-use Rattle.std.specs.Prelude.{ℕ, if◌then◌else◌, List, Option, Some, None, codes}
-use Rattle.golog_theory.specs.Names.{same}
+use Rattle.std.specs.Prelude.{ℕ, List, [], ◌∷◌, Option, codes}
+use Rattle.golog_theory.specs.Keywords.{key_of}
 use Rattle.golog_prog.specs.declared.keyword.Keyword.{Keyword}
 use Rattle.golog_prog.specs.declared.keyword.Keyword.TheVariants.{Act, Test, Seq, Choice, Pick, Star, If, While, Conc, Prio, Cstar, Call, Search, Interrupt, Interrupts}
 
--- one of the keywords behind `while` in their row
+-- the words behind `while` in their row
+abbrev pub later_words : List (List ℕ × Keyword)
+later_words =
+    (codes "conc", Conc)
+    ∷ (codes "prio", Prio)
+    ∷ (codes "cstar", Cstar)
+    ∷ (codes "call", Call)
+    ∷ (codes "search", Search)
+    ∷ (codes "interrupt", Interrupt)
+    ∷ (codes "interrupts", Interrupts)
+    ∷ []
+
+-- the words of programs
+abbrev pub prog_words : List (List ℕ × Keyword)
+prog_words =
+    (codes "act", Act)
+    ∷ (codes "test", Test)
+    ∷ (codes "seq", Seq)
+    ∷ (codes "choice", Choice)
+    ∷ (codes "pick", Pick)
+    ∷ (codes "star", Star)
+    ∷ (codes "if", If)
+    ∷ (codes "while", While)
+    ∷ later_words
+
+-- the keyword that a text spells, where it is one of those behind `while`
 abbrev pub later_keyword : List ℕ → Option Keyword
-later_keyword text =
-    if same text (codes "conc") then Some Conc
-    else if same text (codes "prio") then Some Prio
-    else if same text (codes "cstar") then Some Cstar
-    else if same text (codes "call") then Some Call
-    else if same text (codes "search") then Some Search
-    else if same text (codes "interrupt") then Some Interrupt
-    else if same text (codes "interrupts") then Some Interrupts
-    else None
+later_keyword text = key_of later_words text
 
 -- the keyword that a text spells
 unfoldable pub keyword_of : List ℕ → Option Keyword
-keyword_of text =
-    if same text (codes "act") then Some Act
-    else if same text (codes "test") then Some Test
-    else if same text (codes "seq") then Some Seq
-    else if same text (codes "choice") then Some Choice
-    else if same text (codes "pick") then Some Pick
-    else if same text (codes "star") then Some Star
-    else if same text (codes "if") then Some If
-    else if same text (codes "while") then Some While
-    else later_keyword text
+keyword_of text = key_of prog_words text

@@ -6,19 +6,12 @@ ghost use Rattle.golog_prog.specs.Constructs.{act_of, call_of};
 use crate::procedures::Procedures;
 use golog_base::is_name;
 use golog_form::Form;
-use golog_theory::fault::{ARITY, UNKNOWN_FORM, refuse_where, unknown_form, unknown_name};
-use golog_theory::heads::args_of;
-use golog_theory::parts::{item_no, word};
+use golog_theory::fault::{UNKNOWN_FORM, refuse_where, unknown_form};
+use golog_theory::heads::{Callee, args_of, declared_with};
+use golog_theory::parts::word;
 use golog_theory::{Indexed, TheoryFault};
 use golog_tree::{DraftProg, Place};
 use std::alloc::Global;
-
-/// An action or a procedure by its number, and how many arguments it has.
-#[derive(Clone, Copy)]
-pub struct Callee {
-    pub item: usize,
-    pub arity: usize,
-}
 
 /// The action with the name, one of the program or a built-in one.
 #[tactic(auto, unfolding(crate::specs::Callees::action_named))]
@@ -55,11 +48,7 @@ fn named(at: Place, name: &Form, args: &[Form], callee: Option<Callee>) -> Resul
     ensures { Answers result (named at name.now args.now callee) }
 {
     refuse_where(!is_name(word(name)), UNKNOWN_FORM, name.at())?;
-    let Some(Callee { item, arity }) = callee else {
-        return Err(unknown_name(name.at()));
-    };
-    refuse_where(args.len() != arity, ARITY, at)?;
-    item_no(item)
+    declared_with(at, name.at(), args.len(), callee)
 }
 
 /// `(act ACTION ARGS)`

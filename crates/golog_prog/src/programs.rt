@@ -1,6 +1,6 @@
 ghost use Rattle.golog_tree.specs.declared.draft_prog.DraftProg.TheVariants.{Nil};
 ghost use Rattle.golog_theory.specs.Reading.{Answers, gives};
-ghost use Rattle.golog_prog.specs.Constructs.{test_of, progs_of, several_of, seq_of, choice_of, conc_of, prio_of, pick_of, one_of, star_of, cstar_of, guarded_of, if_of, while_of, search_of, interrupt_of, interrupts_of};
+ghost use Rattle.golog_prog.specs.Constructs.{test_of, progs_of, several_of, pick_of, one_of, guarded_of, guard_of, if_of, search_of, interrupt_of, interrupts_of};
 ghost use Rattle.golog_prog.specs.Programs.{nil_of, construct_of, prog_of, prog_part, prog_parts};
 
 use crate::callees::{act_of, call_of};
@@ -71,8 +71,10 @@ pub fn prog_of(
     }
 }
 
+/// The program of a list that begins with the keyword: `(seq PROGS)`, `(choice PROG PROG)` and more, `(star PROG)`
+/// and their like.
 #[cycle(programs)]
-#[tactic(auto, using(crate::proofs::Progs::laws), unfolding(crate::specs::Programs::construct_of))]
+#[tactic(auto, using(crate::proofs::Progs::laws), unfolding(crate::specs::Programs::construct_of, crate::specs::Constructs::seq_of, crate::specs::Constructs::choice_of, crate::specs::Constructs::conc_of, crate::specs::Constructs::prio_of, crate::specs::Constructs::star_of, crate::specs::Constructs::cstar_of, crate::specs::Constructs::while_of))]
 fn construct_of(
     alloc: Global,
     theory: &Indexed<'_>,
@@ -89,15 +91,42 @@ fn construct_of(
     match keyword {
         Keyword::Act => act_of(alloc, theory, at, arguments(form)),
         Keyword::Test => test_of(alloc, theory, procs, scope, at, parts),
-        Keyword::Seq => seq_of(alloc, theory, procs, scope, at, parts),
-        Keyword::Choice => choice_of(alloc, theory, procs, scope, at, parts),
+        Keyword::Seq => {
+            progs_of(alloc, theory, procs, scope, parts).map(|parts| DraftProg::Seq { parts, at })
+        }
+        Keyword::Choice => {
+            several_of(alloc, theory, procs, scope, at, parts).map(|parts| DraftProg::Choice {
+                parts,
+                at,
+            })
+        }
         Keyword::Pick => pick_of(alloc, theory, procs, scope, at, parts),
-        Keyword::Star => star_of(alloc, theory, procs, scope, at, parts),
+        Keyword::Star => {
+            one_of(alloc, theory, procs, scope, at, parts).map(|body| DraftProg::Star { body, at })
+        }
         Keyword::If => if_of(alloc, theory, procs, scope, at, parts),
-        Keyword::While => while_of(alloc, theory, procs, scope, at, parts),
-        Keyword::Conc => conc_of(alloc, theory, procs, scope, at, parts),
-        Keyword::Prio => prio_of(alloc, theory, procs, scope, at, parts),
-        Keyword::Cstar => cstar_of(alloc, theory, procs, scope, at, parts),
+        Keyword::While => {
+            guard_of(alloc, theory, procs, scope, at, parts).map(|guarded| DraftProg::While {
+                cond: guarded.cond,
+                body: guarded.body,
+                at,
+            })
+        }
+        Keyword::Conc => {
+            several_of(alloc, theory, procs, scope, at, parts).map(|parts| DraftProg::Conc {
+                parts,
+                at,
+            })
+        }
+        Keyword::Prio => {
+            several_of(alloc, theory, procs, scope, at, parts).map(|parts| DraftProg::Prio {
+                parts,
+                at,
+            })
+        }
+        Keyword::Cstar => {
+            one_of(alloc, theory, procs, scope, at, parts).map(|body| DraftProg::Cstar { body, at })
+        }
         Keyword::Call => call_of(alloc, procs, at, arguments(form)),
         Keyword::Search => search_of(alloc, theory, procs, scope, at, parts),
         Keyword::Interrupt => interrupt_of(alloc, theory, procs, scope, at, parts),
@@ -138,74 +167,6 @@ fn several_of(
 {
     refuse_where(parts.len() < 2, UNKNOWN_FORM, at)?;
     progs_of(alloc, theory, procs, scope, parts)
-}
-
-/// `(seq PROGS)`
-#[cycle(programs)]
-#[tactic(auto, using(crate::proofs::Progs::laws), unfolding(crate::specs::Constructs::seq_of))]
-fn seq_of(
-    alloc: Global,
-    theory: &Indexed<'_>,
-    procs: &Procedures,
-    scope: usize,
-    at: Place,
-    parts: &[Form],
-) -> Result<DraftProg, TheoryFault>
-    ensures { Answers result (seq_of scope at (prog_parts theory.now procs.now parts.now)) }
-{
-    let parts = progs_of(alloc, theory, procs, scope, parts)?;
-    Ok(DraftProg::Seq { parts, at })
-}
-
-/// `(choice PROG PROG)` and more
-#[cycle(programs)]
-#[tactic(auto, using(crate::proofs::Progs::laws), unfolding(crate::specs::Constructs::choice_of))]
-fn choice_of(
-    alloc: Global,
-    theory: &Indexed<'_>,
-    procs: &Procedures,
-    scope: usize,
-    at: Place,
-    parts: &[Form],
-) -> Result<DraftProg, TheoryFault>
-    ensures { Answers result (choice_of scope at (prog_parts theory.now procs.now parts.now)) }
-{
-    let parts = several_of(alloc, theory, procs, scope, at, parts)?;
-    Ok(DraftProg::Choice { parts, at })
-}
-
-/// `(conc PROG PROG)` and more
-#[cycle(programs)]
-#[tactic(auto, using(crate::proofs::Progs::laws), unfolding(crate::specs::Constructs::conc_of))]
-fn conc_of(
-    alloc: Global,
-    theory: &Indexed<'_>,
-    procs: &Procedures,
-    scope: usize,
-    at: Place,
-    parts: &[Form],
-) -> Result<DraftProg, TheoryFault>
-    ensures { Answers result (conc_of scope at (prog_parts theory.now procs.now parts.now)) }
-{
-    let parts = several_of(alloc, theory, procs, scope, at, parts)?;
-    Ok(DraftProg::Conc { parts, at })
-}
-
-/// `(prio PROG PROG)` and more
-#[cycle(programs)]
-#[tactic(auto, using(crate::proofs::Progs::laws), unfolding(crate::specs::Constructs::prio_of))]
-fn prio_of(
-    alloc: Global,
-    theory: &Indexed<'_>,
-    procs: &Procedures,
-    scope: usize,
-    at: Place,
-    parts: &[Form],
-) -> Result<DraftProg, TheoryFault>
-    ensures { Answers result (prio_of scope at (prog_parts theory.now procs.now parts.now)) }
-{
-    let parts = several_of(alloc, theory, procs, scope, at, parts)?;
-    Ok(DraftProg::Prio { parts, at })
 }
 
 /// A program in memory of its own.
@@ -270,40 +231,6 @@ fn one_of(
     boxed_of(alloc, theory, procs, body, scope)
 }
 
-/// `(star PROG)`
-#[cycle(programs)]
-#[tactic(auto, using(crate::proofs::Progs::laws), unfolding(crate::specs::Constructs::star_of))]
-fn star_of(
-    alloc: Global,
-    theory: &Indexed<'_>,
-    procs: &Procedures,
-    scope: usize,
-    at: Place,
-    parts: &[Form],
-) -> Result<DraftProg, TheoryFault>
-    ensures { Answers result (star_of scope at (prog_parts theory.now procs.now parts.now)) }
-{
-    let body = one_of(alloc, theory, procs, scope, at, parts)?;
-    Ok(DraftProg::Star { body, at })
-}
-
-/// `(cstar PROG)`
-#[cycle(programs)]
-#[tactic(auto, using(crate::proofs::Progs::laws), unfolding(crate::specs::Constructs::cstar_of))]
-fn cstar_of(
-    alloc: Global,
-    theory: &Indexed<'_>,
-    procs: &Procedures,
-    scope: usize,
-    at: Place,
-    parts: &[Form],
-) -> Result<DraftProg, TheoryFault>
-    ensures { Answers result (cstar_of scope at (prog_parts theory.now procs.now parts.now)) }
-{
-    let body = one_of(alloc, theory, procs, scope, at, parts)?;
-    Ok(DraftProg::Cstar { body, at })
-}
-
 /// A condition, and the program that it guards.
 #[derive(Drop)]
 pub struct Guarded {
@@ -328,6 +255,25 @@ fn guarded_of(
     let body = boxed_of(alloc, theory, procs, body, scope);
     let (cond, body) = both(cond_of(alloc, theory, cond, scope), body)?;
     Ok(Guarded { cond, body })
+}
+
+/// A COND and a PROG, and nothing more.
+#[cycle(programs)]
+#[tactic(auto, using(crate::proofs::Progs::laws), unfolding(crate::specs::Constructs::guard_of))]
+fn guard_of(
+    alloc: Global,
+    theory: &Indexed<'_>,
+    procs: &Procedures,
+    scope: usize,
+    at: Place,
+    parts: &[Form],
+) -> Result<Guarded, TheoryFault>
+    ensures { Answers result (guard_of theory.now scope at (prog_parts theory.now procs.now parts.now)) }
+{
+    let [cond, body] = parts else {
+        return Err(unknown_form(at));
+    };
+    guarded_of(alloc, theory, procs, scope, cond, body)
 }
 
 /// `nil` in memory of its own.
@@ -373,26 +319,6 @@ fn if_of(
     }
 }
 
-/// `(while COND PROG)`
-#[cycle(programs)]
-#[tactic(auto, using(crate::proofs::Progs::laws), unfolding(crate::specs::Constructs::while_of))]
-fn while_of(
-    alloc: Global,
-    theory: &Indexed<'_>,
-    procs: &Procedures,
-    scope: usize,
-    at: Place,
-    parts: &[Form],
-) -> Result<DraftProg, TheoryFault>
-    ensures { Answers result (while_of theory.now scope at (prog_parts theory.now procs.now parts.now)) }
-{
-    let [cond, body] = parts else {
-        return Err(unknown_form(at));
-    };
-    let Guarded { cond, body } = guarded_of(alloc, theory, procs, scope, cond, body)?;
-    Ok(DraftProg::While { cond, body, at })
-}
-
 /// `(search DEPTH FUEL PROG)`
 #[cycle(programs)]
 #[tactic(auto, using(crate::proofs::Progs::laws), unfolding(crate::specs::Constructs::search_of))]
@@ -433,10 +359,7 @@ fn interrupt_of(
 ) -> Result<DraftProg, TheoryFault>
     ensures { Answers result (interrupt_of theory.now scope at (prog_parts theory.now procs.now parts.now)) }
 {
-    let [cond, body] = parts else {
-        return Err(unknown_form(at));
-    };
-    let Guarded { cond, body } = guarded_of(alloc, theory, procs, scope, cond, body)?;
+    let Guarded { cond, body } = guard_of(alloc, theory, procs, scope, at, parts)?;
     Ok(interrupt(alloc, cond, body, at)?)
 }
 

@@ -40,7 +40,8 @@ use Rattle.golog_check.specs.DraftBlocks.{Blocks, blocks_step, blocks_of, block_
 use Rattle.golog_check.specs.Fronts.{draft_has_step, draft_has}
 use Rattle.golog_check.proofs.BlockLaws.{told-has}
 use Rattle.golog_check.proofs.Fores.{said-block}
-use Rattle.golog_refusals.specs.Says.{Layer, ProgSays, args_say, cond_says, parts_say, prog_says_layer, prog_says_step, prog_says}
+use Rattle.golog_tree.specs.Tidy.{Layer}
+use Rattle.golog_refusals.specs.Says.{ProgSays, args_say, cond_says, parts_say, prog_says_layer, prog_says_step, prog_says}
 use Rattle.golog_refusals.specs.SaysAgent.{AreSaid, proc_says}
 use Rattle.golog_refusals.proofs.ProgLevels.{two-level, level_fits, fits-level, fits-two}
 

@@ -18,7 +18,8 @@ use Rattle.golog_tree.specs.declared.join.Join.{Join}
 use Rattle.golog_tree.specs.declared.join.Join.TheVariants.{Seq as InSeq, Choice as InChoice, Conc as InConc, Prio as InPrio}
 use Rattle.golog_check.specs.Programs.{joined}
 use Rattle.golog_check.specs.ProgramLaws.{IsProgOf}
-use Rattle.golog_refusals.specs.Says.{Layer, is_nil, two_of}
+use Rattle.golog_tree.specs.Tidy.{Layer}
+use Rattle.golog_refusals.specs.Says.{is_nil, two_of}
 
 -- a reading, and what is made of its value
 pub then-gives : {A B : Type 0} (reading : Reading A) (make : A → B) (x : A) → reading.outcome ≡ Ok x

@@ -43,7 +43,8 @@ use Rattle.golog_check.specs.Programs.{InScope, nested, progs_in, parts_in, with
 use Rattle.golog_check.specs.ProgramLaws.{blocks_step, blocks_keep}
 use Rattle.golog_check.proofs.Readings.{both, ok-same}
 use Rattle.golog_check.proofs.ArgLaws.{same-number}
-use Rattle.golog_refusals.specs.Says.{Layer, ProgSays, args_say, cond_says, is_nil, parts_say, prog_says_layer, prog_says_step, prog_says}
+use Rattle.golog_tree.specs.Tidy.{Layer}
+use Rattle.golog_refusals.specs.Says.{ProgSays, args_say, cond_says, is_nil, parts_say, prog_says_layer, prog_says_step, prog_says}
 use Rattle.golog_refusals.proofs.ArgsSaid.{args-said}
 use Rattle.golog_refusals.proofs.CondsSaid.{cond-said}
 use Rattle.golog_check.proofs.Signatures.{declared-signature}

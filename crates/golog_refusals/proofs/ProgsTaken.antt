@@ -35,7 +35,8 @@ use Rattle.golog_check.specs.Conditions.{cond_in}
 use Rattle.golog_check.specs.Programs.{InScope, joined, nested, progs_in, parts_in, with_no, with_body, prog_step, prog_in}
 use Rattle.golog_check.specs.CheckLaws.{HasItems}
 use Rattle.golog_check.specs.ProgramLaws.{IsProgOf}
-use Rattle.golog_refusals.specs.Says.{Layer, ProgSays, args_say, cond_says, parts_say, prog_says_layer, prog_says_step, prog_says}
+use Rattle.golog_tree.specs.Tidy.{Layer}
+use Rattle.golog_refusals.specs.Says.{ProgSays, args_say, cond_says, parts_say, prog_says_layer, prog_says_step, prog_says}
 use Rattle.golog_refusals.proofs.ArgsSaid.{args-taken}
 use Rattle.golog_refusals.proofs.CondsTaken.{cond-taken}
 use Rattle.golog_refusals.proofs.Taking.{then-by}

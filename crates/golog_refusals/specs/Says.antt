@@ -9,9 +9,8 @@ use Rattle.golog_tree.specs.declared.cond.Cond.{Cond}
 use Rattle.golog_tree.specs.declared.cond.Cond.TheOpen as said
 use Rattle.golog_tree.specs.declared.cond.Cond.TheViews.{out-Term, out-Cond}
 use Rattle.golog_tree.specs.declared.prog.Prog.{Prog}
-use Rattle.golog_tree.specs.declared.prog.Way.{Way}
 use Rattle.golog_tree.specs.declared.prog.Prog.TheOpen as prog
-use Rattle.golog_tree.specs.declared.prog.Prog.TheOpen.{Prog-F}
+use Rattle.golog_tree.specs.Tidy.{Layer}
 use Rattle.golog_tree.specs.declared.prog.Prog.TheViews.{out-Prog}
 use Rattle.golog_tree.specs.declared.draft_cond.DraftArg.{DraftArg}
 use Rattle.golog_tree.specs.declared.draft_cond.DraftArg.TheVariants.{Word, Number}
@@ -110,10 +109,6 @@ module _ (names : Declared) where
 -- what a program says, in any scope
 abbrev pub ProgSays : Type 0
 ProgSays = Scope → Prog → Bool
-
--- one level of a program
-abbrev pub Layer : Type 0
-Layer = Prog-F Prog Way
 
 abbrev pub is_nil : Layer → Bool
 is_nil prog.Nil = true

@@ -4,7 +4,7 @@ use Rattle.serde_json.specs.Data.{Data, string, array, object, member, no_member
 use Rattle.serde_json.specs.View.{items_of}
 use Rattle.golog_semantics.specs.Text.{Text}
 use Rattle.golog_semantics.specs.Dealt.{Script}
-use Rattle.golog_script.specs.declared.lines.Lines.{Lines}
+use Rattle.golog_script.specs.declared.lists.ScriptLists.{ScriptLists}
 use Rattle.golog_script.specs.declared.scripts.Script.{Script as Named}
 
 -- an array of these strings
@@ -18,8 +18,8 @@ object_of script =
     (member (codes "idle") (array_of script.idle) no_members))
 
 -- the script of these two lists
-abbrev pub script_of_lines : Lines → Script
-script_of_lines lines = record { answers = lines.answers; idle = lines.idle }
+abbrev pub script_of_lists : ScriptLists → Script
+script_of_lists lists = record { answers = lists.answers; idle = lists.idle }
 
 -- the script without the name of its device
 abbrev pub script_of_named : Named → Script

@@ -4,7 +4,7 @@ ghost use Rattle.golog_device.specs.Devices.{idle_of, tells};
 ghost use Rattle.golog_device.specs.Kept.{item_of};
 ghost use Rattle.golog_device.specs.Logs.{SERVED_ROOM, is_over, kept_by, room_of, bytes_room};
 
-use crate::lines::{Lines, lines_of};
+use crate::lists::{ScriptLists, lists_of};
 use golog_base::{Bytes, NoMemory};
 use golog_device::{
     Begun, Device, Idle, SERVED_ROOM, Served, ServedTexts, Told, ToldItems, Twin, reversed_twins,
@@ -57,19 +57,19 @@ impl ScriptDevice {
             ≡ option_map following (script_spelled text.now)) }
         ensures begun { IfOk result (λ device. IfSome device (λ d. d.fresh ≡ false)) }
     {
-        match lines_of(alloc, text)? {
-            Some(lines) => Ok(Some(ScriptDevice::with_script(alloc, lines)?)),
+        match lists_of(alloc, text)? {
+            Some(script) => Ok(Some(ScriptDevice::with_script(alloc, script)?)),
             None => Ok(None),
         }
     }
 
     // A device that has begun with this script.
-    fn with_script(alloc: Global, script: Lines) -> Result<ScriptDevice, NoMemory>
+    fn with_script(alloc: Global, script: ScriptLists) -> Result<ScriptDevice, NoMemory>
         ensures meaning { IfOk result (λ device. meaning_of device
             ≡ following (record { answers = script.answers; idle = script.idle })) }
         ensures begun { IfOk result (λ device. device.fresh ≡ false) }
     {
-        let Lines { answers, idle } = script;
+        let ScriptLists { answers, idle } = script;
         let answers = reversed_twins(alloc, answers)?;
         let idle = reversed_twins(alloc, idle)?;
         let told = ToldItems::with_room(alloc, answers.len() + idle.len() + 1)?;

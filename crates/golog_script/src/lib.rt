@@ -3,7 +3,7 @@
 
 mod device;
 mod fault;
-mod lines;
+mod lists;
 mod scripts;
 mod strings;
 mod text;

@@ -1,6 +1,6 @@
 -- What a line was read as speaks of the agent's things, and a result of an earlier command.
 use Rattle.std.proofs.Common.{◌≡◌, ℕ, zero, suc, ◌+◌, ◌<◌, Bool, true, false, not, ◌&&◌, ◌||◌, ◌==◌, cond, Option, Some, None, List, [], ◌∷◌, ◌++◌, length, length-append, drop, refl, sym, ap, ◌∙◌, subst, arith}
-use Rattle.std.specs.Prelude.{nat_lt, slice_get, bytes_eq, option_map, filter_map, is_some}
+use Rattle.std.specs.Prelude.{nat_lt, slice_get, bytes_eq, option_map, option_and_then, filter_map, is_some}
 use Rattle.std.specs.List.{list_all, list_any, cons_option, enumerate_from}
 use Rattle.std.specs.Option.{option_map_or}
 use Rattle.std.proofs.lemmas.Bool.{lt-ltb, eq-eqb}
@@ -67,19 +67,20 @@ module _ (agent : Agent) where
   pub device-is : (name : Text) (device : ℕ) → device_named agent name ≡ Some device → is_device agent device ≡ true
   device-is name device e = lt-ltb device (length agent.devices) (position-within (λ n. bytes_eq n name) agent.devices device (sym e))
 
+  -- an action that is named passes the test
+  passes : (test : ℕ → Bool) (text : Text) (action : ℕ) → option_and_then (λ a. if_so (test a) (Some a)) (action_named agent text) ≡ Some action → test action ≡ true
+  passes test text action e =
+      let r = and-then (λ a. if_so (test a) (Some a)) (action_named agent text) action e in
+      let both = if-so (test r.0) (Some r.0) action r.2 in
+      ap test (sym (same_Some r.0 action both.1)) ∙ both.0
+
   pub own-is : (text : Text) (action : ℕ) → own_action agent text ≡ Some action → is_own agent action ≡ true
   unfolding own_action
-  own-is text action e =
-      let r = and-then (λ a. if_so (is_own agent a) (Some a)) (action_named agent text) action e in
-      let both = if-so (is_own agent r.0) (Some r.0) action r.2 in
-      ap (is_own agent) (sym (same_Some r.0 action both.1)) ∙ both.0
+  own-is text action e = passes (is_own agent) text action e
 
   pub posted-is : (text : Text) (action : ℕ) → posted_action agent text ≡ Some action → is_exogenous agent action ≡ true
   unfolding posted_action
-  posted-is text action e =
-      let r = and-then (λ a. if_so (is_exogenous agent a) (Some a)) (action_named agent text) action e in
-      let both = if-so (is_exogenous agent r.0) (Some r.0) action r.2 in
-      ap (is_exogenous agent) (sym (same_Some r.0 action both.1)) ∙ both.0
+  posted-is text action e = passes (is_exogenous agent) text action e
 
   -- labels
   label-is : (text : Text) (label : Label) → label_named agent text ≡ Some label → fits_label agent label ≡ true

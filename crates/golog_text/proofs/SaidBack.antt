@@ -5,14 +5,14 @@ use Rattle.std.specs.Option.{option_map_or}
 use Rattle.std.proofs.lemmas.List.{append_assoc}
 use Rattle.golog_base.specs.Names.{is_name}
 use Rattle.golog_semantics.specs.declared.journal.Reason.{Reason}
-use Rattle.golog_semantics.specs.declared.journal.Reason.TheVariants.{Ended, Bad, Full, Late, Stopped, Refused}
+use Rattle.golog_semantics.specs.declared.journal.Reason.TheVariants.{Ended}
 use Rattle.golog_semantics.specs.declared.journal.Answer.{Answer}
-use Rattle.golog_semantics.specs.declared.journal.Answer.TheVariants.{Done, Stuck, Unknown, Depth, Fuel, Unanswered, Full as AnswerFull, Deep, Memory}
+use Rattle.golog_semantics.specs.declared.journal.Answer.TheVariants.{Done}
 use Rattle.golog_semantics.specs.Text.{Text, reason_text, answer_text}
 use Rattle.golog_semantics.proofs.Words.{and-both, and-left, and-right}
-use Rattle.golog_text.specs.Forms.{is_natural, is_constant, is_action, is_run}
+use Rattle.golog_text.specs.Forms.{cut, is_natural, is_constant, is_action, is_run}
 use Rattle.golog_text.specs.Said.{Said, Body, SaysDo, SaysTest, SaysExo, SaysSense, SaysRest, SaysClose, SaysEnd, with_prefix, body_said, said_text, is_body, is_said, if_so, behind, run_in, device_in, do_in, exo_in, old_in, value_in, place_in, sense_in, rest_in, reason_in, reason_and_taken, close_in, end_in, test_in, with_word, body_in, said_in}
-use Rattle.golog_text.proofs.Marks.{Lacks, marked, cut-marked}
+use Rattle.golog_text.proofs.Marks.{marked, cut-marked}
 use Rattle.golog_text.proofs.WordBytes.{reason-lacks, name-lacks, natural-lacks, constant-lacks, action-lacks}
 
 -- a word and what stands behind the space after it
@@ -80,15 +80,20 @@ do-back action device run h k r =
     ∙ passed (is_action action && option_map_or is_name device true) (option_map (SaysDo action device) (run_in (run_behind run))) (and-both (is_action action) (option_map_or is_name device true) h k)
     ∙ ap (option_map (SaysDo action device)) (run-back run r)
 
-abbrev exo_at : Text × Option Text → Option Body
-exo_at (device, rest) = option_and_then (λ action. if_so (is_name device && is_action action) (Some (SaysExo device action))) rest
+-- a device, and a word of a form behind it
+abbrev pair_at : (Text → Text → Body) → (Text → Bool) → Text × Option Text → Option Body
+pair_at says form (device, rest) = option_and_then (λ word. if_so (is_name device && form word) (Some (says device word))) rest
+
+pair-back : (says : Text → Text → Body) (form : Text → Bool) (device word : Text) → is_name device ≡ true → form word ≡ true
+    → pair_at says form (cut 32 ((device ++ codes " ") ++ word)) ≡ Some (says device word)
+pair-back says form device word h k =
+    ap (λ t. pair_at says form (cut 32 t)) (two device word)
+    ∙ ap (pair_at says form) (cut-marked 32 device (Some word) (name-lacks 32 refl device h))
+    ∙ passed (is_name device && form word) (Some (says device word)) (and-both (is_name device) (form word) h k)
 
 exo-back : (device action : Text) → is_name device ≡ true → is_action action ≡ true → exo_in ((device ++ codes " ") ++ action) ≡ Some (SaysExo device action)
 unfolding exo_in
-exo-back device action h k =
-    ap exo_in (two device action)
-    ∙ ap exo_at (cut-marked 32 device (Some action) (name-lacks 32 refl device h))
-    ∙ passed (is_name device && is_action action) (Some (SaysExo device action)) (and-both (is_name device) (is_action action) h k)
+exo-back device action h k = pair-back SaysExo is_action device action h k
 
 abbrev value_at : Text → Text → Text × Option Text → Option Body
 value_at device place (value, rest) = if_so (is_constant value) (option_map (SaysSense device place value) (old_in rest))
@@ -120,15 +125,9 @@ sense-back device place value old h k m n =
     ∙ passed (is_natural place) (value_in device place rest) k
     ∙ value-back device place value old m n
 
-abbrev rest_at : Text × Option Text → Option Body
-rest_at (device, rest) = option_and_then (λ taken. if_so (is_name device && is_natural taken) (Some (SaysRest device taken))) rest
-
 rest-back : (device taken : Text) → is_name device ≡ true → is_natural taken ≡ true → rest_in ((device ++ codes " ") ++ taken) ≡ Some (SaysRest device taken)
 unfolding rest_in
-rest-back device taken h k =
-    ap rest_in (two device taken)
-    ∙ ap rest_at (cut-marked 32 device (Some taken) (name-lacks 32 refl device h))
-    ∙ passed (is_name device && is_natural taken) (Some (SaysRest device taken)) (and-both (is_name device) (is_natural taken) h k)
+rest-back device taken h k = pair-back SaysRest is_natural device taken h k
 
 abbrev reason_at : Text → Text × Option Text → Option Body
 reason_at device (word, rest) = option_and_then (λ reason. option_and_then (λ taken. if_so (is_natural taken) (Some (SaysClose device reason taken))) rest) (reason_in word)

@@ -94,23 +94,25 @@ do-only text body e =
           ∙ ap (λ t. action ++ t) (device-marked device m.0 ∙ ap (marked 32) (sym r.1)) ∙ cut-whole 32 text),
     )
 
+-- a device, and a word of a form behind it
+pair-only : (says : Text → Text → Body) (form : Text → Bool) (name : Text)
+    → ((device word : Text) → (is_body (says device word) ≡ (is_name device && form word)) × (body_said (says device word) ≡ name ++ ((device ++ codes " ") ++ word)))
+    → (text : Text) (body : Body) → option_and_then (λ word. if_so (is_name (cut 32 text).0 && form word) (Some (says (cut 32 text).0 word))) (cut 32 text).1 ≡ Some body
+    → Only (name ++ text) body
+pair-only says form name so text body e =
+    let device = (cut 32 text).0 in
+    let r = and-then (λ word. if_so (is_name device && form word) (Some (says device word))) (cut 32 text).1 body e in
+    let b = if-so (is_name device && form r.0) (Some (says device r.0)) body r.2 in
+    subst (Only (name ++ text)) (same_Some (says device r.0) body b.1)
+    ((so device r.0).0 ∙ b.0, (so device r.0).1 ∙ ap (λ t. name ++ t) (two device r.0 ∙ rest-is text r.0 r.1))
+
 exo-only : (text : Text) (body : Body) → exo_in text ≡ Some body → Only (codes "exo " ++ text) body
 unfolding exo_in
-exo-only text body e =
-    let device = (cut 32 text).0 in
-    let r = and-then (λ action. if_so (is_name device && is_action action) (Some (SaysExo device action))) (cut 32 text).1 body e in
-    let b = if-so (is_name device && is_action r.0) (Some (SaysExo device r.0)) body r.2 in
-    subst (Only (codes "exo " ++ text)) (same_Some (SaysExo device r.0) body b.1)
-    (b.0, ap (λ t. codes "exo " ++ t) (two device r.0 ∙ rest-is text r.0 r.1))
+exo-only text body e = pair-only SaysExo is_action (codes "exo ") (λ device action. (refl, refl)) text body e
 
 rest-only : (text : Text) (body : Body) → rest_in text ≡ Some body → Only (codes "rest " ++ text) body
 unfolding rest_in
-rest-only text body e =
-    let device = (cut 32 text).0 in
-    let r = and-then (λ taken. if_so (is_name device && is_natural taken) (Some (SaysRest device taken))) (cut 32 text).1 body e in
-    let b = if-so (is_name device && is_natural r.0) (Some (SaysRest device r.0)) body r.2 in
-    subst (Only (codes "rest " ++ text)) (same_Some (SaysRest device r.0) body b.1)
-    (b.0, ap (λ t. codes "rest " ++ t) (two device r.0 ∙ rest-is text r.0 r.1))
+rest-only text body e = pair-only SaysRest is_natural (codes "rest ") (λ device taken. (refl, refl)) text body e
 
 -- a value, and the one known before if there is one
 record IsValue (device place text : Text) (body : Body) : Type 0 where

@@ -1,6 +1,6 @@
 ghost use Rattle.std.specs.Prelude.{◌≡◌, ◌<◌, [], ◌++◌, IfOk, OnOk};
 ghost use Rattle.golog_semantics.specs.Progress.{values_after};
-ghost use Rattle.golog_semantics.specs.Reports.{IsReport};
+ghost use Rattle.golog_semantics.specs.Reports.{IsReport, entry_limit};
 ghost use Rattle.golog_semantics.specs.SortLaws.{AreInSorts};
 ghost use Rattle.golog_semantics.specs.Text.{report_text, run_at};
 ghost use Rattle.golog_semantics.specs.WellFormed.{WellFormed};
@@ -93,7 +93,7 @@ fn add_line(
 ) -> Result<(), NoMemory>
     requires formed { WellFormed agent.now }
     requires sorts { AreInSorts agent.now before.now }
-    requires place { place < 1048576 }
+    requires place { place < entry_limit }
     requires in_order { AreFrom place runs.now }
     requires runs { AreNamed agent.now runs.now }
     requires entry { IsNamed agent.now entry }

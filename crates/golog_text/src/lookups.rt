@@ -1,5 +1,5 @@
 // The things of an agent that words name.
-ghost use Rattle.std.specs.Prelude.{◌≡◌, ◌<◌, IfSome, bytes_eq, is_some, not, position};
+ghost use Rattle.std.specs.Prelude.{◌≡◌, ◌<◌, IfSome, is_some, not};
 ghost use Rattle.golog_tree.specs.Ground.{action_args, ground_count};
 ghost use Rattle.golog_semantics.specs.Reports.{is_own as spec_is_own, is_exogenous as spec_is_exogenous};
 ghost use Rattle.golog_semantics.specs.WellFormed.{WellFormed};
@@ -7,8 +7,7 @@ ghost use Rattle.golog_text.specs.Reads.{action_named, device_named, constant_na
 ghost use Rattle.golog_text.specs.Views.{lent};
 
 use crate::names::device_of;
-use golog_base::Word;
-use golog_ground::{read_action, read_constant};
+use golog_ground::{place_of_name, read_action, read_constant};
 use golog_tree::{Agent, action_of};
 
 // The ground action of this text.
@@ -18,13 +17,6 @@ fn action_named(agent: &Agent, text: &[u8]) -> Option<u32>
     ensures number { IfSome result (λ action. action < ground_count agent.now (action_args agent.now)) }
 {
     read_action(agent, text)
-}
-
-// The first place at which a name stands.
-fn place_of_name(names: &[Word], name: &[u8]) -> Option<usize>
-    ensures { result ≡ position (λ other. bytes_eq other name.now) names.now }
-{
-    names.iter().position(|other| other.as_bytes() == name)
 }
 
 // The device of this name.

@@ -7,7 +7,7 @@ ghost use Rattle.golog_text.specs.Said.{if_so};
 use golog_base::amount_within;
 
 /// The greatest number that a line may have.
-pub(crate) const GREATEST: u32 = 1_048_575;
+const GREATEST: u32 = 1_048_575;
 
 // The number that digits spell, where a line may have it.
 pub(crate) fn number_in(digits: &[u8]) -> Option<u32>
@@ -23,6 +23,6 @@ pub(crate) fn number_of(digits: &[u8]) -> u32
 {
     match number_in(digits) {
         Some(number) => number,
-        None => GREATEST,
+        None => unreachable!(),
     }
 }

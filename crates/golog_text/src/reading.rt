@@ -3,7 +3,7 @@ ghost use Rattle.std.specs.Prelude.{◌≡◌, ◌<◌, ◌≤◌, [], true, len
 ghost use Rattle.std.specs.Option.{option_map_or};
 ghost use Rattle.golog_tree.specs.Ground.{fluent_args, ground_count};
 ghost use Rattle.golog_rows.specs.Answers.{Leaves};
-ghost use Rattle.golog_semantics.specs.Reports.{IsReport};
+ghost use Rattle.golog_semantics.specs.Reports.{IsReport, entry_limit};
 ghost use Rattle.golog_semantics.specs.WellFormed.{WellFormed};
 ghost use Rattle.golog_text.specs.Answers.{Answers, IsFirstRow, code_at};
 ghost use Rattle.golog_text.specs.Reads.{constant_named, is_in_place, has_small, sensed_by_entry, sensed_at, value_named, result_in, line_named, line_said, line_of, with_line, journal_of};
@@ -46,7 +46,7 @@ fn has_small(body: &Body<'_>) -> bool
 fn is_in_place(place: usize, said: &Said<'_>) -> bool
     ensures place { result ≡ is_in_place place (said_of said.now) }
     ensures small { IsTrue result → IsTrue (has_small (said_of said.now).body) }
-    ensures within { IsTrue result → place < 1048576 }
+    ensures within { IsTrue result → place < entry_limit }
 {
     match number_in(said.number) {
         Some(number) => number as usize == place && has_small(&said.body),
@@ -158,9 +158,9 @@ fn line_said(
 ) -> Result<Line, TextFault>
     requires formed { WellFormed agent.now }
     requires facts { facts.now ≡ agent.now }
-    requires few { length before.now ≤ 1048576 }
+    requires few { length before.now ≤ entry_limit }
     ensures said { Answers result (line_said agent.now before.now (said_of said.entry)) }
-    ensures few { OnOk result (length before.now < 1048576) }
+    ensures few { OnOk result (length before.now < entry_limit) }
 {
     let line = before.len() as u32;
     if !is_in_place(before.len(), &said) {
@@ -192,9 +192,9 @@ fn line_of(
 ) -> Result<Line, TextFault>
     requires formed { WellFormed agent.now }
     requires facts { facts.now ≡ agent.now }
-    requires few { length before.now ≤ 1048576 }
+    requires few { length before.now ≤ entry_limit }
     ensures said { Answers result (line_of agent.now before.now text.now) }
-    ensures few { OnOk result (length before.now < 1048576) }
+    ensures few { OnOk result (length before.now < entry_limit) }
 {
     match said_in(text) {
         Some(said) => line_said(alloc, agent, facts, before, said),
@@ -207,7 +207,7 @@ fn line_of(
 
 // Adds a line to a report.
 fn add_line(report: &mut Report, line: Line) -> Result<(), NoMemory>
-    requires { length report.old.entries < 1048576 }
+    requires { length report.old.entries < entry_limit }
     ensures { OnOk result (report.new ≡ with_line report.old line) }
 {
     let place = report.entries.len() as u32;

@@ -1,7 +1,7 @@
 -- What holds of each element of a list, and that they differ, also with more elements put into its middle.
 use Rattle.std.proofs.Common.{◌≡◌, Bool, false, List, [], ◌∷◌, ◌++◌, ◌∙◌}
 use Rattle.std.specs.List.{list_any, AllByRecursion, IsDistinct}
-use Rattle.golog_theory.proofs.Kept.{or_left, or_right}
+use Rattle.golog_semantics.proofs.Tests.{neither_first, neither_second}
 
 module _ {X : Type 0} (P : X → Type 0) where
   pub all-append : (xs ys : List X) → AllByRecursion P xs → AllByRecursion P ys → AllByRecursion P (xs ++ ys)
@@ -23,7 +23,7 @@ module _ {X : Type 0} (same : X → X → Bool) where
 
   pub any-absent : (x : X) (xs : List X) → list_any (same x) xs ≡ false → Absent x xs
   any-absent x [] e = tt
-  any-absent x (y ∷ xs) e = (or_left (same x y) (list_any (same x) xs) e, any-absent x xs (or_right (same x y) (list_any (same x) xs) e))
+  any-absent x (y ∷ xs) e = (neither_first (same x y) (list_any (same x) xs) e, any-absent x xs (neither_second (same x y) (list_any (same x) xs) e))
 
   module _ (symm : (x y : X) → same x y ≡ same y x) where
     -- Elements that differ from each other and from those of a list may stand anywhere in it.

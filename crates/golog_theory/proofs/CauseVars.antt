@@ -9,7 +9,7 @@ use Rattle.golog_tree.specs.declared.draft_cond.DraftArg.{DraftArg}
 use Rattle.golog_tree.specs.declared.draft_cond.DraftArg.TheVariants.{Word, Number}
 use Rattle.golog_tree.specs.declared.draft_cond.DraftCond.{DraftCond}
 use Rattle.golog_theory.specs.declared.effects.Effect.{Effect}
-pub use Rattle.golog_theory.specs.Before.{sort_place}
+pub use Rattle.golog_draft.specs.DraftPlaces.{sort_place}
 use Rattle.golog_theory.specs.Names.{lists, is_constant}
 use Rattle.golog_theory.specs.Effects.{is_new_variable, variable_after, variables_after, variable_count, cause_of}
 use Rattle.golog_semantics.specs.BuiltIn.{same_text}

@@ -1,7 +1,7 @@
 -- A theory with one more item: what held of the items before still holds.
 use Rattle.std.proofs.Common.{◌≡◌, ℕ, ◌+◌, ◌<◌, ◌≤◌, zero, suc, Bool, true, false, not, ◌&&◌, ◌||◌, ◌==◌, List, [], ◌∷◌, ◌++◌, length, map, Option, Some, None, refl, sym, ap, subst, ◌∙◌, arith}
 use Rattle.std.proofs.lemmas.List.{length_push}
-use Rattle.std.specs.Prelude.{nat_le, nat_lt, slice_get, is_some}
+use Rattle.std.specs.Prelude.{nat_le, slice_get, is_some}
 use Rattle.std.specs.List.{list_all}
 use Rattle.std.specs.Option.{option_map_or}
 use Rattle.golog_tree.specs.declared.draft.DraftTheory.{DraftTheory}
@@ -16,13 +16,14 @@ use Rattle.golog_tree.specs.declared.draft.DraftStart.{DraftStart}
 use Rattle.golog_tree.specs.declared.draft.DraftStart.TheVariants.{Each, One}
 use Rattle.golog_tree.specs.declared.draft_cond.DraftArg.{DraftArg}
 use Rattle.golog_theory.specs.declared.fluents.FluentItem.{FluentItem}
-use Rattle.golog_theory.specs.Before.{sort_place}
+use Rattle.golog_draft.specs.DraftPlaces.{sort_place}
 use Rattle.golog_theory.specs.Items.{with_fluent}
 use Rattle.golog_semantics.specs.Ways.{is_empty}
 use Rattle.golog_draft.specs.Drafts.{signature, fluent_keeps, cond_keeps, is_constant_at, is_draft_sort, is_draft_device, draft_args_keep, draft_fluent_keeps, draft_action_keeps, draft_action_at, draft_poss_keeps, draft_sense_keeps, draft_start_keeps}
-use Rattle.golog_theory.proofs.Kept.{and_still, all_still}
+use Rattle.golog_semantics.proofs.Tests.{and_more}
+use Rattle.golog_theory.proofs.Kept.{all_still}
 use Rattle.golog_theory.proofs.CauseVars.{any-late}
-use Rattle.golog_theory.proofs.KeptStill.{DeclaresMore, cond-still}
+use Rattle.golog_theory.proofs.KeptStill.{DeclaresMore, cond-still, more}
 
 -- a list with more elements at its end: what an element by its number has, it still has
 pub record Begins {A : Type 0} (xs ys : List A) : Type 0 where
@@ -90,15 +91,12 @@ module _ (from : ℕ) (theory : DraftTheory) where
   grew-rest poss causes senses starts =
       grew-by (record theory { poss = poss; causes = causes; senses = senses; starts = starts }) refl (none-more theory.devices) (none-more theory.fluents) (none-more theory.actions)
 
-less : (n m k : ℕ) → m ≤ k → nat_lt n m ≡ true → nat_lt n k ≡ true
-less n m k le e = grind arith
-
 module _ (from : ℕ) (theory other : DraftTheory) (grew : Grew from theory other) where
   sort-still : (n : ℕ) → is_draft_sort theory n ≡ true → is_draft_sort other n ≡ true
-  sort-still n e = less n (length theory.sorts) (length other.sorts) grew.sorts.longer e
+  sort-still n e = more n (length theory.sorts) (length other.sorts) grew.sorts.longer e
 
   device-still : (n : ℕ) → is_draft_device theory n ≡ true → is_draft_device other n ≡ true
-  device-still n e = less n (length theory.devices) (length other.devices) grew.devices.longer e
+  device-still n e = more n (length theory.devices) (length other.devices) grew.devices.longer e
 
   fluent_at-still : (n : ℕ) (args : List DraftArg) → fluent_keeps (signature theory) n args ≡ true → fluent_keeps (signature other) n args ≡ true
   fluent_at-still n args e =
@@ -114,12 +112,12 @@ module _ (from : ℕ) (theory other : DraftTheory) (grew : Grew from theory othe
 
   args-still : (sorts : List ℕ) → draft_args_keep theory sorts ≡ true → draft_args_keep other sorts ≡ true
   args-still sorts =
-      and_still (nat_le (length sorts) 3) (nat_le (length sorts) 3) (list_all (is_draft_sort theory) sorts) (list_all (is_draft_sort other) sorts)
+      and_more (nat_le (length sorts) 3) (nat_le (length sorts) 3) (list_all (is_draft_sort theory) sorts) (list_all (is_draft_sort other) sorts)
       (λ e. e) (all_still (is_draft_sort theory) (is_draft_sort other) sorts sort-still)
 
   pub fluent-still : (item : DraftFluent) → draft_fluent_keeps theory item ≡ true → draft_fluent_keeps other item ≡ true
   fluent-still item =
-      and_still (draft_args_keep theory item.args) (draft_args_keep other item.args) (is_draft_sort theory item.sort) (is_draft_sort other item.sort)
+      and_more (draft_args_keep theory item.args) (draft_args_keep other item.args) (is_draft_sort theory item.sort) (is_draft_sort other item.sort)
       (args-still item.args) (sort-still item.sort)
 
   own_device-still : (device : Option ℕ) → option_map_or (is_draft_device theory) device true ≡ true → option_map_or (is_draft_device other) device true ≡ true
@@ -132,27 +130,27 @@ module _ (from : ℕ) (theory other : DraftTheory) (grew : Grew from theory othe
       let posters = list_all (is_draft_device theory) item.posters in let posters' = list_all (is_draft_device other) item.posters in
       let device = option_map_or (is_draft_device theory) item.device true in let device' = option_map_or (is_draft_device other) item.device true in
       let args = draft_args_keep theory item.args in let args' = draft_args_keep other item.args in
-      and_still (args && device && posters) (args' && device' && posters') last last
-      (and_still (args && device) (args' && device') posters posters'
-      (and_still args args' device device' (args-still item.args) (own_device-still item.device))
+      and_more (args && device && posters) (args' && device' && posters') last last
+      (and_more (args && device) (args' && device') posters posters'
+      (and_more args args' device device' (args-still item.args) (own_device-still item.device))
       (all_still (is_draft_device theory) (is_draft_device other) item.posters device-still)) (λ e. e)
 
   pub poss-still : (item : DraftPoss) → draft_poss_keeps theory item ≡ true → draft_poss_keeps other item ≡ true
   poss-still item =
       let at = draft_action_at theory item.action (length item.vars) (λ action. is_empty action.posters) in
       let at' = draft_action_at other item.action (length item.vars) (λ action. is_empty action.posters) in
-      and_still (at && nat_le 2 item.action) (at' && nat_le 2 item.action) (cond_keeps (signature theory) item.cond (length item.vars)) (cond_keeps (signature other) item.cond (length item.vars))
-      (and_still at at' (nat_le 2 item.action) (nat_le 2 item.action) (action_at-still item.action (length item.vars) (λ action. is_empty action.posters)) (λ e. e))
+      and_more (at && nat_le 2 item.action) (at' && nat_le 2 item.action) (cond_keeps (signature theory) item.cond (length item.vars)) (cond_keeps (signature other) item.cond (length item.vars))
+      (and_more at at' (nat_le 2 item.action) (nat_le 2 item.action) (action_at-still item.action (length item.vars) (λ action. is_empty action.posters)) (λ e. e))
       (cond-still theory other declares-more item.cond (length item.vars))
 
   pub sense-still : (item : DraftSense) → draft_sense_keeps theory item ≡ true → draft_sense_keeps other item ≡ true
   sense-still item =
-      and_still (draft_action_at theory item.action (length item.vars) (λ _. true)) (draft_action_at other item.action (length item.vars) (λ _. true))
+      and_more (draft_action_at theory item.action (length item.vars) (λ _. true)) (draft_action_at other item.action (length item.vars) (λ _. true))
       (fluent_keeps (signature theory) item.fluent item.args) (fluent_keeps (signature other) item.fluent item.args)
       (action_at-still item.action (length item.vars) (λ _. true)) (fluent_at-still item.fluent item.args)
 
   pub start-still : (item : DraftStart) → draft_start_keeps theory item ≡ true → draft_start_keeps other item ≡ true
-  start-still (Each fluent value at) e = less fluent (length theory.fluents) (length other.fluents) grew.fluents.longer e
+  start-still (Each fluent value at) e = more fluent (length theory.fluents) (length other.fluents) grew.fluents.longer e
   start-still (One fluent args value at) e = fluent_at-still fluent args e
 
 pub ruleset laws = (poss-still)

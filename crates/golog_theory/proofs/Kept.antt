@@ -1,5 +1,5 @@
 -- What a theory that was read keeps: what is built in, limits, and that sorts and devices are declared.
-use Rattle.std.proofs.Common.{◌≡◌, ℕ, ◌+◌, ◌<◌, Bool, true, false, not, ◌&&◌, ◌||◌, List, [], ◌∷◌, ◌++◌, length, refl, arith}
+use Rattle.std.proofs.Common.{◌≡◌, ℕ, ◌+◌, ◌<◌, Bool, true, false, not, ◌&&◌, List, [], ◌∷◌, ◌++◌, length, refl, arith}
 use Rattle.std.proofs.lemmas.List.Quantifiers.{position-Some}
 use Rattle.std.specs.Prelude.{nat_le, nat_lt, is_none, position}
 use Rattle.std.specs.List.{list_all}
@@ -19,15 +19,8 @@ use Rattle.golog_theory.specs.Parts.{word, parts, short_name, new_name, sort_of}
 use Rattle.golog_theory.specs.Fluents.{sorts_of}
 use Rattle.golog_theory.specs.Actions.{device_of}
 use Rattle.golog_draft.specs.Drafts.{is_draft_sort, is_draft_device, draft_args_keep}
+use Rattle.golog_semantics.proofs.Tests.{and_more}
 use Rattle.golog_theory.proofs.Yields.{Yields, gives-yields, row-yields, found-yields, each-yields}
-
-pub or_left : (a b : Bool) → (a || b) ≡ false → a ≡ false
-or_left true b e = e
-or_left false b e = refl
-
-pub or_right : (a b : Bool) → (a || b) ≡ false → b ≡ false
-or_right true b e = absurd cc
-or_right false b e = e
 
 pub not_true : (a : Bool) → not a ≡ false → a ≡ true
 not_true true e = refl
@@ -41,13 +34,9 @@ all_push p (y ∷ xs) x e h = push_on (p y) (list_all p xs) (list_all p (xs ++ x
     push_on true b c e h = h e
     push_on false b c e h = e
 
-pub and_still : (a b c d : Bool) → (a ≡ true → b ≡ true) → (c ≡ true → d ≡ true) → (a && c) ≡ true → (b && d) ≡ true
-and_still true b c d h k e = rw (h refl, k e) refl
-and_still false b c d h k e = absurd cc
-
 pub all_still : {X : Type 0} (p q : X → Bool) (xs : List X) → ((x : X) → p x ≡ true → q x ≡ true) → list_all p xs ≡ true → list_all q xs ≡ true
 all_still p q [] h e = refl
-all_still p q (x ∷ xs) h e = and_still (p x) (q x) (list_all p xs) (list_all q xs) (h x) (all_still p q xs h) e
+all_still p q (x ∷ xs) h e = and_more (p x) (q x) (list_all p xs) (list_all q xs) (h x) (all_still p q xs h) e
 
 -- a name that may be declared
 pub record IsNew (theory : DraftTheory) (name : List ℕ) : Type 0 where

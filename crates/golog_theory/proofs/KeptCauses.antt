@@ -23,7 +23,7 @@ use Rattle.golog_theory.specs.declared.effects.Effect.{Effect}
 use Rattle.golog_theory.specs.Reading.{gives, refused, each}
 use Rattle.golog_theory.specs.Names.{same, action_no, action_arity, fluent_no, fluent_arity}
 use Rattle.golog_theory.specs.Parts.{word, short_name, number_of, arg_of}
-use Rattle.golog_theory.specs.Heads.{head_word, arguments, args_of, called, fluent_called, action_called}
+use Rattle.golog_theory.specs.Heads.{head_word, arguments, args_of, fluent_named, action_named, fluent_called, action_called}
 use Rattle.golog_theory.specs.Terms.{term_of}
 use Rattle.golog_theory.specs.Conditions.{cond_of}
 use Rattle.golog_theory.specs.Effects.{variable_count, effect_of, cause_of, causes_item}
@@ -34,7 +34,7 @@ use Rattle.golog_theory.proofs.Inside.{end_of, Between, stands, between-to, argu
 use Rattle.golog_theory.proofs.Tables.{between-le}
 use Rattle.golog_theory.proofs.Amid.{all-append, all-weaker}
 use Rattle.golog_theory.proofs.CauseVars.{arg_place, AreFrom, AreBefore, SortsUpTo, count-read, vars-still}
-use Rattle.golog_theory.proofs.Kept.{and_still}
+use Rattle.golog_semantics.proofs.Tests.{and_more}
 use Rattle.golog_theory.proofs.KeptTerms as terms
 use Rattle.golog_theory.proofs.KeptConds as conds
 use Rattle.golog_theory.proofs.KeptEffects.{some_action, action_at-from}
@@ -87,24 +87,20 @@ module _ (from to : ℕ) where
       within : AreWithin from to c.args
 
     fluent_called-fits : (f : Form) → IsInOrder f → from ≤ place_of f → end_of f ≤ to → Yields FluentFits (fluent_called theory f)
-    unfolding fluent_called
+    unfolding fluent_called fluent_named
     fluent_called-fits f order le le' =
-        then-yields _ _ (called f (fluent_arity theory) (fluent_no theory (head_word f))).outcome _ (terms.called-yields f (fluent_arity theory) (fluent_no theory (head_word f))) (λ n is.
-        then-yields _ _ (args_of (arguments f)).outcome _ (args_of-fits f order le le') (λ args both.
-        gives-yields FluentFits (record { item = n; args = args }) (record {
+        terms.call-yields f (fluent_arity theory) (fluent_no theory (head_word f)) (args_of (arguments f)) (ArgsFit f) FluentFits (args_of-fits f order le le') (λ n args is both. record {
           keeps = terms.fluent_keeps-from theory n args ((position-Some (λ (item : DraftFluent). same (head_word f) item.name) theory.fluents n terms.some_fluent is.declared).0) (both.0 ∙ is.count);
           within = both.1;
-        })))
+        })
 
     action_called-fits : (f : Form) → IsInOrder f → from ≤ place_of f → end_of f ≤ to → Yields ActionFits (action_called theory f)
-    unfolding action_called
+    unfolding action_called action_named
     action_called-fits f order le le' =
-        then-yields _ _ (called f (action_arity theory) (action_no theory (head_word f))).outcome _ (terms.called-yields f (action_arity theory) (action_no theory (head_word f))) (λ n is.
-        then-yields _ _ (args_of (arguments f)).outcome _ (args_of-fits f order le le') (λ args both.
-        gives-yields ActionFits (record { item = n; args = args }) (record {
+        terms.call-yields f (action_arity theory) (action_no theory (head_word f)) (args_of (arguments f)) (ArgsFit f) ActionFits (args_of-fits f order le le') (λ n args is both. record {
           keeps = action_at-from theory n (length args) (λ _. true) ((position-Some (λ (action : DraftAction). same (head_word f) action.name) theory.actions n some_action is.declared).0) (both.0 ∙ is.count) refl;
           within = both.1;
-        })))
+        })
 
     record EffectFits (effect : Effect) : Type 0 where
       action : ActionFits effect.action
@@ -190,9 +186,9 @@ module _ (from to : ℕ) (le : from ≤ to) (theory other : DraftTheory) (grew :
       let cond = cond_keeps (signature theory) item.cond (length (cause_vars theory item)) in
       let cond' = cond_keeps (signature other) item.cond (length (cause_vars other item)) in
       record {
-        keeps = and_still (action && fluent && term) (action' && fluent' && term') cond cond'
-            (and_still (action && fluent) (action' && fluent') term term'
-            (and_still action action' fluent fluent' (action_at-still from theory other grew item.action (length item.action_args) (λ _. true)) (more.fluents item.fluent item.fluent_args))
+        keeps = and_more (action && fluent && term) (action' && fluent' && term') cond cond'
+            (and_more (action && fluent) (action' && fluent') term term'
+            (and_more action action' fluent fluent' (action_at-still from theory other grew item.action (length item.action_args) (λ _. true)) (more.fluents item.fluent item.fluent_args))
             (term-still theory other more item.term))
             (λ e. subst (λ n. cond_keeps (signature other) item.cond n ≡ true) vars (cond-still theory other more item.cond (length (cause_vars theory item)) e))
             fits.keeps;

@@ -1,11 +1,11 @@
 -- What the items on actions and start values keep.
-use Rattle.std.proofs.Common.{◌≡◌, ℕ, ◌+◌, ◌<◌, ◌≤◌, zero, suc, Bool, true, false, not, ◌&&◌, ◌||◌, ◌==◌, IsTrue, List, [], ◌∷◌, ◌++◌, length, map, Option, Some, None, Result, Ok, Err, refl, sym, ap, subst, ◌∙◌, arith}
-use Rattle.std.proofs.lemmas.Option.{slice_get-map, slice_get-get_or}
+use Rattle.std.proofs.Common.{◌≡◌, ℕ, ◌+◌, ◌<◌, Bool, true, false, not, ◌&&◌, ◌||◌, ◌==◌, List, [], ◌∷◌, ◌++◌, length, Option, Some, None, refl, sym, ap, subst, ◌∙◌, arith}
+use Rattle.std.proofs.lemmas.Option.{slice_get-get_or}
 use Rattle.std.proofs.lemmas.List.Quantifiers.{position-Some}
 use Rattle.std.proofs.lemmas.Map.Keys.{IsDistinct-push}
 use Rattle.std.proofs.lemmas.Cmp.{nat_list_eq_equiv}
-use Rattle.std.specs.Prelude.{if◌then◌else◌, codes, nat_le, nat_lt, nat_eq, slice_get, get_or}
-use Rattle.std.specs.List.{list_all, list_any, IsDistinct}
+use Rattle.std.specs.Prelude.{if◌then◌else◌, nat_lt, slice_get, get_or}
+use Rattle.std.specs.List.{list_any, IsDistinct}
 use Rattle.std.specs.Option.{option_map_or}
 use Rattle.golog_base.specs.Names.{is_name}
 use Rattle.golog_form.specs.declared.form.Form.{Form}
@@ -21,18 +21,15 @@ use Rattle.golog_theory.specs.declared.names.Actions.{Actions}
 use Rattle.golog_theory.specs.declared.names.Actions.TheVariants as actions
 use Rattle.golog_theory.specs.declared.heads.Called.{Called}
 use Rattle.golog_theory.specs.declared.heads.Schema.{Schema}
-use Rattle.golog_theory.specs.Reading.{Row, Reading, gives, refused, row, ◌>>=◌, found, each}
-use Rattle.golog_theory.specs.Names.{same, action_no, action_arity, action_args, allows, is_posted, is_of_program, is_constant}
+use Rattle.golog_theory.specs.Reading.{Reading, gives, refused, row, found, each}
+use Rattle.golog_theory.specs.Names.{same, action_no, action_arity, action_args, allows, is_constant}
 use Rattle.golog_theory.specs.Parts.{word, short_name}
-use Rattle.golog_theory.specs.Heads.{head_word, arguments, called, allowed, action_called, var_of, schema_of, fluent_called, args_of}
-use Rattle.golog_theory.specs.Conditions.{cond_of}
-use Rattle.golog_theory.specs.Effects.{has_poss, has_poss_at, is_restricted, poss_item, senses_item}
-use Rattle.golog_draft.specs.Drafts.{signature, fluent_keeps, cond_keeps, draft_action_at, draft_poss_keeps, draft_sense_keeps}
-use Rattle.golog_semantics.specs.Ways.{is_empty}
+use Rattle.golog_theory.specs.Heads.{head_word, arguments, called, allowed, allowed_action, var_of, schema_of, fluent_called}
+use Rattle.golog_theory.specs.Effects.{senses_item}
+use Rattle.golog_draft.specs.Drafts.{draft_action_at, draft_sense_keeps}
 use Rattle.golog_semantics.specs.BuiltIn.{same_text}
-use Rattle.golog_theory.proofs.Yields.{Yields, On, gives-yields, refused-yields, row-yields, found-yields, if-yields, then-yields, each-yields}
-use Rattle.golog_theory.proofs.KeptTerms.{IsCalled, called-yields, args_of-yields, fluent_called-yields}
-use Rattle.golog_theory.proofs.KeptConds.{Keeps, cond_of-yields}
+use Rattle.golog_theory.proofs.Yields.{Yields, gives-yields, refused-yields, row-yields, then-yields, each-yields}
+use Rattle.golog_theory.proofs.KeptTerms.{called-yields, fluent_called-yields, equals}
 
 abbrev pub some_action : DraftAction
 some_action = record { name = []; args = []; device = None; posters = []; at = 0 }
@@ -57,10 +54,6 @@ is_allowed-from theory which (Some m) n e = chosen (allows theory which m) refl 
         from (Some x) = x
     chosen false is e = absurd cc
 
-or_false : (a b : Bool) → (a || b) ≡ false → b ≡ false
-or_false true b e = absurd cc
-or_false false b e = e
-
 var_of-yields : (theory : DraftTheory) (before : List (List ℕ)) (f : Form) → IsDistinct same_text before
     → Yields (λ name. IsDistinct same_text (before ++ name ∷ [])) (var_of theory before f)
 unfolding var_of short_name
@@ -71,9 +64,9 @@ var_of-yields theory before f distinct =
     gives-yields (λ name. IsDistinct same_text (before ++ name ∷ [])) (word f) (IsDistinct-push nat_list_eq_equiv before (word f) distinct new))))
 
 pub schema_of-yields : (theory : DraftTheory) (which : Actions) (f : Form) → Yields (SchemaFits theory which f) (schema_of theory which f)
-unfolding schema_of IsDistinct
+unfolding schema_of allowed_action IsDistinct
 schema_of-yields theory which f =
-    then-yields _ _ (called f (action_arity theory) (allowed theory which (action_no theory (head_word f)))).outcome _
+    then-yields _ _ (called f (allowed_action theory which (head_word f))).outcome _
     (called-yields f (action_arity theory) (allowed theory which (action_no theory (head_word f)))) (λ n is.
     then-yields (λ vars. IsDistinct same_text vars × (length vars ≡ 0 + length (arguments f))) _ (each (var_of theory) [] (arguments f)).outcome _
     (each-yields (IsDistinct same_text) (var_of theory) (λ before part held. var_of-yields theory before part held) [] (arguments f) tt) (λ vars all.
@@ -97,9 +90,6 @@ action_at-from theory n count holds lt same is =
     let counts : count ≡ length (get_or theory.actions n some_action).args = same ∙ ap action_args here in
     ap (λ o. option_map_or (λ (item : DraftAction). (length item.args == count) && holds item) o false) here
     ∙ rw (equals (length (get_or theory.actions n some_action).args) count (sym counts), is) refl
-  where
-    equals : (a b : ℕ) → a ≡ b → (a == b) ≡ true
-    equals a b h = grind arith
 
 pub record SenseFits (theory : DraftTheory) (item : DraftSense) : Type 0 where
   pub keeps : draft_sense_keeps theory item ≡ true

@@ -1,5 +1,5 @@
 -- No action has two preconditions.
-use Rattle.std.proofs.Common.{◌≡◌, ℕ, Bool, true, false, ◌||◌, ◌&&◌, ◌==◌, Option, length, List, [], ◌∷◌, ◌++◌, map, refl, sym, ap, ◌∙◌, arith}
+use Rattle.std.proofs.Common.{◌≡◌, ℕ, Bool, true, false, ◌&&◌, ◌==◌, Option, length, List, [], ◌∷◌, ◌++◌, map, refl, arith}
 use Rattle.std.specs.Prelude.{nat_eq, nat_lt}
 use Rattle.std.specs.Cmp.Lexicographic.{pointwise}
 use Rattle.std.specs.List.{list_any, list_all, AllByRecursion, IsDistinct}
@@ -8,11 +8,11 @@ use Rattle.golog_tree.specs.declared.draft.DraftTheory.{DraftTheory}
 use Rattle.golog_tree.specs.declared.draft.DraftStart.{DraftStart}
 use Rattle.golog_tree.specs.declared.draft.DraftStart.TheVariants.{Each, One}
 use Rattle.golog_tree.specs.declared.draft_cond.DraftArg.{DraftArg}
-use Rattle.golog_tree.specs.declared.draft_cond.DraftArg.TheVariants.{Word, Number}
 use Rattle.golog_theory.specs.Effects.{has_poss}
 use Rattle.golog_theory.specs.Fluents as fluents
 use Rattle.golog_draft.specs.Drafts as drafts
-use Rattle.golog_theory.proofs.Kept.{or_left, or_right}
+use Rattle.golog_semantics.proofs.Words.{and-left, and-right}
+use Rattle.golog_semantics.proofs.Tests.{neither_first, neither_second}
 
 all_push : {X : Type 0} (f : X → ℕ) (P : ℕ → Type 0) (xs : List X) (x : X) → AllByRecursion P (map f xs) → P (f x) → AllByRecursion P (map f (xs ++ x ∷ []))
 all_push f P [] x a p = (p, tt)
@@ -23,8 +23,8 @@ pub once-push : (items : List DraftPoss) (item : DraftPoss) → has_poss items i
 unfolding IsDistinct
 once-push [] item new d = (tt, tt)
 once-push (first ∷ items) item new d = (
-  all_push (λ (item : DraftPoss). item.action) (λ y. nat_eq first.action y ≡ false) items item d.0 (or_left (nat_eq first.action item.action) (has_poss items item.action) new),
-  once-push items item (or_right (nat_eq first.action item.action) (has_poss items item.action) new) d.1,
+  all_push (λ (item : DraftPoss). item.action) (λ y. nat_eq first.action y ≡ false) items item d.0 (neither_first (nat_eq first.action item.action) (has_poss items item.action) new),
+  once-push items item (neither_second (nat_eq first.action item.action) (has_poss items item.action) new) d.1,
 )
 
 all_more : {X : Type 0} (P : X → Type 0) (xs : List X) (x : X) → AllByRecursion P xs → P x → AllByRecursion P (xs ++ x ∷ [])
@@ -36,18 +36,6 @@ unfolding IsDistinct
 distinct-push e [] x new d = (tt, tt)
 distinct-push e (y ∷ xs) x new d = (all_more (λ z. e y z ≡ false) xs x d.0 new.0, distinct-push e xs x new.1 d.1)
 
-same_arg-is : (a b : DraftArg) → fluents.same_arg a b ≡ drafts.same_arg a b
-same_arg-is (Word one at) (Word other at') = refl
-same_arg-is (Number one at) (Number other at') = refl
-same_arg-is (Word one at) (Number other at') = refl
-same_arg-is (Number one at) (Word other at') = refl
-
-same_args-is : (ones others : List DraftArg) → fluents.same_args ones others ≡ pointwise drafts.same_arg ones others
-same_args-is [] [] = refl
-same_args-is (a ∷ ones) (b ∷ others) = ap (λ v. v && fluents.same_args ones others) (same_arg-is a b) ∙ ap (λ v. drafts.same_arg a b && v) (same_args-is ones others)
-same_args-is [] (b ∷ others) = refl
-same_args-is (a ∷ ones) [] = refl
-
 -- no start value before is the same
 abbrev pub Fresh : DraftStart → List DraftStart → Type 0
 Fresh start items = AllByRecursion (λ item. drafts.same_start item start ≡ false) items
@@ -57,29 +45,21 @@ pub fresh-one : (items : List DraftStart) (fluent : ℕ) (args : List DraftArg) 
 fresh-one [] fluent args value at e = tt
 fresh-one (Each own value' at' ∷ items) fluent args value at e = (refl, fresh-one items fluent args value at e)
 fresh-one (One own constants value' at' ∷ items) fluent args value at e = (
-  ap (λ v. nat_eq own fluent && v) (sym (same_args-is constants args)) ∙ or_left (nat_eq own fluent && fluents.same_args constants args) (list_any (fluents.starts fluent args) items) e,
-  fresh-one items fluent args value at (or_right (nat_eq own fluent && fluents.same_args constants args) (list_any (fluents.starts fluent args) items) e),
+  neither_first (nat_eq own fluent && pointwise drafts.same_arg constants args) (list_any (fluents.starts fluent args) items) e,
+  fresh-one items fluent args value at (neither_second (nat_eq own fluent && pointwise drafts.same_arg constants args) (list_any (fluents.starts fluent args) items) e),
 )
 
 other_number : (m n : ℕ) → nat_lt m n ≡ true → (m == n) ≡ false
 other_number m n e = grind arith
 
-head_true : (a b : Bool) → (a && b) ≡ true → a ≡ true
-head_true true b e = refl
-head_true false b e = absurd cc
-
-tail_true : (a b : Bool) → (a && b) ≡ true → b ≡ true
-tail_true true b e = e
-tail_true false b e = absurd cc
-
 pub fresh-each : (theory : DraftTheory) (items : List DraftStart) (value : Option DraftArg) (at : ℕ)
     → list_all (drafts.draft_start_keeps theory) items ≡ true → Fresh (Each (length theory.fluents) value at) items
 fresh-each theory [] value at e = tt
 fresh-each theory (Each own value' at' ∷ items) value at e = (
-  other_number own (length theory.fluents) (head_true (nat_lt own (length theory.fluents)) (list_all (drafts.draft_start_keeps theory) items) e),
-  fresh-each theory items value at (tail_true (nat_lt own (length theory.fluents)) (list_all (drafts.draft_start_keeps theory) items) e),
+  other_number own (length theory.fluents) (and-left (nat_lt own (length theory.fluents)) (list_all (drafts.draft_start_keeps theory) items) e),
+  fresh-each theory items value at (and-right (nat_lt own (length theory.fluents)) (list_all (drafts.draft_start_keeps theory) items) e),
 )
 fresh-each theory (One own constants value' at' ∷ items) value at e =
-    (refl, fresh-each theory items value at (tail_true (drafts.draft_start_keeps theory (One own constants value' at')) (list_all (drafts.draft_start_keeps theory) items) e))
+    (refl, fresh-each theory items value at (and-right (drafts.draft_start_keeps theory (One own constants value' at')) (list_all (drafts.draft_start_keeps theory) items) e))
 
 pub ruleset laws = (once-push, fresh-one, fresh-each)

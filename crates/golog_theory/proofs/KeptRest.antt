@@ -1,34 +1,34 @@
 -- What a precondition and a start value keep.
-use Rattle.std.proofs.Common.{◌≡◌, ℕ, ◌+◌, ◌<◌, ◌≤◌, zero, suc, Bool, true, false, not, ◌&&◌, ◌||◌, ◌==◌, List, [], ◌∷◌, ◌++◌, length, map, Option, Some, None, Result, Ok, Err, refl, sym, ap, subst, ◌∙◌, arith}
+use Rattle.std.proofs.Common.{◌≡◌, ℕ, ◌+◌, ◌<◌, suc, true, false, not, List, [], ◌∷◌, length, Ok, refl, sym, ap, ◌∙◌, arith}
 use Rattle.std.proofs.lemmas.Option.{slice_get-get_or}
 use Rattle.std.proofs.lemmas.List.Quantifiers.{position-Some}
-use Rattle.std.specs.Prelude.{nat_le, nat_lt, nat_eq, slice_get, get_or, codes}
-use Rattle.std.specs.List.{list_all, list_any, IsDistinct}
+use Rattle.std.specs.Prelude.{nat_le, nat_lt, slice_get, get_or}
+use Rattle.std.specs.List.{IsDistinct}
 use Rattle.golog_form.specs.declared.form.Form.{Form}
 use Rattle.golog_tree.specs.declared.draft.DraftTheory.{DraftTheory}
 use Rattle.golog_tree.specs.declared.draft.DraftFluent.{DraftFluent}
 use Rattle.golog_tree.specs.declared.draft.DraftAction.{DraftAction}
 use Rattle.golog_tree.specs.declared.draft.DraftPoss.{DraftPoss}
 use Rattle.golog_tree.specs.declared.draft.DraftStart.{DraftStart}
-use Rattle.golog_tree.specs.declared.draft.DraftStart.TheVariants.{Each, One}
+use Rattle.golog_tree.specs.declared.draft.DraftStart.TheVariants.{One}
 use Rattle.golog_tree.specs.declared.draft_cond.DraftCond.{DraftCond}
 use Rattle.golog_tree.specs.declared.draft_cond.DraftArg.{DraftArg}
 use Rattle.golog_theory.specs.declared.names.Actions.TheVariants as actions
 use Rattle.golog_theory.specs.declared.heads.Called.{Called}
 use Rattle.golog_theory.specs.declared.heads.Schema.{Schema}
-use Rattle.golog_theory.specs.Reading.{Row, Reading, gives, refused, row, ◌>>=◌, found, each}
+use Rattle.golog_theory.specs.Reading.{Reading, gives, refused, row, each}
 use Rattle.golog_theory.specs.Names.{same, action_no, fluent_no, fluent_arity, is_posted, is_of_program}
-use Rattle.golog_theory.specs.Heads.{head_word, arguments, called, allowed, schema_of}
+use Rattle.golog_theory.specs.Heads.{head_word, arguments, fluent_named, schema_of}
 use Rattle.golog_theory.specs.Fluents.{constant_arg, constants_of, ground_of, start_value, is_started, is_started_again, start_item}
 use Rattle.golog_theory.specs.Conditions.{cond_of}
 use Rattle.golog_theory.specs.Effects.{has_poss, has_poss_at, is_restricted, poss_item}
-use Rattle.golog_draft.specs.Drafts.{signature, fluent_keeps, cond_keeps, draft_action_at, draft_poss_keeps, draft_start_keeps}
+use Rattle.golog_draft.specs.Drafts.{signature, fluent_keeps, draft_poss_keeps, draft_start_keeps}
 use Rattle.golog_semantics.specs.Ways.{is_empty}
 use Rattle.golog_semantics.specs.BuiltIn.{same_text}
-use Rattle.golog_theory.proofs.Yields.{Yields, On, gives-yields, refused-yields, row-yields, then-yields, each-yields}
-use Rattle.golog_theory.proofs.Kept.{not_true}
+use Rattle.golog_semantics.proofs.Words.{and-left, and-right}
+use Rattle.golog_theory.proofs.Yields.{Yields, gives-yields, refused-yields, row-yields, then-yields, each-yields}
 use Rattle.golog_theory.proofs.KeptOnce.{Fresh, fresh-one}
-use Rattle.golog_theory.proofs.KeptTerms.{IsCalled, called-yields, fluent_keeps-from}
+use Rattle.golog_theory.proofs.KeptTerms.{some_fluent, call-yields, fluent_keeps-from}
 use Rattle.golog_theory.proofs.KeptConds.{Keeps, cond_of-yields}
 use Rattle.golog_theory.proofs.KeptEffects.{some_action, SchemaFits, schema_of-yields, action_at-from}
 
@@ -37,14 +37,6 @@ pub record PossFits (theory : DraftTheory) (item : DraftPoss) : Type 0 where
   pub keeps : draft_poss_keeps theory item ≡ true
   pub first : has_poss theory.poss item.action ≡ false
   pub once : IsDistinct same_text item.vars
-
-and_one : (a b : Bool) → (a && b) ≡ true → a ≡ true
-and_one true b e = refl
-and_one false b e = absurd cc
-
-and_two : (a b : Bool) → (a && b) ≡ true → b ≡ true
-and_two true b e = e
-and_two false b e = absurd cc
 
 unposted : (posters : List ℕ) → not (nat_lt 0 (length posters)) ≡ true → is_empty posters ≡ true
 unposted [] e = refl
@@ -62,8 +54,8 @@ poss-keeps : (theory : DraftTheory) (f : Form) (s : Schema) (c : DraftCond) (at 
     → draft_poss_keeps theory (record { action = s.action; vars = s.vars; cond = c; at = at }) ≡ true
 unfolding is_of_program
 poss-keeps theory f s c at fits k =
-    let own = and_one (nat_le 2 s.action) (not (is_posted (slice_get theory.actions s.action))) fits.is_allowed in
-    let free = and_two (nat_le 2 s.action) (not (is_posted (slice_get theory.actions s.action))) fits.is_allowed in
+    let own = and-left (nat_le 2 s.action) (not (is_posted (slice_get theory.actions s.action))) fits.is_allowed in
+    let free = and-right (nat_le 2 s.action) (not (is_posted (slice_get theory.actions s.action))) fits.is_allowed in
     rw (action_at-from theory s.action (length s.vars) (λ action. is_empty action.posters) fits.declared fits.count (free_action theory s.action fits.declared free), own, k) refl
 
 pub poss_item-yields : (theory : DraftTheory) (at : ℕ) (fs : List Form) → Yields (PossFits theory) (poss_item theory at fs)
@@ -81,18 +73,14 @@ poss_item-yields theory at (schema ∷ cond ∷ []) =
     }))))
 poss_item-yields theory at (schema ∷ cond ∷ other ∷ fs) = refused-yields (PossFits theory) 20 at
 
-some_fluent : DraftFluent
-some_fluent = record { name = []; args = []; sort = 0; at = 0 }
-
 ground_of-yields : (theory : DraftTheory) (f : Form) → Yields (λ (c : Called). fluent_keeps (signature theory) c.item c.args ≡ true) (ground_of theory f)
-unfolding ground_of constants_of
+unfolding ground_of fluent_named constants_of
 ground_of-yields theory f =
-    then-yields _ _ (called f (fluent_arity theory) (fluent_no theory (head_word f))).outcome _ (called-yields f (fluent_arity theory) (fluent_no theory (head_word f))) (λ n is.
-    then-yields (λ args. Unit {0} × (length args ≡ 0 + length (arguments f))) _ (each (λ (_ : List DraftArg). constant_arg theory) [] (arguments f)).outcome _
-    (each-yields (λ _. Unit {0}) (λ (_ : List DraftArg). constant_arg theory) (λ before part held x e. tt) [] (arguments f) tt) (λ args all.
-    gives-yields (λ (c : Called). fluent_keeps (signature theory) c.item c.args ≡ true) (record { item = n; args = args })
-    (fluent_keeps-from theory n args ((position-Some (λ (fluent : DraftFluent). same (head_word f) fluent.name) theory.fluents n some_fluent is.declared).0)
-    (all.1 ∙ adds (length (arguments f)) ∙ is.count))))
+    call-yields f (fluent_arity theory) (fluent_no theory (head_word f)) (each (λ (_ : List DraftArg). constant_arg theory) [] (arguments f))
+    (λ args. Unit {0} × (length args ≡ 0 + length (arguments f))) (λ (c : Called). fluent_keeps (signature theory) c.item c.args ≡ true)
+    (each-yields (λ _. Unit {0}) (λ (_ : List DraftArg). constant_arg theory) (λ before part held x e. tt) [] (arguments f) tt) (λ n args is all.
+    fluent_keeps-from theory n args ((position-Some (λ (fluent : DraftFluent). same (head_word f) fluent.name) theory.fluents n some_fluent is.declared).0)
+    (all.1 ∙ adds (length (arguments f)) ∙ is.count))
   where
     adds : (n : ℕ) → 0 + n ≡ n
     adds n = omega arith

@@ -8,13 +8,14 @@ use Rattle.golog_form.specs.Shape.{place_of}
 use Rattle.golog_tree.specs.declared.draft.DraftTheory.{DraftTheory}
 use Rattle.golog_tree.specs.declared.draft.DraftSort.{DraftSort}
 use Rattle.golog_tree.specs.declared.draft.DraftSort.TheVariants.{Range, Listed}
-use Rattle.golog_theory.specs.Before.{sort_place}
+use Rattle.golog_draft.specs.DraftPlaces.{sort_place}
 use Rattle.golog_theory.specs.Reading.{each}
 use Rattle.golog_theory.specs.Parts.{word, new_name, number_of}
 use Rattle.golog_theory.specs.Sorts.{bound, is_above, is_too_wide, range_of, constant_of, listed_of, range_by, sort_by, sort_item}
 use Rattle.golog_draft.specs.Drafts.{draft_sort_names, draft_sort_keeps}
 use Rattle.golog_theory.proofs.Yields.{Yields, gives-yields, refused-yields, row-yields, found-yields, if-yields, then-yields, each-yields}
-use Rattle.golog_theory.proofs.Kept.{or_left, or_right, not_true, new_name-yields}
+use Rattle.golog_semantics.proofs.Tests.{neither_first, neither_second}
+use Rattle.golog_theory.proofs.Kept.{not_true, new_name-yields}
 use Rattle.golog_theory.proofs.NewNames.{AreNew, one-new, AreBefore, constant_of-new}
 
 pub record SortFits (theory : DraftTheory) (at : ℕ) (item : DraftSort) : Type 0 where
@@ -52,8 +53,8 @@ module _ (theory : DraftTheory) (at : ℕ) where
       then-yields _ _ (number_of low).outcome _ (number_of-yields low) (λ low' e.
       then-yields _ _ (number_of high).outcome _ (number_of-yields high) (λ high' e'.
       gives-yields Fits (Range name' low' high' at) (record {
-        keeps = range-keeps (bound low) (bound high) low' high' name' at e e' (or_right (nat_le 64 (length theory.sorts)) (is_too_wide (bound low) (bound high)) few) above;
-        few = is_less (length theory.sorts) (or_left (nat_le 64 (length theory.sorts)) (is_too_wide (bound low) (bound high)) few);
+        keeps = range-keeps (bound low) (bound high) low' high' name' at e e' (neither_second (nat_le 64 (length theory.sorts)) (is_too_wide (bound low) (bound high)) few) above;
+        few = is_less (length theory.sorts) (neither_first (nat_le 64 (length theory.sorts)) (is_too_wide (bound low) (bound high)) few);
         new = one-new theory name' named;
         placed = refl;
       }))))))
@@ -67,8 +68,8 @@ module _ (theory : DraftTheory) (at : ℕ) where
       (each-yields (AreBefore theory own) (constant_of theory own) (λ before part held. constant_of-new theory own before part held) [] (first ∷ others)
       (record { each_is = tt; differ = (tt, tt) })) (λ names all.
       gives-yields Fits (Listed own names at) (record {
-        keeps = counts (length names) (length others) (omega (arith, all.1)) (or_right (nat_le 64 (length theory.sorts)) (nat_lt 255 (length (first ∷ others))) few);
-        few = is_less (length theory.sorts) (or_left (nat_le 64 (length theory.sorts)) (nat_lt 255 (length (first ∷ others))) few);
+        keeps = counts (length names) (length others) (omega (arith, all.1)) (neither_second (nat_le 64 (length theory.sorts)) (nat_lt 255 (length (first ∷ others))) few);
+        few = is_less (length theory.sorts) (neither_first (nat_le 64 (length theory.sorts)) (nat_lt 255 (length (first ∷ others))) few);
         new = record { each_is = (named, all.0.each_is); differ = all.0.differ };
         placed = refl;
       }))))

@@ -19,14 +19,14 @@ use Rattle.golog_draft.specs.Drafts.{signature, fluent_keeps, term_keeps, binder
 use Rattle.golog_semantics.specs.Written.{is_amount}
 use Rattle.golog_theory.proofs.KeptTerms as terms
 use Rattle.golog_theory.proofs.KeptConds as conds
-use Rattle.golog_theory.proofs.Kept.{and_still}
+use Rattle.golog_semantics.proofs.Tests.{and_more}
 
 -- the other declares as much
 pub record DeclaresMore (theory other : DraftTheory) : Type 0 where
   pub sorts : length theory.sorts ≤ length other.sorts
   pub fluents : (n : ℕ) (args : List DraftArg) → fluent_keeps (signature theory) n args ≡ true → fluent_keeps (signature other) n args ≡ true
 
-more : (n m k : ℕ) → m ≤ k → nat_lt n m ≡ true → nat_lt n k ≡ true
+pub more : (n m k : ℕ) → m ≤ k → nat_lt n m ≡ true → nat_lt n k ≡ true
 more n m k le e = grind arith
 
 module _ (theory other : DraftTheory) (grows : DeclaresMore theory other) where
@@ -44,7 +44,7 @@ module _ (theory other : DraftTheory) (grows : DeclaresMore theory other) where
   term_layer (Shift r by at) =
       subst TermStill (sym (term.rolls-Shift r.0 by at))
       (λ e. terms.keeps-Shift other r.0 by at
-      ∙ and_still (term_keeps (signature theory) r.0) (term_keeps (signature other) r.0) (is_amount by) (is_amount by) r.1 (λ h. h) (sym (terms.keeps-Shift theory r.0 by at) ∙ e))
+      ∙ and_more (term_keeps (signature theory) r.0) (term_keeps (signature other) r.0) (is_amount by) (is_amount by) r.1 (λ h. h) (sym (terms.keeps-Shift theory r.0 by at) ∙ e))
 
   pub term-still : (t : DraftTerm) → TermStill t
   term-still = ind-DraftTerm TermStill (λ x y is. subst (λ z. TermStill (roll-DraftTerm z)) is (term_layer y))
@@ -62,21 +62,21 @@ module _ (theory other : DraftTheory) (grows : DeclaresMore theory other) where
       → list_all (λ c. cond_keeps (signature other) c scope) (conds_of rs) ≡ true
   all_conds [] scope e = refl
   all_conds (r ∷ rs) scope e =
-      and_still (cond_keeps (signature theory) r.0 scope) (cond_keeps (signature other) r.0 scope)
+      and_more (cond_keeps (signature theory) r.0 scope) (cond_keeps (signature other) r.0 scope)
       (list_all (λ c. cond_keeps (signature theory) c scope) (conds_of rs)) (list_all (λ c. cond_keeps (signature other) c scope) (conds_of rs))
       (r.1 scope) (all_conds rs scope) e
 
   sides-still : (one other' : DraftTerm) → (term_keeps (signature theory) one && term_keeps (signature theory) other') ≡ true
       → (term_keeps (signature other) one && term_keeps (signature other) other') ≡ true
   sides-still one other' =
-      and_still (term_keeps (signature theory) one) (term_keeps (signature other) one) (term_keeps (signature theory) other') (term_keeps (signature other) other')
+      and_more (term_keeps (signature theory) one) (term_keeps (signature other) one) (term_keeps (signature theory) other') (term_keeps (signature other) other')
       (term-still one) (term-still other')
 
   bound-still : (scope sort : ℕ) (r : KnownCond) → (binder_keeps (signature theory) scope sort && cond_keeps (signature theory) r.0 (scope + 1)) ≡ true
       → (binder_keeps (signature other) scope sort && cond_keeps (signature other) r.0 (scope + 1)) ≡ true
   bound-still scope sort r =
-      and_still (binder_keeps (signature theory) scope sort) (binder_keeps (signature other) scope sort) (cond_keeps (signature theory) r.0 (scope + 1)) (cond_keeps (signature other) r.0 (scope + 1))
-      (and_still (nat_lt scope 32) (nat_lt scope 32) (nat_lt sort (length theory.sorts)) (nat_lt sort (length other.sorts)) (λ h. h) (more sort (length theory.sorts) (length other.sorts) grows.sorts))
+      and_more (binder_keeps (signature theory) scope sort) (binder_keeps (signature other) scope sort) (cond_keeps (signature theory) r.0 (scope + 1)) (cond_keeps (signature other) r.0 (scope + 1))
+      (and_more (nat_lt scope 32) (nat_lt scope 32) (nat_lt sort (length theory.sorts)) (nat_lt sort (length other.sorts)) (λ h. h) (more sort (length theory.sorts) (length other.sorts) grows.sorts))
       (r.1 (scope + 1))
 
   cond_layer : (y : DraftCond-F KnownCond) → CondStill (roll-DraftCond (map-DraftCond KnownCond DraftCond (λ r. r.0) y))

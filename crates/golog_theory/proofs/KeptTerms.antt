@@ -21,38 +21,51 @@ use Rattle.golog_theory.specs.declared.heads.Called.{Called}
 use Rattle.golog_theory.specs.declared.conditions.Sides.{Sides}
 use Rattle.golog_theory.specs.declared.conditions.Binder.{Binder}
 use Rattle.golog_theory.specs.declared.conditions.Bound.{Bound}
-use Rattle.golog_theory.specs.Reading.{Reading, gives, refused, row, ◌>>=◌, found, each}
+use Rattle.golog_theory.specs.Reading.{Reading, gives, refused, ◌>>=◌, each}
 use Rattle.golog_theory.specs.Names.{same, fluent_no, fluent_arity, fluent_args}
 use Rattle.golog_base.specs.Numbers.{is_number, has_sign, amount, value}
 use Rattle.golog_theory.specs.Parts.{word, parts, arg_of}
-use Rattle.golog_theory.specs.Heads.{head_word, head_place, arguments, args_of, has_others, called, fluent_called}
+use Rattle.golog_theory.specs.Heads.{head_word, head_place, arguments, args_of, with_arity, fluent_named, declared_with, called, fluent_called}
 use Rattle.golog_theory.specs.Terms.{step_of, plus_of, minus_of, fluent_term, atom_term, term_list, term_by, term_of, term_part}
 use Rattle.golog_draft.specs.Drafts.{signature, fluent_keeps, term_keeps_step, term_keeps}
 use Rattle.golog_semantics.specs.Written.{is_amount}
 use Rattle.golog_theory.proofs.Inside.{Each, by_parts}
 use Rattle.golog_theory.proofs.Descent.{term_of-parts}
 use Rattle.golog_theory.proofs.Yields.{Yields, gives-yields, refused-yields, row-yields, found-yields, if-yields, then-yields, each-yields}
-use Rattle.golog_theory.proofs.Kept.{or_right}
+use Rattle.golog_semantics.proofs.Tests.{neither_second}
 
 -- what is called is declared, with as many arguments
 pub record IsCalled (f : Form) (arity : ℕ → ℕ) (item : Option ℕ) (n : ℕ) : Type 0 where
   pub declared : item ≡ Some n
   pub count : length (arguments f) ≡ arity n
 
-counted : (count : ℕ) (arity : ℕ → ℕ) (item : Option ℕ) (n : ℕ) → item ≡ Some n → has_others count arity item ≡ false → count ≡ arity n
-counted count arity item n e same =
-    let here : not (count == arity n) ≡ false = sym (ap (has_others count arity) e) ∙ same in
-    is_same count (arity n) here
-  where
-    is_same : (a b : ℕ) → not (a == b) ≡ false → a ≡ b
-    is_same a b h = grind arith
+pub same-count : (a b : ℕ) → not (a == b) ≡ false → a ≡ b
+same-count a b h = grind arith
 
-pub called-yields : (f : Form) (arity : ℕ → ℕ) (item : Option ℕ) → Yields (IsCalled f arity item) (called f arity item)
+pub equals : (a b : ℕ) → a ≡ b → (a == b) ≡ true
+equals a b h = grind arith
+
+declared_with-yields : (f : Form) (arity : ℕ → ℕ) (item : Option ℕ)
+    → Yields (IsCalled f arity item) (declared_with (place_of f) (head_place f) (length (arguments f)) (with_arity arity item))
+unfolding declared_with
+declared_with-yields f arity None = refused-yields (IsCalled f arity None) 23 (head_place f)
+declared_with-yields f arity (Some item) =
+    row-yields (IsCalled f arity (Some item)) (not (length (arguments f) == arity item)) (24, place_of f) _ (λ same.
+    gives-yields (IsCalled f arity (Some item)) item (record { declared = refl; count = same-count (length (arguments f)) (arity item) same }))
+
+pub called-yields : (f : Form) (arity : ℕ → ℕ) (item : Option ℕ) → Yields (IsCalled f arity item) (called f (with_arity arity item))
+unfolding called
 called-yields f arity item =
-    if-yields (IsCalled f arity item) (is_name (head_word f)) (row (has_others (length (arguments f)) arity item) 24 (place_of f) (found 23 (head_place f) item)) (refused 20 (place_of f))
-    (λ named. row-yields (IsCalled f arity item) (has_others (length (arguments f)) arity item) (24, place_of f) (found 23 (head_place f) item).outcome (λ same.
-    found-yields (IsCalled f arity item) 23 (head_place f) item (λ n e. record { declared = e; count = counted (length (arguments f)) arity item n e same })))
-    (λ named. refused-yields (IsCalled f arity item) 20 (place_of f))
+    if-yields (IsCalled f arity item) (is_name (head_word f)) (declared_with (place_of f) (head_place f) (length (arguments f)) (with_arity arity item)) (refused 20 (place_of f))
+    (λ _. declared_with-yields f arity item) (λ _. refused-yields (IsCalled f arity item) 20 (place_of f))
+
+-- what is called, and the arguments that are read behind it
+pub call-yields : (f : Form) (arity : ℕ → ℕ) (item : Option ℕ) (args : Reading (List DraftArg)) (Fit : List DraftArg → Type 0) (Fits : Called → Type 0) → Yields Fit args
+    → ((n : ℕ) (xs : List DraftArg) → IsCalled f arity item n → Fit xs → Fits (record { item = n; args = xs }))
+    → Yields Fits (called f (with_arity arity item) >>= λ n. args >>= λ xs. gives (record { item = n; args = xs }))
+call-yields f arity item args Fit Fits fit fits =
+    then-yields _ _ (called f (with_arity arity item)).outcome _ (called-yields f arity item) (λ n is.
+    then-yields _ _ args.outcome _ fit (λ xs held. gives-yields Fits (record { item = n; args = xs }) (fits n xs is held)))
 
 pub args_of-yields : (fs : List Form) → Yields (λ args. length args ≡ length fs) (args_of fs)
 unfolding args_of
@@ -75,16 +88,12 @@ fluent_keeps-from theory n args lt count =
     option_map' None = None
     option_map' (Some item) = Some (length item.args)
 
-    equals : (a b : ℕ) → a ≡ b → (a == b) ≡ true
-    equals a b h = grind arith
-
 pub fluent_called-yields : (theory : DraftTheory) (f : Form) → Yields (λ (c : Called). fluent_keeps (signature theory) c.item c.args ≡ true) (fluent_called theory f)
-unfolding fluent_called
+unfolding fluent_called fluent_named
 fluent_called-yields theory f =
-    then-yields _ _ (called f (fluent_arity theory) (fluent_no theory (head_word f))).outcome _ (called-yields f (fluent_arity theory) (fluent_no theory (head_word f))) (λ n is.
-    then-yields _ _ (args_of (arguments f)).outcome _ (args_of-yields (arguments f)) (λ args count.
-    gives-yields (λ (c : Called). fluent_keeps (signature theory) c.item c.args ≡ true) (record { item = n; args = args })
-    (fluent_keeps-from theory n args ((position-Some (λ (fluent : DraftFluent). same (head_word f) fluent.name) theory.fluents n some_fluent is.declared).0) (count ∙ is.count))))
+    call-yields f (fluent_arity theory) (fluent_no theory (head_word f)) (args_of (arguments f)) (λ args. length args ≡ length (arguments f))
+    (λ (c : Called). fluent_keeps (signature theory) c.item c.args ≡ true) (args_of-yields (arguments f)) (λ n args is count.
+    fluent_keeps-from theory n args ((position-Some (λ (fluent : DraftFluent). same (head_word f) fluent.name) theory.fluents n some_fluent is.declared).0) (count ∙ is.count))
 
 -- the number of a `+` or `-`
 neg-amount : (n : ℕ) → nat_lt n 2147483648 ≡ true → is_amount (neg_ℤ (pos n)) ≡ true
@@ -112,7 +121,7 @@ step_of-yields : (f : Form) → Yields IsStep (step_of f)
 unfolding step_of
 step_of-yields f =
     row-yields _ (not (is_number (word f)) || has_sign (word f)) (20, place_of f) _ (λ is.
-    found-yields _ 26 (place_of f) (value (word f)) (λ by e. is_step (word f) by (or_right (not (is_number (word f))) (has_sign (word f)) is) e))
+    found-yields _ 26 (place_of f) (value (word f)) (λ by e. is_step (word f) by (neither_second (not (is_number (word f))) (has_sign (word f)) is) e))
 
 module _ (theory : DraftTheory) where
   abbrev pub keeps : DraftTerm → Bool

@@ -27,12 +27,11 @@ use Rattle.golog_theory.specs.Heads.{head_word, arguments}
 use Rattle.golog_theory.specs.Sorts.{sort_item}
 use Rattle.golog_theory.specs.Fluents.{fluent_item, start_item}
 use Rattle.golog_theory.specs.Actions.{device_item, action_item, exo_item}
-use Rattle.golog_theory.specs.Before.{sort_place}
 use Rattle.golog_theory.specs.Effects.{poss_item, causes_item, senses_item}
 use Rattle.golog_theory.specs.Keywords.{item_keyword}
-use Rattle.golog_theory.specs.Items.{built_in_cause, built_in, with_fluent, sort_read, device_read, fluent_read, start_read, action_read, exo_read, poss_read, causes_read, senses_read, read_as, read_by, item_read, items_read, theory_of}
+use Rattle.golog_theory.specs.Items.{built_in, with_fluent, fluent_read, read_as, read_by, item_read, items_read, theory_of}
 use Rattle.golog_semantics.specs.BuiltIn.{same_text}
-use Rattle.golog_draft.specs.DraftPlaces.{cond_places, value_places, start_places, poss_places, cause_places, sense_places}
+use Rattle.golog_draft.specs.DraftPlaces.{sort_place, cond_places, value_places, start_places, poss_places, cause_places, sense_places}
 use Rattle.golog_draft.specs.DraftOrder.{Ascend, IsAscending, AreAscending}
 use Rattle.golog_draft.specs.Drafts.{draft_bool, draft_running, draft_own_action, draft_sets_running, draft_sort_keeps, draft_fluent_keeps, draft_action_keeps, draft_poss_keeps, draft_sense_keeps, draft_start_keeps, theory_names, same_start}
 use Rattle.golog_theory.proofs.Yields.{Yields, gives-yields, refused-yields, row-yields, both-yields, then-yields}
@@ -297,7 +296,7 @@ module _ (from at to : ℕ) (le : from ≤ at) (lt : at < to) (theory : DraftThe
   unchanged = beside theory (grew-rest from theory theory.poss theory.causes theory.senses theory.starts)
 
   read_as-kept : (own : ItemKeyword) (fs : List Form) → Between (at + 1) fs to → Yields (Kept to) (read_as theory at own fs)
-  unfolding read_as sort_read device_read fluent_read start_read action_read exo_read poss_read causes_read senses_read
+  unfolding read_as fluent_read
   read_as-kept keyword.Sort fs b =
       then-yields _ _ (sort_item theory at fs).outcome _ (sort_item-yields theory at fs) (λ item fits. gives-yields (Kept to) _ (with-sort item fits))
   read_as-kept keyword.Device fs b =
@@ -337,9 +336,9 @@ items_read-kept from theory kept (f ∷ fs) to b =
     (λ next kept'. items_read-kept (end_of f) next kept' fs to b.2)
 
 -- what is built in stands at place 0
-cause-ascend : (action : ℕ) (value : List ℕ) → IsAscending (cause_places (built_in_cause action value))
+cause-ascend : (action : ℕ) (value : List ℕ) → IsAscending (cause_places (draft_sets_running action value))
 cause-ascend action value =
-    is_ascending 0 (cause_places (built_in_cause action value)) 1
+    is_ascending 0 (cause_places (draft_sets_running action value)) 1
     (subst (λ places. Ascend 0 (places ++ cond_places (Truth true 0)) 1) (sym (places-Arg (Word value 0)))
     (subst (λ places. Ascend 0 (0 ∷ places) 1) (sym (places-Truth true 0)) (omega arith, omega arith)))
 

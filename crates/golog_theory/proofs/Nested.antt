@@ -46,6 +46,15 @@ pub last-spans : {A B : Type 0} (from : ℕ) (f : Form) (to : ℕ) (reading : Re
     → Covers f reading → Spans from to (reading >>= λ x. gives (made x))
 last-spans from f to reading made b c = gives-spans from to reading made (within from to f reading b.0 b.2 c)
 
+-- parts of a form that are read within some variables, one after another
+pub parts-read : {A : Type 0} (read : Form → ℕ → Reading A) (scope from : ℕ) (fs : List Form) (to : ℕ) → Between from fs to
+    → Each (λ f. IsInOrder f → (n : ℕ) → Covers f (read f n)) fs
+    → Parts (ReadsFrom (λ (_ : List A) (part : Part (ℕ → Reading A)). part.spelled scope)) from (map (λ (f : Form). record { form = f; spelled = read f }) fs) to
+parts-read read scope from [] to b e = b
+parts-read read scope from (f ∷ fs) to b e =
+    let size = (stands f b.1).size in
+    (place_of f, end_of f, b.0, omega (arith, size), (λ before. e.0 b.1 scope), parts-read read scope (end_of f) fs to b.2 e.1)
+
 -- a refusal of the form itself
 pub refused-covers : (A : Type 0) (from to code : ℕ) → from < to → 0 < code → code < 64 → Spans from to (refused {A = A} code from)
 refused-covers A from to code size some small = (omega arith, some, small, omega arith)
@@ -153,18 +162,11 @@ module _ (theory : DraftTheory) where
   not_of-spans scope at (f ∷ other ∷ fs) from to lt b e =
       refused-covers DraftCond at to 20 (omega (arith, between-le from (f ∷ other ∷ fs) to b)) (omega arith) (omega arith)
 
-  conds_parts : (scope from : ℕ) (fs : List Form) (to : ℕ) → Between from fs to → Each CondCovers fs
-      → Parts (ReadsFrom (λ (_ : List DraftCond) (part : Part InScope). part.spelled scope)) from (as_parts fs) to
-  conds_parts scope from [] to b e = b
-  conds_parts scope from (f ∷ fs) to b e =
-      let size = (stands f b.1).size in
-      (place_of f, end_of f, b.0, omega (arith, size), (λ before. e.0 b.1 scope), conds_parts scope (end_of f) fs to b.2 e.1)
-
   conds_of-spans : (scope at : ℕ) (fs : List Form) (from to : ℕ) → at < from → Between from fs to → Each CondCovers fs → Spans at to (conds_of scope (as_parts fs))
   unfolding conds_of
   conds_of-spans scope at fs from to lt b e =
       each-spans (λ (_ : List DraftCond) (part : Part InScope). part.spelled scope) [] (as_parts fs) at to
-      (conds_parts scope at fs to (between-from at from fs to (omega arith) b) e)
+      (parts-read (cond_of theory) scope at fs to (between-from at from fs to (omega arith) b) e)
 
   binder_by-spans : (at : ℕ) (fs : List Form) (to : ℕ) → at < to → Between (at + 1) fs to → Spans at to (binder_by theory at fs)
   binder_by-spans at [] to lt b = refused-covers Binder at to 20 lt (omega arith) (omega arith)

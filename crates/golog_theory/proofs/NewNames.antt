@@ -2,7 +2,7 @@
 use Rattle.std.proofs.Common.{◌≡◌, ℕ, ◌+◌, suc, Bool, true, false, not, ◌||◌, List, [], ◌∷◌, ◌++◌, length, map, Some, None, refl, sym, ◌∙◌, arith}
 use Rattle.std.proofs.lemmas.Map.Keys.{IsDistinct-push}
 use Rattle.std.proofs.lemmas.Cmp.{nat_list_eq_equiv}
-use Rattle.std.specs.Prelude.{cond, codes, nat_lt, is_some, position}
+use Rattle.std.specs.Prelude.{cond, nat_lt, is_some, position}
 use Rattle.std.specs.List.{list_any, flat_map, AllByRecursion, IsDistinct, position_or_len}
 use Rattle.golog_base.specs.Names.{is_name}
 use Rattle.golog_form.specs.declared.form.Form.{Form}
@@ -13,13 +13,14 @@ use Rattle.golog_tree.specs.declared.draft.DraftSort.TheVariants.{Range, Listed}
 use Rattle.golog_tree.specs.declared.draft.DraftFluent.{DraftFluent}
 use Rattle.golog_tree.specs.declared.draft.DraftAction.{DraftAction}
 use Rattle.golog_tree.specs.declared.draft.DraftDevice.{DraftDevice}
-use Rattle.golog_theory.specs.Names.{same, is_reserved, is_taken, is_constant, lists, sort_name, sort_no, device_no, fluent_no, action_no}
+use Rattle.golog_theory.specs.Names.{same, built_in_names, is_reserved, is_taken, is_constant, lists, sort_name, sort_no, device_no, fluent_no, action_no}
 use Rattle.golog_theory.specs.Parts.{word, short_name}
 use Rattle.golog_theory.specs.Sorts.{is_taken_beside, constant_of}
 use Rattle.golog_semantics.specs.BuiltIn.{is_keyword, same_text}
 use Rattle.golog_draft.specs.Drafts.{draft_sort_names, theory_names}
 use Rattle.golog_theory.proofs.Yields.{Yields, gives-yields, row-yields}
-use Rattle.golog_theory.proofs.Kept.{IsNew, or_left, or_right, not_true}
+use Rattle.golog_semantics.proofs.Tests.{neither_first, neither_second}
+use Rattle.golog_theory.proofs.Kept.{IsNew, not_true}
 use Rattle.golog_theory.proofs.Amid.{all-append, Absent, any-absent}
 
 -- what is found nowhere
@@ -43,7 +44,7 @@ not_found p xs e = past-any p xs (is_past (nat_lt (position_or_len p xs) (length
 
 any-map : {X : Type 0} (f : X → List ℕ) (name : List ℕ) (xs : List X) → list_any (λ x. same name (f x)) xs ≡ false → Absent same_text name (map f xs)
 any-map f name [] e = tt
-any-map f name (x ∷ xs) e = (or_left (same name (f x)) (list_any (λ x. same name (f x)) xs) e, any-map f name xs (or_right (same name (f x)) (list_any (λ x. same name (f x)) xs) e))
+any-map f name (x ∷ xs) e = (neither_first (same name (f x)) (list_any (λ x. same name (f x)) xs) e, any-map f name xs (neither_second (same name (f x)) (list_any (λ x. same name (f x)) xs) e))
 
 not_named : {X : Type 0} (f : X → List ℕ) (name : List ℕ) (xs : List X) → is_some (position (λ x. same name (f x)) xs) ≡ false → Absent same_text name (map f xs)
 not_named f name xs e = any-map f name xs (not_found (λ x. same name (f x)) xs e)
@@ -53,14 +54,14 @@ not_sort : (name : List ℕ) (sorts : List DraftSort) → list_any (λ sort. sam
 not_sort name [] e c = tt
 not_sort name (Range own low high at ∷ sorts) e c =
     let others = list_any (λ sort. same name (sort_name sort)) sorts in
-    (or_left (same name own) others e, not_sort name sorts (or_right (same name own) others e) c)
+    (neither_first (same name own) others e, not_sort name sorts (neither_second (same name own) others e) c)
 not_sort name (Listed own constants at ∷ sorts) e c =
     let others = list_any (λ sort. same name (sort_name sort)) sorts in
     let listed = list_any (same name) constants in
     let more = list_any (lists name) sorts in (
-      or_left (same name own) others e,
-      all-append (λ other. same name other ≡ false) constants (flat_map draft_sort_names sorts) (any-absent same_text name constants (or_left listed more c))
-          (not_sort name sorts (or_right (same name own) others e) (or_right listed more c)),
+      neither_first (same name own) others e,
+      all-append (λ other. same name other ≡ false) constants (flat_map draft_sort_names sorts) (any-absent same_text name constants (neither_first listed more c))
+          (not_sort name sorts (neither_second (same name own) others e) (neither_second listed more c)),
     )
 
 -- A name that may be declared is none of the names so far.
@@ -73,10 +74,10 @@ new-absent theory name e =
     let device = is_some (device_no theory name) in
     let fluent = is_some (fluent_no theory name) in
     let action = is_some (action_no theory name) in
-    let to_fluent = or_left (reserved || sort || constant || device || fluent) action e in
-    let to_device = or_left (reserved || sort || constant || device) fluent to_fluent in
-    let to_constant = or_left (reserved || sort || constant) device to_device in
-    let to_sort = or_left (reserved || sort) constant to_constant in
+    let to_fluent = neither_first (reserved || sort || constant || device || fluent) action e in
+    let to_device = neither_first (reserved || sort || constant || device) fluent to_fluent in
+    let to_constant = neither_first (reserved || sort || constant) device to_device in
+    let to_sort = neither_first (reserved || sort) constant to_constant in
     let P = λ (other : List ℕ). same_text name other ≡ false in
     let sorts = flat_map draft_sort_names theory.sorts in
     let devices = map (λ (item : DraftDevice). item.name) theory.devices in
@@ -85,35 +86,18 @@ new-absent theory name e =
     all-append P (sorts ++ devices ++ fluents) actions
     (all-append P (sorts ++ devices) fluents
     (all-append P sorts devices
-    (not_sort name theory.sorts (not_found (λ sort. same name (sort_name sort)) theory.sorts (or_right reserved sort to_sort)) (or_right (reserved || sort) constant to_constant))
-    (not_named (λ (item : DraftDevice). item.name) name theory.devices (or_right (reserved || sort || constant) device to_device)))
-    (not_named (λ (item : DraftFluent). item.name) name theory.fluents (or_right (reserved || sort || constant || device) fluent to_fluent)))
-    (not_named (λ (item : DraftAction). item.name) name theory.actions (or_right (reserved || sort || constant || device || fluent) action e))
+    (not_sort name theory.sorts (not_found (λ sort. same name (sort_name sort)) theory.sorts (neither_second reserved sort to_sort)) (neither_second (reserved || sort) constant to_constant))
+    (not_named (λ (item : DraftDevice). item.name) name theory.devices (neither_second (reserved || sort || constant) device to_device)))
+    (not_named (λ (item : DraftFluent). item.name) name theory.fluents (neither_second (reserved || sort || constant || device) fluent to_fluent)))
+    (not_named (λ (item : DraftAction). item.name) name theory.actions (neither_second (reserved || sort || constant || device || fluent) action e))
 
 -- It is no keyword: these are among the reserved words.
 pub new-free : (theory : DraftTheory) (name : List ℕ) → is_taken theory name ≡ false → is_keyword name ≡ false
 unfolding is_taken is_reserved
 new-free theory name e =
-    let is = λ (word : List ℕ). same name word in
-    among (is (codes "true")) (is (codes "false")) (is (codes "unknown")) (is (codes "nil")) (is (codes "bool")) (is (codes "not")) (is (codes "and"))
-    (is (codes "or")) (is (codes "some")) (is (codes "all")) (is (codes "interrupts_running")) (is (codes "start_interrupts")) (is (codes "stop_interrupts"))
-    (or_left _ (is_some (sort_no theory name)) (or_left _ (is_constant theory name) (or_left _ (is_some (device_no theory name))
-    (or_left _ (is_some (fluent_no theory name)) (or_left _ (is_some (action_no theory name)) e)))))
-  where
-    among : (a b unknown nil bool negated both either one_of each_of c d f : Bool)
-        → (a || b || unknown || nil || bool || negated || both || either || one_of || each_of || c || d || f) ≡ false
-        → (unknown || (nil || (negated || (both || (either || (one_of || (each_of || false))))))) ≡ false
-    among true b unknown nil bool negated both either one_of each_of c d f e = absurd cc
-    among false true unknown nil bool negated both either one_of each_of c d f e = absurd cc
-    among false false true nil bool negated both either one_of each_of c d f e = absurd cc
-    among false false false true bool negated both either one_of each_of c d f e = absurd cc
-    among false false false false true negated both either one_of each_of c d f e = absurd cc
-    among false false false false false true both either one_of each_of c d f e = absurd cc
-    among false false false false false false true either one_of each_of c d f e = absurd cc
-    among false false false false false false false true one_of each_of c d f e = absurd cc
-    among false false false false false false false false true each_of c d f e = absurd cc
-    among false false false false false false false false false true c d f e = absurd cc
-    among false false false false false false false false false false c d f e = refl
+    neither_first (is_keyword name) (list_any (same name) built_in_names)
+    (neither_first _ (is_some (sort_no theory name)) (neither_first _ (is_constant theory name) (neither_first _ (is_some (device_no theory name))
+    (neither_first _ (is_some (fluent_no theory name)) (neither_first _ (is_some (action_no theory name)) e)))))
 
 -- the names that an item declares: each may be declared, and they differ
 pub record AreNew (theory : DraftTheory) (names : List (List ℕ)) : Type 0 where
@@ -139,10 +123,10 @@ module _ (theory : DraftTheory) where
       let taken = is_taken theory (word f) in
       let is_own = same (word f) own in
       let is_before = list_any (same (word f)) before in
-      let not_beside : (is_own || is_before) ≡ false = rw (or_right taken is_own (or_left (taken || is_own) is_before free), or_right (taken || is_own) is_before free) refl in
+      let not_beside : (is_own || is_before) ≡ false = rw (neither_second taken is_own (neither_first (taken || is_own) is_before free), neither_second (taken || is_own) is_before free) refl in
       let new : IsNew theory (word f) = record {
         word = record { named = not_true (is_name (word f)) named; short = grind arith };
-        free = or_left taken is_own (or_left (taken || is_own) is_before free);
+        free = neither_first taken is_own (neither_first (taken || is_own) is_before free);
       } in
       gives-yields (λ name. AreBefore own (before ++ name ∷ [])) (word f) (record {
         each_is = all-append (IsNew theory) before (word f ∷ []) held.each_is (new, tt);

@@ -25,10 +25,10 @@ use Rattle.golog_theory.specs.declared.names.Actions.TheVariants.{OfProgram, All
 use Rattle.golog_theory.specs.declared.fluents.FluentItem.{FluentItem}
 use Rattle.golog_theory.specs.declared.effects.Effect.{Effect}
 use Rattle.golog_theory.specs.Reading.{Reading, Answers, gives, refused, row, ◌>>=◌, found, each, code_at}
-use Rattle.golog_theory.specs.Names.{same, is_constant, fluent_no, fluent_arity, device_no}
+use Rattle.golog_theory.specs.Names.{same, is_constant, device_no}
 use Rattle.golog_base.specs.Numbers.{is_number}
 use Rattle.golog_theory.specs.Parts.{word, parts, short_name, new_name, sort_of, number_of, arg_of}
-use Rattle.golog_theory.specs.Heads.{head_word, arguments, fluent_called, action_called, schema_of}
+use Rattle.golog_theory.specs.Heads.{head_word, arguments, fluent_named, fluent_called, action_called, schema_of}
 use Rattle.golog_theory.specs.Sorts.{range_of, constant_of, listed_of, range_by, sort_by, sort_item}
 use Rattle.golog_theory.specs.Fluents.{sorts_of, constant_arg, start_value, fluent_of, fluent_item, constants_of, ground_of, start_item}
 use Rattle.golog_theory.specs.Actions.{device_item, device_of, action_of, action_item, exo_item}
@@ -38,7 +38,7 @@ use Rattle.golog_theory.specs.Effects.{poss_item, variable_count, effect_of, cau
 use Rattle.golog_theory.specs.Keywords.{item_keyword}
 use Rattle.golog_theory.specs.declared.keyword.ItemKeyword.{ItemKeyword}
 use Rattle.golog_theory.specs.declared.keyword.ItemKeyword.TheVariants.{Sort, Device, Fluent, Start, Action, Exo, Poss, Causes, Senses, Proc, Main}
-use Rattle.golog_theory.specs.Items.{built_in, with_fluent, sort_read, device_read, fluent_read, start_read, action_read, exo_read, poss_read, causes_read, senses_read, read_as, read_by, item_read, items_read, theory_of}
+use Rattle.golog_theory.specs.Items.{built_in, with_fluent, fluent_read, read_as, read_by, item_read, items_read, theory_of}
 use Rattle.golog_theory.specs.Order.{StandIn, TablesAreOrdered, IsLeastRow}
 use Rattle.golog_rows.proofs.Chain.{key, Chain, chain-high, Spans, then-chain, then-spans, gives-spans, if-chain, chain-ordered, chain-within, least_row}
 use Rattle.golog_theory.proofs.Theory.{first_row}
@@ -164,7 +164,7 @@ module _ (theory : DraftTheory) where
   ground_of-covers : (f : Form) → IsInOrder f → Covers f (ground_of theory f)
   unfolding ground_of
   ground_of-covers f order =
-      called-covers f (fluent_arity theory) (fluent_no theory (head_word f)) (constants_of theory) (λ item args. record { item = item; args = args }) order constants_of-spans
+      called-covers f (fluent_named theory (head_word f)) (constants_of theory) (λ item args. record { item = item; args = args }) order constants_of-spans
 
   start_item-spans : (at : ℕ) (fs : List Form) (to : ℕ) → at < to → Between (at + 1) fs to → Spans at to (start_item theory at fs)
   unfolding start_item
@@ -283,7 +283,7 @@ module _ (theory : DraftTheory) where
   senses_item-spans at (schema ∷ fluent ∷ other ∷ fs) to lt b = none DraftSense at to lt
 
   read_as-spans : (at : ℕ) (keyword : ItemKeyword) (fs : List Form) (to : ℕ) → at < to → Between (at + 1) fs to → Spans at to (read_as theory at keyword fs)
-  unfolding read_as sort_read device_read fluent_read start_read action_read exo_read poss_read causes_read senses_read
+  unfolding read_as fluent_read
   read_as-spans at Sort fs to lt b =
       gives-spans at to (sort_item theory at fs) (λ item. record theory { sorts = theory.sorts ++ item ∷ [] }) (sort_item-spans at fs to lt b)
   read_as-spans at Device fs to lt b =

@@ -15,10 +15,11 @@ use Rattle.golog_tree.specs.declared.draft_cond.DraftTerm.TheFolds.{fold-roll-Dr
 use Rattle.golog_draft.specs.DraftPlaces.{arg_place, arg_places, term_places_step, term_places, value_places}
 use Rattle.golog_draft.specs.DraftOrder.{Ascend}
 use Rattle.golog_theory.specs.declared.heads.Called.{Called}
+use Rattle.golog_theory.specs.declared.heads.Callee.{Callee}
 use Rattle.golog_theory.specs.Reading.{Reading, gives, row, ◌>>=◌}
-use Rattle.golog_theory.specs.Names.{same, is_constant, fluent_no, fluent_arity, action_no, action_arity}
+use Rattle.golog_theory.specs.Names.{same, is_constant}
 use Rattle.golog_theory.specs.Parts.{word, parts, short_name, number_of, arg_of}
-use Rattle.golog_theory.specs.Heads.{head_word, arguments, args_of, called, fluent_called, action_called}
+use Rattle.golog_theory.specs.Heads.{head_word, arguments, args_of, fluent_named, action_named, called, fluent_called, action_called}
 use Rattle.golog_theory.specs.Fluents.{constant_arg, start_value, constants_of, ground_of}
 use Rattle.golog_theory.specs.Terms.{step_of, plus_of, minus_of, fluent_term, atom_term, term_list, term_by, term_of, term_part}
 use Rattle.golog_theory.proofs.Inside.{Each, by_parts, end_of, Between, stands, arguments-between}
@@ -64,19 +65,24 @@ AscendsInside places f reading = Yields (λ x. Ascend (place_of f + 1) (places x
 pub outside : {A : Type 0} (places : A → List ℕ) (f : Form) (reading : Reading A) → AscendsInside places f reading → Ascends places f reading
 outside places f reading known x e = ascend-low (place_of f) (place_of f + 1) (end_of f) (places x) (omega arith) (known x e)
 
+-- what is called has its arguments there
+called-ascend : (f : Form) (callee : Option Callee) (args : Reading (List DraftArg)) → Yields (λ xs. Ascend (place_of f + 1) (arg_places xs) (end_of f)) args
+    → AscendsInside called_places f (called f callee >>= λ n. args >>= λ xs. gives (record { item = n; args = xs }))
+called-ascend f callee args ascends =
+    then-yields (λ _. Unit {0}) _ (called f callee).outcome _ (λ x e. tt) (λ n _.
+    then-yields _ _ args.outcome _ ascends (λ xs is.
+    gives-yields (λ (c : Called). Ascend (place_of f + 1) (called_places c) (end_of f)) (record { item = n; args = xs }) is))
+
+args-inside : (f : Form) → IsInOrder f → Yields (λ xs. Ascend (place_of f + 1) (arg_places xs) (end_of f)) (args_of (arguments f))
+args-inside f order = args_of-ascend (place_of f + 1) (arguments f) (end_of f) (arguments-between f order)
+
 pub fluent_called-ascend : (theory : DraftTheory) (f : Form) → IsInOrder f → AscendsInside called_places f (fluent_called theory f)
 unfolding fluent_called
-fluent_called-ascend theory f order =
-    then-yields (λ _. Unit {0}) _ (called f (fluent_arity theory) (fluent_no theory (head_word f))).outcome _ (λ x e. tt) (λ n _.
-    then-yields _ _ (args_of (arguments f)).outcome _ (args_of-ascend (place_of f + 1) (arguments f) (end_of f) (arguments-between f order)) (λ args is.
-    gives-yields (λ (c : Called). Ascend (place_of f + 1) (called_places c) (end_of f)) (record { item = n; args = args }) is))
+fluent_called-ascend theory f order = called-ascend f (fluent_named theory (head_word f)) (args_of (arguments f)) (args-inside f order)
 
 pub action_called-ascend : (theory : DraftTheory) (f : Form) → IsInOrder f → AscendsInside called_places f (action_called theory f)
 unfolding action_called
-action_called-ascend theory f order =
-    then-yields (λ _. Unit {0}) _ (called f (action_arity theory) (action_no theory (head_word f))).outcome _ (λ x e. tt) (λ n _.
-    then-yields _ _ (args_of (arguments f)).outcome _ (args_of-ascend (place_of f + 1) (arguments f) (end_of f) (arguments-between f order)) (λ args is.
-    gives-yields (λ (c : Called). Ascend (place_of f + 1) (called_places c) (end_of f)) (record { item = n; args = args }) is))
+action_called-ascend theory f order = called-ascend f (action_named theory (head_word f)) (args_of (arguments f)) (args-inside f order)
 
 module _ (theory : DraftTheory) where
   constant_arg-ascend : (f : Form) → IsInOrder f → Ascends one_place f (constant_arg theory f)
@@ -101,9 +107,8 @@ module _ (theory : DraftTheory) where
   pub ground_of-ascend : (f : Form) → IsInOrder f → AscendsInside called_places f (ground_of theory f)
   unfolding ground_of
   ground_of-ascend f order =
-      then-yields (λ _. Unit {0}) _ (called f (fluent_arity theory) (fluent_no theory (head_word f))).outcome _ (λ x e. tt) (λ n _.
-      then-yields _ _ (constants_of theory (arguments f)).outcome _ (constants_of-ascend (place_of f + 1) (arguments f) (end_of f) (arguments-between f order)) (λ args is.
-      gives-yields (λ (c : Called). Ascend (place_of f + 1) (called_places c) (end_of f)) (record { item = n; args = args }) is))
+      called-ascend f (fluent_named theory (head_word f)) (constants_of theory (arguments f))
+      (constants_of-ascend (place_of f + 1) (arguments f) (end_of f) (arguments-between f order))
 
 pub places-Arg : (arg : DraftArg) → term_places (term.Arg arg) ≡ one_place arg
 places-Arg arg = ap term_places (sym (term.rolls-Arg arg)) ∙ fold-roll-DraftTerm (List ℕ) term_places_step (Arg arg)

@@ -8,7 +8,7 @@ use Rattle.std.specs.Cmp.{unsigned_ties}
 use Rattle.std.specs.Ordering.{nat_cmp, int_eq, is_eq, ordering_then}
 use Rattle.std.specs.declared.cmp.Ordering.{Ordering}
 use Rattle.std.specs.declared.cmp.Ordering.TheVariants.{Less, Equal, Greater}
-use Rattle.std.specs.Cmp.Lexicographic.{slice_cmp}
+use Rattle.std.specs.Cmp.Lexicographic.{pointwise, slice_cmp}
 use Rattle.std.proofs.lemmas.List.{take_more}
 use Rattle.std.proofs.lemmas.List.Folds.{list_any-append}
 use Rattle.std.proofs.lemmas.Map.Text.{is_eq-slice_cmp}
@@ -22,7 +22,8 @@ use Rattle.golog_theory.specs.declared.started.Constant.TheVariants.{Name, Numbe
 use Rattle.golog_theory.specs.declared.started.Ground.{Ground}
 use Rattle.golog_theory.specs.contracts.started.ConstantOrd.TheImpl as constant_ord
 use Rattle.golog_theory.specs.Names.{same}
-use Rattle.golog_theory.specs.Fluents.{same_arg, same_args, starts, is_started}
+use Rattle.golog_draft.specs.Drafts.{same_arg}
+use Rattle.golog_theory.specs.Fluents.{starts, is_started}
 use Rattle.golog_theory.specs.Started.{ground_cmp, IsWritten, AreWritten, IsGroundOf, is_constant_arg, are_constant_args, starts_at}
 
 -- the order of constants
@@ -40,12 +41,12 @@ arg_told (Number n) (arg.Word word at) (arg.Number other at') is = refl
 arg_told (Name name) one (arg.Number other at') is = absurd is
 arg_told (Number n) one (arg.Word other at') is = absurd is
 
-args_told : (constants : List Constant) (ones others : List DraftArg) → AreWritten constants others → are_constant_args ones constants ≡ same_args ones others
+args_told : (constants : List Constant) (ones others : List DraftArg) → AreWritten constants others → are_constant_args ones constants ≡ pointwise same_arg ones others
 args_told [] [] [] is = refl
 args_told [] (one ∷ ones) [] is = refl
 args_told (constant ∷ constants) [] (other ∷ others) is = refl
 args_told (constant ∷ constants) (one ∷ ones) (other ∷ others) is =
-    both (is_constant_arg one constant) (same_arg one other) (are_constant_args ones constants) (same_args ones others)
+    both (is_constant_arg one constant) (same_arg one other) (are_constant_args ones constants) (pointwise same_arg ones others)
     (arg_told constant one other is.0) (args_told constants ones others is.1)
 args_told [] ones (other ∷ others) is = absurd is
 args_told (constant ∷ constants) ones [] is = absurd is
@@ -53,7 +54,7 @@ args_told (constant ∷ constants) ones [] is = absurd is
 start_told : (cell : Ground) (fluent : ℕ) (args : List DraftArg) → IsGroundOf cell fluent args → (start : DraftStart) → starts_at cell start ≡ starts fluent args start
 start_told cell fluent args is (Each own value at) = refl
 start_told cell fluent args is (One own constants value at) =
-    both (nat_eq own cell.fluent) (nat_eq own fluent) (are_constant_args constants cell.args.items) (same_args constants args)
+    both (nat_eq own cell.fluent) (nat_eq own fluent) (are_constant_args constants cell.args.items) (pointwise same_arg constants args)
     (ap (nat_eq own) is.fluent_is) (args_told cell.args.items constants args is.args_are)
 
 pub starts_told : (cell : Ground) (fluent : ℕ) (args : List DraftArg) → IsGroundOf cell fluent args → (all : List DraftStart)

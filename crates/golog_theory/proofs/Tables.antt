@@ -1,5 +1,5 @@
 -- The rows of each part of a form stand in order, within the places of the form.
-use Rattle.std.proofs.Common.{◌≡◌, ℕ, ◌+◌, ◌*◌, ◌<◌, ◌≤◌, true, false, List, [], ◌∷◌, drop, length, Option, refl, arith}
+use Rattle.std.proofs.Common.{◌≡◌, ℕ, ◌+◌, ◌*◌, ◌<◌, ◌≤◌, true, false, List, [], ◌∷◌, drop, length, Option, Some, None, refl, arith}
 use Rattle.std.specs.Prelude.{if◌then◌else◌, ◌&&◌, nat_lt}
 use Rattle.std.proofs.lemmas.Bool.{ltb-true}
 use Rattle.golog_base.specs.Names.{is_name}
@@ -8,12 +8,13 @@ use Rattle.golog_form.specs.Shape.{place_of}
 use Rattle.golog_form.specs.Places.{IsInOrder}
 use Rattle.golog_tree.specs.declared.draft.DraftTheory.{DraftTheory}
 use Rattle.golog_tree.specs.declared.draft_cond.DraftArg.TheVariants.{Word, Number}
+use Rattle.golog_theory.specs.declared.heads.Callee.{Callee}
 use Rattle.golog_theory.specs.declared.names.Actions.{Actions}
 use Rattle.golog_theory.specs.Reading.{Row, Reading, gives, refused, row, ◌>>=◌, found, each}
-use Rattle.golog_theory.specs.Names.{sort_no, fluent_no, fluent_arity, action_no, action_arity}
+use Rattle.golog_theory.specs.Names.{sort_no}
 use Rattle.golog_base.specs.Numbers.{value}
 use Rattle.golog_theory.specs.Parts.{word, parts, short_name, new_name, sort_of, number_of, arg_of}
-use Rattle.golog_theory.specs.Heads.{first_word, first_place, head_word, arguments, args_of, has_others, called, allowed, fluent_called, action_called, var_of, schema_of}
+use Rattle.golog_theory.specs.Heads.{first_word, first_place, head_word, arguments, args_of, fluent_named, action_named, allowed_action, declared_with, called, fluent_called, action_called, var_of, schema_of}
 use Rattle.golog_semantics.proofs.Words.{and-left, and-right}
 use Rattle.golog_rows.proofs.Chain.{key, Chain, chain-low, Spans, then-spans, gives-spans, found-chain, Parts, ReadsFrom, each-spans, if-chain}
 use Rattle.golog_theory.proofs.Inside.{end_of, Between, stands}
@@ -122,42 +123,47 @@ drop_first at (f ∷ fs) to b = b.2
 pub arguments-behind : (f : Form) → IsInOrder f → Between (after_head f) (arguments f) (end_of f)
 arguments-behind f order = drop_first (place_of f) (parts f) (end_of f) (stands f order).inner
 
-called-first : (at : ℕ) (fs : List Form) (to count : ℕ) (arity : ℕ → ℕ) (item : Option ℕ) → Between (at + 1) fs to
-    → Spans at (after_first at fs) (if is_name (first_word fs) then row (has_others count arity item) 24 at (found 23 (first_place at fs) item) else refused 20 at)
-called-first at [] to count arity item b = (omega arith, omega arith, omega arith, omega arith)
-called-first at (f ∷ fs) to count arity item b =
-    let size = (stands f b.1).size in
-    if-chain (64 * at) (64 * end_of f) (is_name (word f)) (row (has_others count arity item) 24 at (found 23 (place_of f) item)) (refused 20 at) (
-      omega arith,
-      omega arith,
-      omega arith,
-      found-chain (key at 24) (64 * end_of f) 23 (place_of f) item (omega (arith, b.0)) (omega arith) (omega arith) (omega arith),
-    )
-    (omega arith, omega arith, omega arith, omega (arith, b.0))
+-- what is named, where it has so many arguments
+pub declared_with-spans : (at : ℕ) (name : Form) (count : ℕ) (callee : Option Callee) → IsInOrder name → at < place_of name
+    → Spans at (end_of name) (declared_with at (place_of name) count callee)
+unfolding declared_with
+declared_with-spans at name count None order lt =
+    let size = (stands name order).size in (omega arith, omega arith, omega arith, omega arith)
+declared_with-spans at name count (Some callee) order lt =
+    let size = (stands name order).size in (omega arith, omega arith, omega arith, omega arith)
 
-pub called-spans : (f : Form) (arity : ℕ → ℕ) (item : Option ℕ) → IsInOrder f → Spans (place_of f) (after_head f) (called f arity item)
-called-spans f arity item order =
-    called-first (place_of f) (parts f) (end_of f) (length (arguments f)) arity item (stands f order).inner
+called-first : (at : ℕ) (fs : List Form) (to count : ℕ) (callee : Option Callee) → Between (at + 1) fs to
+    → Spans at (after_first at fs) (if is_name (first_word fs) then declared_with at (first_place at fs) count callee else refused 20 at)
+called-first at [] to count callee b = (omega arith, omega arith, omega arith, omega arith)
+called-first at (f ∷ fs) to count callee b =
+    let size = (stands f b.1).size in
+    if-chain (64 * at) (64 * end_of f) (is_name (word f)) (declared_with at (place_of f) count callee) (refused 20 at)
+    (declared_with-spans at f count callee b.1 (omega (arith, b.0))) (omega arith, omega arith, omega arith, omega (arith, b.0))
+
+pub called-spans : (f : Form) (callee : Option Callee) → IsInOrder f → Spans (place_of f) (after_head f) (called f callee)
+unfolding called
+called-spans f callee order =
+    called-first (place_of f) (parts f) (end_of f) (length (arguments f)) callee (stands f order).inner
 
 -- what is called, and then its arguments
-pub called-covers : {A B : Type 0} (f : Form) (arity : ℕ → ℕ) (item : Option ℕ) (args : List Form → Reading A) (made : ℕ → A → B) → IsInOrder f
+pub called-covers : {A B : Type 0} (f : Form) (callee : Option Callee) (args : List Form → Reading A) (made : ℕ → A → B) → IsInOrder f
     → ((from : ℕ) (fs : List Form) (to : ℕ) → Between from fs to → Spans from to (args fs))
-    → Covers f (called f arity item >>= λ item. args (arguments f) >>= λ args. gives (made item args))
-called-covers f arity item args made order spans =
+    → Covers f (called f callee >>= λ item. args (arguments f) >>= λ args. gives (made item args))
+called-covers f callee args made order spans =
     let behind = arguments-behind f order in
-    then-spans (place_of f) (after_head f) (end_of f) (called f arity item) (λ item. args (arguments f) >>= λ args. gives (made item args))
-    (between-le (after_head f) (arguments f) (end_of f) behind) (called-spans f arity item order)
+    then-spans (place_of f) (after_head f) (end_of f) (called f callee) (λ item. args (arguments f) >>= λ args. gives (made item args))
+    (between-le (after_head f) (arguments f) (end_of f) behind) (called-spans f callee order)
     (λ item. gives-spans (after_head f) (end_of f) (args (arguments f)) (made item) (spans (after_head f) (arguments f) (end_of f) behind))
 
 pub fluent_called-covers : (theory : DraftTheory) (f : Form) → IsInOrder f → Covers f (fluent_called theory f)
 unfolding fluent_called
 fluent_called-covers theory f order =
-    called-covers f (fluent_arity theory) (fluent_no theory (head_word f)) args_of (λ item args. record { item = item; args = args }) order args_of-spans
+    called-covers f (fluent_named theory (head_word f)) args_of (λ item args. record { item = item; args = args }) order args_of-spans
 
 pub action_called-covers : (theory : DraftTheory) (f : Form) → IsInOrder f → Covers f (action_called theory f)
 unfolding action_called
 action_called-covers theory f order =
-    called-covers f (action_arity theory) (action_no theory (head_word f)) args_of (λ item args. record { item = item; args = args }) order args_of-spans
+    called-covers f (action_named theory (head_word f)) args_of (λ item args. record { item = item; args = args }) order args_of-spans
 
 var_of-covers : (theory : DraftTheory) (before : List (List ℕ)) (f : Form) → IsInOrder f → Covers f (var_of theory before f)
 unfolding var_of
@@ -166,7 +172,7 @@ var_of-covers theory before f order = named-covers f order
 pub schema_of-covers : (theory : DraftTheory) (actions : Actions) (f : Form) → IsInOrder f → Covers f (schema_of theory actions f)
 unfolding schema_of
 schema_of-covers theory actions f order =
-    called-covers f (action_arity theory) (allowed theory actions (action_no theory (head_word f))) (each (var_of theory) [])
+    called-covers f (allowed_action theory actions (head_word f)) (each (var_of theory) [])
     (λ action vars. record { action = action; vars = vars }) order (each-covers (var_of theory) (var_of-covers theory) [])
 
 pub ruleset laws = (fluent_called-covers, schema_of-covers)

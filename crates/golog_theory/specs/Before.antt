@@ -1,16 +1,10 @@
 -- A theory as far as it is declared before a place of its file.
 use Rattle.std.specs.Prelude.{ℕ, nat_lt, take_while}
 use Rattle.golog_tree.specs.declared.draft.DraftTheory.{DraftTheory}
-use Rattle.golog_tree.specs.declared.draft.DraftSort.{DraftSort}
-use Rattle.golog_tree.specs.declared.draft.DraftSort.TheVariants.{Range, Listed}
 use Rattle.golog_tree.specs.declared.draft.DraftDevice.{DraftDevice}
 use Rattle.golog_tree.specs.declared.draft.DraftFluent.{DraftFluent}
 use Rattle.golog_tree.specs.declared.draft.DraftAction.{DraftAction}
-
--- the place where a sort's item begins
-abbrev pub sort_place : DraftSort → ℕ
-sort_place (Range name low high at) = at
-sort_place (Listed name constants at) = at
+use Rattle.golog_draft.specs.DraftPlaces.{sort_place}
 
 -- The theory with those of its sorts, devices, fluents and actions whose items begin before the place. They come
 -- in file order, so they keep their numbers.

@@ -1,7 +1,7 @@
 -- The items that declare fluents and give their start values.
-use Rattle.std.specs.Prelude.{ℕ, ◌&&◌, nat_eq, nat_lt, not, Bool, true, false, if◌then◌else◌, List, [], ◌∷◌, length, Option, Some, None, is_none, Result, Ok, Err, codes}
+use Rattle.std.specs.Prelude.{ℕ, ◌&&◌, nat_eq, nat_lt, not, Bool, false, if◌then◌else◌, List, [], ◌∷◌, length, Option, Some, None, is_none, Result, Ok, Err, codes}
 use Rattle.std.specs.List.{list_any}
-use Rattle.std.specs.Ordering.{int_eq}
+use Rattle.std.specs.Cmp.Lexicographic.{pointwise}
 use Rattle.golog_base.specs.Names.{is_name}
 use Rattle.golog_form.specs.declared.form.Form.{Form}
 use Rattle.golog_form.specs.Shape.{place_of, items_of}
@@ -10,15 +10,15 @@ use Rattle.golog_tree.specs.declared.draft.DraftFluent.{DraftFluent}
 use Rattle.golog_tree.specs.declared.draft.DraftStart.{DraftStart}
 use Rattle.golog_tree.specs.declared.draft.DraftStart.TheVariants.{Each, One}
 use Rattle.golog_tree.specs.declared.draft_cond.DraftArg.{DraftArg}
-use Rattle.golog_tree.specs.declared.draft_cond.DraftArg.TheVariants.{Word, Number}
+use Rattle.golog_draft.specs.Drafts.{same_arg}
 use Rattle.golog_theory.specs.declared.heads.Called.{Called}
 use Rattle.golog_theory.specs.declared.fluents.FluentItem.{FluentItem}
 use Rattle.golog_theory.specs.Codes.{UNKNOWN_FORM, DUPLICATE, UNKNOWN_NAME, COUNT}
 use Rattle.golog_theory.specs.Limits.{ARGUMENTS}
-use Rattle.golog_theory.specs.Reading.{Reading, gives, refused, row, ◌>>=◌, found, each}
-use Rattle.golog_theory.specs.Names.{same, is_constant, fluent_no, fluent_arity}
+use Rattle.golog_theory.specs.Reading.{Reading, gives, refused, row, ◌>>=◌, each}
+use Rattle.golog_theory.specs.Names.{same, is_constant}
 use Rattle.golog_theory.specs.Parts.{word, parts, new_name, sort_of, arg_of}
-use Rattle.golog_theory.specs.Heads.{head_word, arguments, called}
+use Rattle.golog_theory.specs.Heads.{head_word, arguments, fluent_named, called}
 
 -- `(SORTS)`: the sorts of arguments
 unfoldable pub sorts_of : DraftTheory → Form → Reading (List ℕ)
@@ -60,23 +60,10 @@ fluent_item theory at (name ∷ sorts ∷ sort ∷ value ∷ []) =
     gives (record { fluent = fluent; value = value })
 fluent_item theory at _ = refused UNKNOWN_FORM at
 
--- the same word or number, at any place
-abbrev pub same_arg : DraftArg → DraftArg → Bool
-same_arg (Word one at) (Word other at') = same one other
-same_arg (Number one at) (Number other at') = int_eq one other
-same_arg (Word one at) (Number other at') = false
-same_arg (Number one at) (Word other at') = false
-
-abbrev pub same_args : List DraftArg → List DraftArg → Bool
-same_args [] [] = true
-same_args (one ∷ ones) (other ∷ others) = same_arg one other && same_args ones others
-same_args [] (other ∷ others) = false
-same_args (one ∷ ones) [] = false
-
 -- the start value is that of the fluent at these constants
 abbrev pub starts : ℕ → List DraftArg → DraftStart → Bool
 starts fluent args (Each own value at) = false
-starts fluent args (One own constants value at) = nat_eq own fluent && same_args constants args
+starts fluent args (One own constants value at) = nat_eq own fluent && pointwise same_arg constants args
 
 -- the fluent has a start value at these constants already
 unfoldable pub is_started : DraftTheory → ℕ → List DraftArg → Bool
@@ -89,7 +76,7 @@ constants_of theory forms = each (λ _. constant_arg theory) [] forms
 -- `(FLUENT CONSTANTS)`
 unfoldable pub ground_of : DraftTheory → Form → Reading Called
 ground_of theory form =
-    called form (fluent_arity theory) (fluent_no theory (head_word form)) >>= λ fluent.
+    called form (fluent_named theory (head_word form)) >>= λ fluent.
     constants_of theory (arguments form) >>= λ args.
     gives (record { item = fluent; args = args })
 

@@ -1,15 +1,11 @@
 -- The items of an agent file but `proc` and `main`, one after another, and the theory that they make.
-use Rattle.std.specs.Prelude.{ℕ, not, true, if◌then◌else◌, List, [], ◌∷◌, ◌++◌, length, Option, Some, None, codes}
+use Rattle.std.specs.Prelude.{ℕ, not, List, [], ◌∷◌, ◌++◌, length, Option, Some, None, codes}
 use Rattle.golog_form.specs.declared.form.Form.{Form}
 use Rattle.golog_form.specs.Shape.{place_of}
 use Rattle.golog_tree.specs.declared.draft.DraftTheory.{DraftTheory}
-use Rattle.golog_tree.specs.declared.draft.DraftSort.TheVariants.{Listed}
-use Rattle.golog_tree.specs.declared.draft.DraftAction.{DraftAction}
-use Rattle.golog_tree.specs.declared.draft.DraftCause.{DraftCause}
 use Rattle.golog_tree.specs.declared.draft.DraftStart.TheVariants.{Each}
 use Rattle.golog_tree.specs.declared.draft_cond.DraftArg.TheVariants.{Word}
-use Rattle.golog_tree.specs.declared.draft_cond.DraftTerm.TheVariants.{Arg}
-use Rattle.golog_tree.specs.declared.draft_cond.DraftCond.TheVariants.{Truth}
+use Rattle.golog_draft.specs.Drafts.{draft_bool, draft_running, draft_own_action, draft_sets_running}
 use Rattle.golog_theory.specs.Codes.{UNKNOWN_FORM}
 use Rattle.golog_theory.specs.Reading.{Reading, gives, refused, row, ◌>>=◌}
 use Rattle.golog_theory.specs.Names.{same}
@@ -23,36 +19,16 @@ use Rattle.golog_theory.specs.Actions.{device_item, action_item, exo_item}
 use Rattle.golog_theory.specs.Effects.{poss_item, causes_item, senses_item}
 use Rattle.golog_theory.specs.declared.fluents.FluentItem.{FluentItem}
 
--- the listed sort `bool`
-abbrev pub bool_constants : List (List ℕ)
-bool_constants = codes "false" ∷ codes "true" ∷ []
-
--- an action without arguments that is built in
-abbrev pub built_in_action : List ℕ → DraftAction
-built_in_action name = record { name = name; args = []; device = None; posters = []; at = 0 }
-
--- the action makes the fluent that is built in so
-abbrev pub built_in_cause : ℕ → List ℕ → DraftCause
-built_in_cause action value = record {
-  action = action;
-  action_args = [];
-  fluent = 0;
-  fluent_args = [];
-  term = Arg (Word value 0);
-  cond = Truth true 0;
-  at = 0;
-}
-
 -- What is built in: the sort `bool`, the fluent `interrupts_running`, which starts false, and the actions
 -- that make it true and false.
 unfoldable pub built_in : DraftTheory
 built_in = record {
-  sorts = Listed (codes "bool") bool_constants 0 ∷ [];
-  fluents = record { name = codes "interrupts_running"; args = []; sort = 0; at = 0 } ∷ [];
-  actions = built_in_action (codes "start_interrupts") ∷ built_in_action (codes "stop_interrupts") ∷ [];
+  sorts = draft_bool ∷ [];
+  fluents = draft_running ∷ [];
+  actions = draft_own_action (codes "start_interrupts") ∷ draft_own_action (codes "stop_interrupts") ∷ [];
   devices = [];
   poss = [];
-  causes = built_in_cause 0 (codes "true") ∷ built_in_cause 1 (codes "false") ∷ [];
+  causes = draft_sets_running 0 (codes "true") ∷ draft_sets_running 1 (codes "false") ∷ [];
   senses = [];
   starts = Each 0 (Some (Word (codes "false") 0)) 0 ∷ [];
 }
@@ -64,53 +40,29 @@ with_fluent theory item at = record theory {
   starts = theory.starts ++ Each (length theory.fluents) item.value at ∷ [];
 }
 
--- Items of each kind, put into the theory.
-unfoldable pub sort_read : DraftTheory → ℕ → List Form → Reading DraftTheory
-sort_read theory at parts =
-    sort_item theory at parts >>= λ item. gives (record theory { sorts = theory.sorts ++ item ∷ [] })
-
-unfoldable pub device_read : DraftTheory → ℕ → List Form → Reading DraftTheory
-device_read theory at parts =
-    device_item theory at parts >>= λ item. gives (record theory { devices = theory.devices ++ item ∷ [] })
-
+-- a `fluent` item, put into the theory with the start value that it gives
 unfoldable pub fluent_read : DraftTheory → ℕ → List Form → Reading DraftTheory
 fluent_read theory at parts = fluent_item theory at parts >>= λ item. gives (with_fluent theory item at)
 
-unfoldable pub start_read : DraftTheory → ℕ → List Form → Reading DraftTheory
-start_read theory at parts =
-    start_item theory at parts >>= λ item. gives (record theory { starts = theory.starts ++ item ∷ [] })
-
-unfoldable pub action_read : DraftTheory → ℕ → List Form → Reading DraftTheory
-action_read theory at parts =
-    action_item theory at parts >>= λ item. gives (record theory { actions = theory.actions ++ item ∷ [] })
-
-unfoldable pub exo_read : DraftTheory → ℕ → List Form → Reading DraftTheory
-exo_read theory at parts =
-    exo_item theory at parts >>= λ item. gives (record theory { actions = theory.actions ++ item ∷ [] })
-
-unfoldable pub poss_read : DraftTheory → ℕ → List Form → Reading DraftTheory
-poss_read theory at parts =
-    poss_item theory at parts >>= λ item. gives (record theory { poss = theory.poss ++ item ∷ [] })
-
-unfoldable pub causes_read : DraftTheory → ℕ → List Form → Reading DraftTheory
-causes_read theory at parts =
-    causes_item theory at parts >>= λ item. gives (record theory { causes = theory.causes ++ item ∷ [] })
-
-unfoldable pub senses_read : DraftTheory → ℕ → List Form → Reading DraftTheory
-senses_read theory at parts =
-    senses_item theory at parts >>= λ item. gives (record theory { senses = theory.senses ++ item ∷ [] })
-
 -- An item put into the theory by its keyword. A `proc` or a `main` is passed over.
 unfoldable pub read_as : DraftTheory → ℕ → ItemKeyword → List Form → Reading DraftTheory
-read_as theory at Sort parts = sort_read theory at parts
-read_as theory at Device parts = device_read theory at parts
+read_as theory at Sort parts =
+    sort_item theory at parts >>= λ item. gives (record theory { sorts = theory.sorts ++ item ∷ [] })
+read_as theory at Device parts =
+    device_item theory at parts >>= λ item. gives (record theory { devices = theory.devices ++ item ∷ [] })
 read_as theory at Fluent parts = fluent_read theory at parts
-read_as theory at Start parts = start_read theory at parts
-read_as theory at Action parts = action_read theory at parts
-read_as theory at Exo parts = exo_read theory at parts
-read_as theory at Poss parts = poss_read theory at parts
-read_as theory at Causes parts = causes_read theory at parts
-read_as theory at Senses parts = senses_read theory at parts
+read_as theory at Start parts =
+    start_item theory at parts >>= λ item. gives (record theory { starts = theory.starts ++ item ∷ [] })
+read_as theory at Action parts =
+    action_item theory at parts >>= λ item. gives (record theory { actions = theory.actions ++ item ∷ [] })
+read_as theory at Exo parts =
+    exo_item theory at parts >>= λ item. gives (record theory { actions = theory.actions ++ item ∷ [] })
+read_as theory at Poss parts =
+    poss_item theory at parts >>= λ item. gives (record theory { poss = theory.poss ++ item ∷ [] })
+read_as theory at Causes parts =
+    causes_item theory at parts >>= λ item. gives (record theory { causes = theory.causes ++ item ∷ [] })
+read_as theory at Senses parts =
+    senses_item theory at parts >>= λ item. gives (record theory { senses = theory.senses ++ item ∷ [] })
 read_as theory at Proc parts = gives theory
 read_as theory at Main parts = gives theory
 

@@ -1,5 +1,5 @@
 -- Names, and what is declared under them.
-use Rattle.std.specs.Prelude.{ℕ, ◌||◌, ◌&&◌, not, nat_eq, nat_lt, nat_le, Bool, true, false, List, length, slice_get, Option, Some, None, is_some, position, codes}
+use Rattle.std.specs.Prelude.{ℕ, ◌||◌, ◌&&◌, not, nat_eq, nat_lt, nat_le, Bool, true, false, List, [], ◌∷◌, length, slice_get, Option, Some, None, is_some, position, codes}
 use Rattle.std.specs.List.{list_any}
 use lib.Pointwise.{pointwise}
 use Rattle.golog_tree.specs.declared.draft.DraftSort.{DraftSort}
@@ -8,6 +8,7 @@ use Rattle.golog_tree.specs.declared.draft.DraftFluent.{DraftFluent}
 use Rattle.golog_tree.specs.declared.draft.DraftAction.{DraftAction}
 use Rattle.golog_tree.specs.declared.draft.DraftDevice.{DraftDevice}
 use Rattle.golog_tree.specs.declared.draft.DraftTheory.{DraftTheory}
+use Rattle.golog_semantics.specs.BuiltIn.{is_keyword}
 use Rattle.golog_theory.specs.declared.names.Actions.{Actions}
 use Rattle.golog_theory.specs.declared.names.Actions.TheVariants.{OfProgram, All}
 use Rattle.golog_theory.specs.Limits.{BUILT_IN}
@@ -15,15 +16,16 @@ use Rattle.golog_theory.specs.Limits.{BUILT_IN}
 abbrev pub same : List ℕ → List ℕ → Bool
 same one other = pointwise nat_eq one other
 
--- the words that no item declares
+-- the names of what is built in
+abbrev pub built_in_names : List (List ℕ)
+built_in_names =
+    codes "bool" ∷ codes "true" ∷ codes "false"
+    ∷ codes "interrupts_running" ∷ codes "start_interrupts" ∷ codes "stop_interrupts"
+    ∷ []
+
+-- the words that no item declares: those of the grammar, and the names of what is built in
 unfoldable pub is_reserved : List ℕ → Bool
-is_reserved name =
-    same name (codes "true") || same name (codes "false") || same name (codes "unknown")
-    || same name (codes "nil")
-    || same name (codes "bool") || same name (codes "not") || same name (codes "and")
-    || same name (codes "or")
-    || same name (codes "some") || same name (codes "all") || same name (codes "interrupts_running")
-    || same name (codes "start_interrupts") || same name (codes "stop_interrupts")
+is_reserved name = is_keyword name || list_any (same name) built_in_names
 
 abbrev pub sort_name : DraftSort → List ℕ
 sort_name (Range name low high at) = name

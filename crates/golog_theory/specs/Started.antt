@@ -1,5 +1,6 @@
 -- Ground fluents that have a start value of their own, by their constants as these are written.
-use Rattle.std.specs.Prelude.{◌≡◌, ◌&&◌, ℕ, nat_eq, Bool, true, false, List, [], ◌∷◌}
+use Rattle.std.specs.Prelude.{◌≡◌, ◌&&◌, ℕ, nat_eq, Bool, false, List, [], ◌∷◌}
+use Rattle.std.specs.Cmp.Lexicographic.{pointwise}
 use Rattle.std.specs.Ordering.{int_eq}
 use Rattle.std.specs.declared.cmp.Ordering.{Ordering}
 use Rattle.golog_tree.specs.declared.draft.DraftStart.{DraftStart}
@@ -42,10 +43,7 @@ is_constant_arg (arg.Word word at) (Number other) = false
 is_constant_arg (arg.Number one at) (Name name) = false
 
 abbrev pub are_constant_args : List DraftArg → List Constant → Bool
-are_constant_args [] [] = true
-are_constant_args (one ∷ ones) (other ∷ others) = is_constant_arg one other && are_constant_args ones others
-are_constant_args [] (other ∷ others) = false
-are_constant_args (one ∷ ones) [] = false
+are_constant_args = pointwise is_constant_arg
 
 -- the start value is that of the ground fluent
 abbrev pub starts_at : Ground → DraftStart → Bool

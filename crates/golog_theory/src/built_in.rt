@@ -1,6 +1,7 @@
-ghost use Rattle.std.specs.Prelude.{◌≡◌, [], ◌∷◌, IfOk, codes};
+ghost use Rattle.std.specs.Prelude.{◌≡◌, [], ◌∷◌, IfOk};
 ghost use Rattle.golog_base.specs.Names.{IsWord};
-ghost use Rattle.golog_theory.specs.Items.{bool_constants, built_in_action, built_in_cause, built_in};
+ghost use Rattle.golog_draft.specs.Drafts.{draft_bool, draft_own_action, draft_sets_running};
+ghost use Rattle.golog_theory.specs.Items.{built_in};
 
 use golog_base::{List, NoMemory, Word, both};
 use golog_tree::{
@@ -18,7 +19,7 @@ fn word_of(text: &[u8]) -> Word
 }
 
 fn bool_sort(alloc: Global) -> Result<DraftSort, NoMemory>
-    ensures { IfOk result (λ sort. sort ≡ DraftSort.Listed (codes "bool") bool_constants 0) }
+    ensures { IfOk result (λ sort. sort ≡ draft_bool) }
 {
     let constants = pair(alloc, word_of(b"false"), word_of(b"true"))?;
     Ok(DraftSort::Listed {
@@ -30,7 +31,7 @@ fn bool_sort(alloc: Global) -> Result<DraftSort, NoMemory>
 
 /// An action without arguments that is built in.
 fn action(alloc: Global, name: Word) -> DraftAction
-    ensures { result ≡ built_in_action name }
+    ensures { result ≡ draft_own_action name }
 {
     DraftAction {
         name,
@@ -43,7 +44,7 @@ fn action(alloc: Global, name: Word) -> DraftAction
 
 /// The action makes the fluent that is built in so.
 fn cause(alloc: Global, action: u32, value: Word) -> DraftCause
-    ensures { result ≡ built_in_cause action value }
+    ensures { result ≡ draft_sets_running action value }
 {
     DraftCause {
         action,

@@ -1,6 +1,6 @@
 ghost use Rattle.std.specs.Prelude.{◌≡◌};
 ghost use Rattle.golog_theory.specs.Reading.{Answers};
-ghost use Rattle.golog_theory.specs.Conditions.{truth_of, fluent_cond, sides_of, equal_of, less_of, at_most_of, not_of, conds_of, and_of, or_of, binder_of, bound_of, some_of, all_of, keyword_cond, cond_of, cond_parts};
+ghost use Rattle.golog_theory.specs.Conditions.{truth_of, fluent_cond, sides_of, not_of, conds_of, binder_of, bound_of, keyword_cond, cond_of, cond_parts};
 
 use crate::fault::{COUNT, TheoryFault, UNKNOWN_FORM, refuse_where, unknown_form};
 use crate::heads::{Called, fluent_called};
@@ -65,48 +65,6 @@ fn sides_of(
     Ok(Sides { one, other })
 }
 
-/// `(= TERM TERM)`
-#[tactic(auto, unfolding(crate::specs::Conditions::equal_of))]
-fn equal_of(
-    alloc: Global,
-    theory: &Indexed<'_>,
-    at: Place,
-    parts: &[Form],
-) -> Result<DraftCond, TheoryFault>
-    ensures { Answers result (equal_of theory.now at (cond_parts theory.now parts.now)) }
-{
-    let Sides { one, other } = sides_of(alloc, theory, at, parts)?;
-    Ok(DraftCond::Equal { one, other, at })
-}
-
-/// `(< TERM TERM)`
-#[tactic(auto, unfolding(crate::specs::Conditions::less_of))]
-fn less_of(
-    alloc: Global,
-    theory: &Indexed<'_>,
-    at: Place,
-    parts: &[Form],
-) -> Result<DraftCond, TheoryFault>
-    ensures { Answers result (less_of theory.now at (cond_parts theory.now parts.now)) }
-{
-    let Sides { one, other } = sides_of(alloc, theory, at, parts)?;
-    Ok(DraftCond::Less { one, other, at })
-}
-
-/// `(<= TERM TERM)`
-#[tactic(auto, unfolding(crate::specs::Conditions::at_most_of))]
-fn at_most_of(
-    alloc: Global,
-    theory: &Indexed<'_>,
-    at: Place,
-    parts: &[Form],
-) -> Result<DraftCond, TheoryFault>
-    ensures { Answers result (at_most_of theory.now at (cond_parts theory.now parts.now)) }
-{
-    let Sides { one, other } = sides_of(alloc, theory, at, parts)?;
-    Ok(DraftCond::AtMost { one, other, at })
-}
-
 /// The variable and the sort of a binder.
 #[derive(Drop)]
 pub struct Binder {
@@ -148,8 +106,10 @@ pub fn cond_of(
     }
 }
 
+/// The condition of a list that begins with the keyword: `(= TERM TERM)`, `(not COND)`, `(and CONDS)`,
+/// `(some (VAR SORT) COND)` and their like.
 #[cycle(conditions)]
-#[tactic(auto, using(crate::proofs::Conds::laws), unfolding(crate::specs::Conditions::keyword_cond))]
+#[tactic(auto, using(crate::proofs::Conds::laws), unfolding(crate::specs::Conditions::keyword_cond, crate::specs::Conditions::equal_of, crate::specs::Conditions::less_of, crate::specs::Conditions::at_most_of, crate::specs::Conditions::and_of, crate::specs::Conditions::or_of, crate::specs::Conditions::some_of, crate::specs::Conditions::all_of))]
 fn keyword_cond(
     alloc: Global,
     theory: &Indexed<'_>,
@@ -162,14 +122,46 @@ fn keyword_cond(
         (keyword_cond theory.now at scope keyword (cond_parts theory.now parts.now)) }
 {
     match keyword {
-        CondKeyword::Equal => equal_of(alloc, theory, at, parts),
-        CondKeyword::Less => less_of(alloc, theory, at, parts),
-        CondKeyword::AtMost => at_most_of(alloc, theory, at, parts),
+        CondKeyword::Equal => sides_of(alloc, theory, at, parts).map(|sides| DraftCond::Equal {
+            one: sides.one,
+            other: sides.other,
+            at,
+        }),
+        CondKeyword::Less => sides_of(alloc, theory, at, parts).map(|sides| DraftCond::Less {
+            one: sides.one,
+            other: sides.other,
+            at,
+        }),
+        CondKeyword::AtMost => sides_of(alloc, theory, at, parts).map(|sides| DraftCond::AtMost {
+            one: sides.one,
+            other: sides.other,
+            at,
+        }),
         CondKeyword::Not => not_of(alloc, theory, scope, at, parts),
-        CondKeyword::And => and_of(alloc, theory, scope, at, parts),
-        CondKeyword::Or => or_of(alloc, theory, scope, at, parts),
-        CondKeyword::ForSome => some_of(alloc, theory, scope, at, parts),
-        CondKeyword::ForAll => all_of(alloc, theory, scope, at, parts),
+        CondKeyword::And => {
+            conds_of(alloc, theory, scope, parts).map(|conds| DraftCond::And { conds, at })
+        }
+        CondKeyword::Or => {
+            conds_of(alloc, theory, scope, parts).map(|conds| DraftCond::Or { conds, at })
+        }
+        CondKeyword::ForSome => {
+            let Bound { binder, body } = bound_of(alloc, theory, scope, at, parts)?;
+            Ok(DraftCond::ForSome {
+                var: binder.var,
+                sort: binder.sort,
+                body,
+                at,
+            })
+        }
+        CondKeyword::ForAll => {
+            let Bound { binder, body } = bound_of(alloc, theory, scope, at, parts)?;
+            Ok(DraftCond::ForAll {
+                var: binder.var,
+                sort: binder.sort,
+                body,
+                at,
+            })
+        }
     }
 }
 
@@ -224,38 +216,6 @@ fn conds_of(
     Ok(conds)
 }
 
-/// `(and CONDS)`
-#[cycle(conditions)]
-#[tactic(auto, using(crate::proofs::Conds::laws), unfolding(crate::specs::Conditions::and_of))]
-fn and_of(
-    alloc: Global,
-    theory: &Indexed<'_>,
-    scope: usize,
-    at: Place,
-    parts: &[Form],
-) -> Result<DraftCond, TheoryFault>
-    ensures { Answers result (and_of scope at (cond_parts theory.now parts.now)) }
-{
-    let conds = conds_of(alloc, theory, scope, parts)?;
-    Ok(DraftCond::And { conds, at })
-}
-
-/// `(or CONDS)`
-#[cycle(conditions)]
-#[tactic(auto, using(crate::proofs::Conds::laws), unfolding(crate::specs::Conditions::or_of))]
-fn or_of(
-    alloc: Global,
-    theory: &Indexed<'_>,
-    scope: usize,
-    at: Place,
-    parts: &[Form],
-) -> Result<DraftCond, TheoryFault>
-    ensures { Answers result (or_of scope at (cond_parts theory.now parts.now)) }
-{
-    let conds = conds_of(alloc, theory, scope, parts)?;
-    Ok(DraftCond::Or { conds, at })
-}
-
 /// A variable with its sort, and the condition in which it stands.
 #[derive(Drop)]
 pub struct Bound {
@@ -282,48 +242,4 @@ fn bound_of(
     let binder = binder_of(theory, binder)?;
     let body = boxed_of(alloc, theory, body, scope + 1)?;
     Ok(Bound { binder, body })
-}
-
-/// `(some (VAR SORT) COND)`
-#[cycle(conditions)]
-#[tactic(auto, using(crate::proofs::Conds::laws), unfolding(crate::specs::Conditions::some_of))]
-fn some_of(
-    alloc: Global,
-    theory: &Indexed<'_>,
-    scope: usize,
-    at: Place,
-    parts: &[Form],
-) -> Result<DraftCond, TheoryFault>
-    ensures { Answers result (some_of theory.now scope at (cond_parts theory.now parts.now)) }
-{
-    let Bound { binder, body } = bound_of(alloc, theory, scope, at, parts)?;
-    let Binder { var, sort } = binder;
-    Ok(DraftCond::ForSome {
-        var,
-        sort,
-        body,
-        at,
-    })
-}
-
-/// `(all (VAR SORT) COND)`
-#[cycle(conditions)]
-#[tactic(auto, using(crate::proofs::Conds::laws), unfolding(crate::specs::Conditions::all_of))]
-fn all_of(
-    alloc: Global,
-    theory: &Indexed<'_>,
-    scope: usize,
-    at: Place,
-    parts: &[Form],
-) -> Result<DraftCond, TheoryFault>
-    ensures { Answers result (all_of theory.now scope at (cond_parts theory.now parts.now)) }
-{
-    let Bound { binder, body } = bound_of(alloc, theory, scope, at, parts)?;
-    let Binder { var, sort } = binder;
-    Ok(DraftCond::ForAll {
-        var,
-        sort,
-        body,
-        at,
-    })
 }

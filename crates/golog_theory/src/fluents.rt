@@ -6,13 +6,12 @@ ghost use Rattle.golog_theory.specs.Parts.{sort_of};
 
 use crate::draft::Draft;
 use crate::fault::{
-    ARITY, COUNT, DUPLICATE, TheoryFault, UNKNOWN_FORM, UNKNOWN_NAME, refuse_where, unknown_form,
-    unknown_name,
+    COUNT, DUPLICATE, TheoryFault, UNKNOWN_FORM, UNKNOWN_NAME, refuse_where, unknown_form,
 };
-use crate::heads::{Called, arguments, head_place, head_word};
+use crate::heads::{Called, arguments, fluent_named, head_word, item_called};
 use crate::indexed::Indexed;
 use crate::limits::ARGUMENTS;
-use crate::parts::{arg_of, item_no, new_name, parts, sort_of, word};
+use crate::parts::{arg_of, new_name, parts, sort_of, word};
 use golog_base::{List, both, is_name};
 use golog_form::Form;
 use golog_tree::{DraftArg, DraftFluent, DraftStart, Place};
@@ -146,13 +145,7 @@ fn constants_of(
 fn ground_of(alloc: Global, theory: &Indexed<'_>, form: &Form) -> Result<Called, TheoryFault>
     ensures { Answers result (ground_of theory.now form.now) }
 {
-    refuse_where(!is_name(head_word(form)), UNKNOWN_FORM, form.at())?;
-    let Some(fluent) = theory.fluent_no(head_word(form)) else {
-        return Err(unknown_name(head_place(form)));
-    };
-    let arity = theory.fluent_arity(fluent);
-    refuse_where(arguments(form).len() != arity, ARITY, form.at())?;
-    let item = item_no(fluent)?;
+    let item = item_called(form, fluent_named(theory, head_word(form)))?;
     let args = constants_of(alloc, theory, arguments(form))?;
     Ok(Called { item, args })
 }

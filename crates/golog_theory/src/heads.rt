@@ -1,10 +1,8 @@
 ghost use Rattle.std.specs.Prelude.{◌≡◌, []};
 ghost use Rattle.golog_theory.specs.Reading.{Answers, each};
-ghost use Rattle.golog_theory.specs.Heads.{head_word, head_place, arguments, args_of, fluent_called, action_called, var_of, schema_of};
+ghost use Rattle.golog_theory.specs.Heads.{head_word, head_place, arguments, args_of, fluent_named, action_named, allowed_action, declared_with, called, fluent_called, action_called, var_of, schema_of};
 
-use crate::fault::{
-    ARITY, DUPLICATE, TheoryFault, UNKNOWN_FORM, UNKNOWN_NAME, refuse_where, unknown_name,
-};
+use crate::fault::{ARITY, DUPLICATE, TheoryFault, UNKNOWN_FORM, refuse_where, unknown_name};
 use crate::indexed::Indexed;
 use crate::names::{Actions, is_among};
 use crate::parts::{arg_of, item_no, parts, short_name, word};
@@ -55,6 +53,78 @@ pub fn args_of(alloc: Global, forms: &[Form]) -> Result<List<DraftArg>, TheoryFa
     Ok(args)
 }
 
+/// A fluent, an action or a procedure by its number, and how many arguments it has.
+#[derive(Clone, Copy)]
+pub struct Callee {
+    pub item: usize,
+    pub arity: usize,
+}
+
+/// The fluent with the name.
+#[tactic(auto, unfolding(crate::specs::Heads::fluent_named))]
+pub fn fluent_named(theory: &Indexed<'_>, name: &[u8]) -> Option<Callee>
+    ensures { result ≡ fluent_named theory.now name.now }
+{
+    let item = theory.fluent_no(name)?;
+    Some(Callee {
+        item,
+        arity: theory.fluent_arity(item),
+    })
+}
+
+/// The action with the name.
+#[tactic(auto, unfolding(crate::specs::Heads::action_named))]
+fn action_named(theory: &Indexed<'_>, name: &[u8]) -> Option<Callee>
+    ensures { result ≡ action_named theory.now name.now }
+{
+    let item = theory.action_no(name)?;
+    Some(Callee {
+        item,
+        arity: theory.action_arity(item),
+    })
+}
+
+/// The action with the name, where it is one of these.
+#[tactic(auto, unfolding(crate::specs::Heads::allowed_action))]
+fn allowed_action(theory: &Indexed<'_>, actions: Actions, name: &[u8]) -> Option<Callee>
+    ensures { result ≡ allowed_action theory.now actions name.now }
+{
+    let item = theory.action_no(name)?;
+    if !theory.allows(actions, item) {
+        return None;
+    }
+    Some(Callee {
+        item,
+        arity: theory.action_arity(item),
+    })
+}
+
+/// The number of what is named at one place, where it has so many arguments, in a form at another.
+#[tactic(auto, unfolding(crate::specs::Heads::declared_with))]
+pub fn declared_with(
+    at: Place,
+    name: Place,
+    count: usize,
+    callee: Option<Callee>,
+) -> Result<u32, TheoryFault>
+    ensures { Answers result (declared_with at name count callee) }
+{
+    let Some(Callee { item, arity }) = callee else {
+        return Err(unknown_name(name));
+    };
+    refuse_where(count != arity, ARITY, at)?;
+    item_no(item)
+}
+
+/// The number of the fluent or action that a list begins with, where it has as many arguments as the list.
+#[tactic(auto, unfolding(crate::specs::Heads::called))]
+pub fn item_called(form: &Form, callee: Option<Callee>) -> Result<u32, TheoryFault>
+    ensures { Answers result (called form.now callee) }
+{
+    refuse_where(!is_name(head_word(form)), UNKNOWN_FORM, form.at())?;
+    declared_with(form.at(), head_place(form), arguments(form).len(), callee)
+}
+
 /// A fluent or an action, and its arguments.
 #[derive(Drop)]
 pub struct Called {
@@ -71,13 +141,7 @@ pub fn fluent_called(
 ) -> Result<Called, TheoryFault>
     ensures { Answers result (fluent_called theory.now form.now) }
 {
-    refuse_where(!is_name(head_word(form)), UNKNOWN_FORM, form.at())?;
-    let Some(fluent) = theory.fluent_no(head_word(form)) else {
-        return Err(unknown_name(head_place(form)));
-    };
-    let arity = theory.fluent_arity(fluent);
-    refuse_where(arguments(form).len() != arity, ARITY, form.at())?;
-    let item = item_no(fluent)?;
+    let item = item_called(form, fluent_named(theory, head_word(form)))?;
     let args = args_of(alloc, arguments(form))?;
     Ok(Called { item, args })
 }
@@ -91,13 +155,7 @@ pub fn action_called(
 ) -> Result<Called, TheoryFault>
     ensures { Answers result (action_called theory.now form.now) }
 {
-    refuse_where(!is_name(head_word(form)), UNKNOWN_FORM, form.at())?;
-    let Some(action) = theory.action_no(head_word(form)) else {
-        return Err(unknown_name(head_place(form)));
-    };
-    let arity = theory.action_arity(action);
-    refuse_where(arguments(form).len() != arity, ARITY, form.at())?;
-    let item = item_no(action)?;
+    let item = item_called(form, action_named(theory, head_word(form)))?;
     let args = args_of(alloc, arguments(form))?;
     Ok(Called { item, args })
 }
@@ -146,18 +204,7 @@ pub fn schema_of(
 ) -> Result<Schema, TheoryFault>
     ensures { Answers result (schema_of theory.now actions form.now) }
 {
-    refuse_where(!is_name(head_word(form)), UNKNOWN_FORM, form.at())?;
-    let Some(action) = theory.action_no(head_word(form)) else {
-        return Err(unknown_name(head_place(form)));
-    };
-    refuse_where(
-        !theory.allows(actions, action),
-        UNKNOWN_NAME,
-        head_place(form),
-    )?;
-    let arity = theory.action_arity(action);
-    refuse_where(arguments(form).len() != arity, ARITY, form.at())?;
-    let action = item_no(action)?;
+    let action = item_called(form, allowed_action(theory, actions, head_word(form)))?;
     let vars = vars_of(alloc, theory, arguments(form))?;
     Ok(Schema { action, vars })
 }

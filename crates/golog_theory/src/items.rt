@@ -67,7 +67,7 @@ fn read_fluent(
 }
 
 /// Adds an item by its keyword. A `proc` or a `main` is passed over.
-#[tactic(auto, unfolding(crate::specs::Items::read_as, crate::specs::Items::sort_read, crate::specs::Items::device_read, crate::specs::Items::start_read, crate::specs::Items::action_read, crate::specs::Items::exo_read, crate::specs::Items::poss_read, crate::specs::Items::causes_read, crate::specs::Items::senses_read))]
+#[tactic(auto, unfolding(crate::specs::Items::read_as))]
 fn read_item(
     alloc: Global,
     draft: &mut Draft,

@@ -1,5 +1,5 @@
 ghost use Rattle.std.specs.Prelude.{◌≡◌, ℕ, nat_lt, take_while};
-ghost use Rattle.golog_theory.specs.Before.{sort_place};
+ghost use Rattle.golog_draft.specs.DraftPlaces.{sort_place};
 
 use golog_tree::{DraftAction, DraftDevice, DraftFluent, DraftSort, Place};
 

@@ -3,9 +3,9 @@ mod CheckWords
 mod Conditions
 mod DemoWords
 mod Meeting
+mod Orders
 mod Parts
 mod ReplayWords
 mod RunWords
 mod Runs
-mod Sizes
 mod Walks

@@ -2,9 +2,9 @@
 use Rattle.std.proofs.Common.{◌≡◌, ◌∙◌, ap, refl, sym, codes, ℕ, Bool, true, false, true≢false, List, [], ◌∷◌, Option, Some, None, option_map, Bor}
 use Rattle.std.specs.Prelude.{⊤, ◌&&◌, if◌then◌else◌, IsSome}
 use Rattle.std.specs.List.{list_any}
-use Rattle.std.specs.Str.Parse.{digits_value}
 use Rattle.clap.specs.Words.{found_of, one_text}
 use Rattle.clap.specs.declared.parser.matches.ArgMatches.{ArgMatches}
+use Rattle.golog_base.specs.Numbers.{amount}
 use Rattle.golog_words.specs.Commands.{CommandLine, Text, run, check, replay, ask, demo, are_run_words, files_in, is_file_word, is_inline, is_size, run_with, run_in, check_in, replay_in, ask_in, demo_of, demo_in, size_in}
 use Rattle.golog_words.specs.Found.{Finds, text_found}
 use Rattle.golog_words.proofs.Conditions.{holds_under}
@@ -86,7 +86,7 @@ asks_in (agent ∷ journal ∷ condition ∷ other ∷ more) = tt
 demos_in : (words : List Text) → Spells IsDemo (demo_in words)
 demos_in [] = tt
 demos_in (word ∷ []) =
-    holds_under (λ (size : Option ℕ). Spells IsDemo (demo_of size)) (is_size word) (Some (digits_value 10 word)) tt (λ _. tt)
+    holds_under (λ (size : Option ℕ). Spells IsDemo (demo_of size)) (is_size word) (Some (amount word)) tt (λ _. tt)
 demos_in (word ∷ other ∷ more) = tt
 
 -- ---- the parts
@@ -132,17 +132,12 @@ pub record DemoParts (found : ArgMatches) (spelled : Option CommandLine) : Type 
 abbrev FindsIt : ArgMatches → Option CommandLine → Type 0
 FindsIt found spelled = (command : CommandLine) → spelled ≡ Some command → Finds found command
 
--- the command that is spelled, which was found
-record Found (Is : CommandLine → Type 0) (found : ArgMatches) (spelled : Option CommandLine) : Type 0 where
-  command : CommandLine
-  is : spelled ≡ Some command
-  kind : Is command
-  finds : Finds found command
-
 module _ (found : ArgMatches) where
-  found_one : (Is : CommandLine → Type 0) (spelled : Option CommandLine) → Spells Is spelled → IsSome spelled → FindsIt found spelled → Found Is found spelled
-  found_one Is None kind some finds = absurd (true≢false (sym some))
-  found_one Is (Some command) kind some finds = record { command = command; is = refl; kind = kind; finds = finds command refl }
+  -- what is made of the command that is spelled, which was found
+  made : (Is : CommandLine → Type 0) (Made : Type 0) (spelled : Option CommandLine) → Spells Is spelled → IsSome spelled → FindsIt found spelled
+      → ((command : CommandLine) → spelled ≡ Some command → Is command → Finds found command → Made) → Made
+  made Is Made None kind some finds make = absurd (true≢false (sym some))
+  made Is Made (Some command) kind some finds make = make command refl kind (finds command refl)
 
   run_parts_of : (spelled : Option CommandLine) (command : CommandLine) → spelled ≡ Some command → IsRun command → Finds found command → RunParts found spelled
   run_parts_of spelled (run a d i) is kind h =
@@ -168,20 +163,20 @@ module _ (found : ArgMatches) where
 
   pub run_parts : (words : List Text) → IsSome (run_in words) → FindsIt found (run_in words) → RunParts found (run_in words)
   run_parts words some finds =
-      let one = found_one IsRun (run_in words) (runs_in words) some finds in run_parts_of (run_in words) one.command one.is one.kind one.finds
+      made IsRun (RunParts found (run_in words)) (run_in words) (runs_in words) some finds (run_parts_of (run_in words))
 
   pub check_parts : (words : List Text) → IsSome (check_in words) → FindsIt found (check_in words) → CheckParts found (check_in words)
   check_parts words some finds =
-      let one = found_one IsCheck (check_in words) (checks_in words) some finds in check_parts_of (check_in words) one.command one.is one.kind one.finds
+      made IsCheck (CheckParts found (check_in words)) (check_in words) (checks_in words) some finds (check_parts_of (check_in words))
 
   pub replay_parts : (words : List Text) → IsSome (replay_in words) → FindsIt found (replay_in words) → ReplayParts found (replay_in words)
   replay_parts words some finds =
-      let one = found_one IsReplay (replay_in words) (replays_in words) some finds in replay_parts_of (replay_in words) one.command one.is one.kind one.finds
+      made IsReplay (ReplayParts found (replay_in words)) (replay_in words) (replays_in words) some finds (replay_parts_of (replay_in words))
 
   pub ask_parts : (words : List Text) → IsSome (ask_in words) → FindsIt found (ask_in words) → AskParts found (ask_in words)
   ask_parts words some finds =
-      let one = found_one IsAsk (ask_in words) (asks_in words) some finds in ask_parts_of (ask_in words) one.command one.is one.kind one.finds
+      made IsAsk (AskParts found (ask_in words)) (ask_in words) (asks_in words) some finds (ask_parts_of (ask_in words))
 
   pub demo_parts : (words : List Text) → IsSome (demo_in words) → FindsIt found (demo_in words) → DemoParts found (demo_in words)
   demo_parts words some finds =
-      let one = found_one IsDemo (demo_in words) (demos_in words) some finds in demo_parts_of (demo_in words) one.command one.is one.kind one.finds
+      made IsDemo (DemoParts found (demo_in words)) (demo_in words) (demos_in words) some finds (demo_parts_of (demo_in words))

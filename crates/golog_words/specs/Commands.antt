@@ -1,8 +1,7 @@
 -- The commands, and which words spell them.
 use Rattle.std.specs.Prelude.{ℕ, ◌==◌, ◌&&◌, ◌||◌, nat_le, Bool, false, not, if◌then◌else◌, List, [], ◌∷◌, Option, None, Some, codes, bytes_eq, count_by, filter}
 use Rattle.std.specs.List.{list_all, list_any}
-use Rattle.std.specs.Str.Parse.{digits_value}
-use Rattle.golog_base.specs.Names.{is_digit}
+use Rattle.golog_base.specs.Numbers.{amount, is_natural}
 
 -- the bytes of a word
 abbrev pub Text : Type 0
@@ -62,18 +61,13 @@ ask_in (agent ∷ journal ∷ condition ∷ []) =
     else None
 ask_in words = None
 
--- digits of which the first is not `0`
-abbrev pub is_positive : Text → Bool
-is_positive [] = false
-is_positive (byte ∷ bytes) = list_all is_digit (byte ∷ bytes) && not (byte == 48)
-
 -- the digits of a number from 1 to 200, without leading zeros
 abbrev pub is_size : Text → Bool
-is_size word = is_positive word && nat_le (digits_value 10 word) 200
+is_size word = nat_le (amount word) 200 && nat_le 1 (amount word) && is_natural word
 
 -- the number that a size's digits spell
 abbrev pub size_in : Text → Option ℕ
-size_in word = if is_size word then Some (digits_value 10 word) else None
+size_in word = if is_size word then Some (amount word) else None
 
 abbrev pub demo_of : Option ℕ → Option CommandLine
 demo_of (Some size) = Some (demo size)

@@ -28,16 +28,14 @@ fn read<'w>(alloc: Global, words: &'w [String]) -> Result<Order<'w>, NoMemory>
     requires { IsSome (command_in (map string_bytes words.now)) }
     ensures { IfOk result (λ order. command_in (map string_bytes words.entry.now) ≡ Some (command_of order)) }
 {
-    let [first, ..] = words else {
-        return Err(NoMemory);
-    };
+    let [first, ..] = words else { unreachable!() };
     match first.as_str() {
         "run" => read_run(alloc, words),
         "check" => read_check(alloc, words),
         "replay" => read_replay(alloc, words),
         "ask" => read_ask(alloc, words),
         "demo" => read_demo(alloc, words),
-        _ => Err(NoMemory),
+        _ => unreachable!(),
     }
 }
 

@@ -6,7 +6,7 @@ use Rattle.golog_semantics.specs.BlockFree.{has_block_by}
 use Rattle.golog_rows.specs.Least.{CodeAt, IsLeastOf}
 use Rattle.golog_check.specs.Unguarded.{refused_where}
 use Rattle.golog_check.specs.DraftBlocks.{blocks_of, block_refusals, numbers_fit}
-use Rattle.golog_check.proofs.Adding.{added-if, added-search, if-rows, search-rows}
+use Rattle.golog_check.proofs.Adding.{added-if, added-search, search-rows}
 use Rattle.golog_check.proofs.BlockLaws.{told-has}
 use Rattle.golog_check.proofs.blocks.+blocks.Goals as goal
 
@@ -33,16 +33,10 @@ blocks_in-returns-in-Search-clause-least t c =
 
 pub blocks_in-returns-then-one-clause-least : goal.blocks_in-returns-then-one-clause-least
 blocks_in-returns-then-one-clause-least t c = λ before is.
-    let said = c.args.said.now in
-    subst (λ (rs : List CodeAt). IsLeastOf c.blocks_in-other.new.least (before ++ rs))
-    (sym (ap (block_refusals said) c.in-If.is ∙ if-rows said c.in-If.cond c.in-If.yes c.in-If.no c.in-If.at))
-    (added-if c.blocks_in-other.new.least before said c.get.result.now c.in-If.yes c.get-in-If.result.now c.in-If.no c.get.ensures c.get-in-If.ensures
-    (c.blocks_in-other.ensures.least _ (c.blocks_in-one.ensures.least before is)))
+    added-if c.blocks_in-other.new.least before c.args.said.now _ c.in-If.cond c.get.result.now c.in-If.yes c.get-in-If.result.now c.in-If.no c.in-If.at
+    c.in-If.is c.get.ensures c.get-in-If.ensures (c.blocks_in-other.ensures.least _ (c.blocks_in-one.ensures.least before is))
 
 pub blocks_in-returns-else-one-clause-least : goal.blocks_in-returns-else-one-clause-least
 blocks_in-returns-else-one-clause-least t c = λ before is.
-    let said = c.args.said.now in
-    subst (λ (rs : List CodeAt). IsLeastOf c.blocks_in-other.new.least (before ++ rs))
-    (sym (ap (block_refusals said) c.in-If.is ∙ if-rows said c.in-If.cond c.in-If.yes c.in-If.no c.in-If.at))
-    (added-if c.blocks_in-other.new.least before said c.get.result.now c.in-If.yes c.get-in-If.result.now c.in-If.no c.get.ensures c.get-in-If.ensures
-    (c.blocks_in-other.ensures.least _ (c.blocks_in-one.ensures.least before is)))
+    added-if c.blocks_in-other.new.least before c.args.said.now _ c.in-If.cond c.get.result.now c.in-If.yes c.get-in-If.result.now c.in-If.no c.in-If.at
+    c.in-If.is c.get.ensures c.get-in-If.ensures (c.blocks_in-other.ensures.least _ (c.blocks_in-one.ensures.least before is))

@@ -6,7 +6,8 @@ use Rattle.golog_tree.specs.declared.agent.ActionItem.{ActionItem}
 use Rattle.golog_tree.specs.declared.draft.DraftSense.{DraftSense}
 use Rattle.golog_tree.specs.declared.draft.DraftProc.{DraftProc}
 use Rattle.golog_tree.specs.declared.draft.DraftSort.{DraftSort}
-use Rattle.golog_check.specs.DeclaredItems.{HasFewSorts, Declared, param_sorts, sort_place}
+use Rattle.golog_draft.specs.DraftPlaces.{sort_place}
+use Rattle.golog_check.specs.DeclaredItems.{HasFewSorts, Declared, param_sorts}
 use Rattle.golog_check.specs.Parts.{AreParts}
 use Rattle.golog_check.specs.declared.checking.Parts.{Parts}
 use Rattle.golog_check.proofs.Countable.{few-sorts, few-fluents, few-actions, sensed}

@@ -9,61 +9,43 @@ use Rattle.golog_prog.specs.Programs.{prog_part}
 use Rattle.golog_prog.proofs.programs.+programs.Given as goal
 
 abbrev pub decreases-prog_of : goal.decreases-prog_of
-decreases-prog_of l = 5 * nest l.form.now
+decreases-prog_of l = 6 * nest l.form.now
 
 abbrev pub decreases-construct_of : goal.decreases-construct_of
-decreases-construct_of l = 5 * deepest l.parts.now + 4
-
-abbrev pub decreases-seq_of : goal.decreases-seq_of
-decreases-seq_of l = 5 * deepest l.parts.now + 3
-
-abbrev pub decreases-choice_of : goal.decreases-choice_of
-decreases-choice_of l = 5 * deepest l.parts.now + 3
-
-abbrev pub decreases-conc_of : goal.decreases-conc_of
-decreases-conc_of l = 5 * deepest l.parts.now + 3
-
-abbrev pub decreases-prio_of : goal.decreases-prio_of
-decreases-prio_of l = 5 * deepest l.parts.now + 3
-
-abbrev pub decreases-star_of : goal.decreases-star_of
-decreases-star_of l = 5 * deepest l.parts.now + 3
-
-abbrev pub decreases-cstar_of : goal.decreases-cstar_of
-decreases-cstar_of l = 5 * deepest l.parts.now + 3
+decreases-construct_of l = 6 * deepest l.parts.now + 5
 
 abbrev pub decreases-several_of : goal.decreases-several_of
-decreases-several_of l = 5 * deepest l.parts.now + 2
+decreases-several_of l = 6 * deepest l.parts.now + 2
 
 abbrev pub decreases-progs_of : goal.decreases-progs_of
-decreases-progs_of l = 5 * deepest l.forms.now + 1
+decreases-progs_of l = 6 * deepest l.forms.now + 1
 
 abbrev pub decreases-pick_of : goal.decreases-pick_of
-decreases-pick_of l = 5 * deepest l.parts.now + 3
+decreases-pick_of l = 6 * deepest l.parts.now + 3
 
 abbrev pub decreases-one_of : goal.decreases-one_of
-decreases-one_of l = 5 * deepest l.parts.now + 2
+decreases-one_of l = 6 * deepest l.parts.now + 2
 
 abbrev pub decreases-boxed_of : goal.decreases-boxed_of
-decreases-boxed_of l = 5 * nest l.form.now + 1
+decreases-boxed_of l = 6 * nest l.form.now + 1
 
 abbrev pub decreases-guarded_of : goal.decreases-guarded_of
-decreases-guarded_of l = 5 * nest l.body.now + 2
+decreases-guarded_of l = 6 * nest l.body.now + 2
 
 abbrev pub decreases-if_of : goal.decreases-if_of
-decreases-if_of l = 5 * deepest l.parts.now + 3
+decreases-if_of l = 6 * deepest l.parts.now + 3
 
-abbrev pub decreases-while_of : goal.decreases-while_of
-decreases-while_of l = 5 * deepest l.parts.now + 3
+abbrev pub decreases-guard_of : goal.decreases-guard_of
+decreases-guard_of l = 6 * deepest l.parts.now + 3
 
 abbrev pub decreases-search_of : goal.decreases-search_of
-decreases-search_of l = 5 * deepest l.parts.now + 3
+decreases-search_of l = 6 * deepest l.parts.now + 3
 
 abbrev pub decreases-interrupt_of : goal.decreases-interrupt_of
-decreases-interrupt_of l = 5 * deepest l.parts.now + 3
+decreases-interrupt_of l = 6 * deepest l.parts.now + 4
 
 abbrev pub decreases-interrupts_of : goal.decreases-interrupts_of
-decreases-interrupts_of l = 5 * deepest l.parts.now + 3
+decreases-interrupts_of l = 6 * deepest l.parts.now + 3
 
 abbrev pub invariant-progs_of-loop-form : goal.invariant-progs_of-loop-form
 invariant-progs_of-loop-form l =

@@ -16,18 +16,6 @@ decreases-keyword_cond l = 5 * deepest l.parts.now + 4
 abbrev pub decreases-not_of : goal.decreases-not_of
 decreases-not_of l = 5 * deepest l.parts.now + 2
 
-abbrev pub decreases-and_of : goal.decreases-and_of
-decreases-and_of l = 5 * deepest l.parts.now + 2
-
-abbrev pub decreases-or_of : goal.decreases-or_of
-decreases-or_of l = 5 * deepest l.parts.now + 2
-
-abbrev pub decreases-some_of : goal.decreases-some_of
-decreases-some_of l = 5 * deepest l.parts.now + 3
-
-abbrev pub decreases-all_of : goal.decreases-all_of
-decreases-all_of l = 5 * deepest l.parts.now + 3
-
 abbrev pub decreases-boxed_of : goal.decreases-boxed_of
 decreases-boxed_of l = 5 * nest l.form.now + 1
 

@@ -1,15 +1,10 @@
 use Rattle.std.proofs.Common.{refl}
-use Rattle.golog_theory.proofs.Drafts.{device_pushed}
+use Rattle.golog_theory.proofs.Drafts.{draft_kept, device_pushed}
 use Rattle.golog_theory.proofs.draft.DraftDeviceEntry.add_to.Goals as goal
 
 pub returns : goal.returns
 returns c =
-    rw c.in_ok-push.ensures.ok (record {
-      same = refl;
-      kept = record {
-        index = device_pushed c.args.draft.now.index c.args.draft.now.theory c.add.new.self c.args.self c.len-number.result
-            c.requires.index c.len-number.ensures (rw c.name.ensures at c.in_ok-add.ensures);
-        restricted = c.requires.restricted;
-        started = c.requires.started;
-      };
-    })
+    let draft = c.args.draft.now in
+    let index = device_pushed draft.index draft.theory c.add.new.self c.args.self c.len-number.result c.requires.index c.len-number.ensures
+    (rw c.name.ensures at c.in_ok-add.ensures) in
+    rw c.in_ok-push.ensures.ok (draft_kept draft _ _ c.requires index refl refl)

@@ -3,7 +3,7 @@ ghost use Rattle.std.specs.Prelude.{◌≡◌, IfOk, option_map, option_and_then
 ghost use Rattle.serde_json.specs.Find.{get};
 ghost use Rattle.serde_json.specs.View.{view};
 ghost use Rattle.golog_device.specs.Scripts.{strings_in, script_of, script_spelled};
-ghost use Rattle.golog_script.specs.ScriptTexts.{script_of_lines};
+ghost use Rattle.golog_script.specs.ScriptTexts.{script_of_lists};
 
 use crate::strings::strings_in;
 use golog_base::{Bytes, List, NoMemory};
@@ -12,25 +12,25 @@ use std::alloc::Global;
 
 /// The two lists of a script.
 #[derive(Debug, Drop)]
-pub struct Lines {
+pub struct ScriptLists {
     pub answers: List<Bytes>,
     pub idle: List<Bytes>,
 }
 
 /// The script that the text spells: `None` exactly where it is no JSON object with arrays of strings
 /// `answers` and `idle`.
-pub fn lines_of(alloc: Global, text: &[u8]) -> Result<Option<Lines>, NoMemory>
-    ensures { IfOk result (λ lines. option_map script_of_lines lines ≡ script_spelled text.now) }
+pub fn lists_of(alloc: Global, text: &[u8]) -> Result<Option<ScriptLists>, NoMemory>
+    ensures { IfOk result (λ lists. option_map script_of_lists lists ≡ script_spelled text.now) }
 {
     match Value::from_slice(alloc, text) {
-        Ok(value) => lines_in(alloc, &value),
+        Ok(value) => lists_in(alloc, &value),
         Err(error) if error.is_memory() => Err(NoMemory),
         Err(_) => Ok(None),
     }
 }
 
-fn lines_in(alloc: Global, value: &Value) -> Result<Option<Lines>, NoMemory>
-    ensures { IfOk result (λ lines. option_map script_of_lines lines ≡ script_of (view value.now)) }
+fn lists_in(alloc: Global, value: &Value) -> Result<Option<ScriptLists>, NoMemory>
+    ensures { IfOk result (λ lists. option_map script_of_lists lists ≡ script_of (view value.now)) }
 {
     let Some(answers) = strings_under(alloc, value, "answers")? else {
         return Ok(None);
@@ -38,7 +38,7 @@ fn lines_in(alloc: Global, value: &Value) -> Result<Option<Lines>, NoMemory>
     let Some(idle) = strings_under(alloc, value, "idle")? else {
         return Ok(None);
     };
-    Ok(Some(Lines { answers, idle }))
+    Ok(Some(ScriptLists { answers, idle }))
 }
 
 // The strings of the array under a key.
