@@ -11,13 +11,13 @@ ghost use Rattle.golog_find.specs.Numbers.{all_meant, level_of, meant, with_numb
 ghost use Rattle.golog_find.specs.Visits.{AreKept, IsOfAgent, IsNumberedFront, IsOpened, meant_front, prog_at};
 
 use crate::NEST_LIMIT;
+use crate::deepening::Deepening;
 use crate::numbered::Numbered;
 use crate::visits::{NumberedFront, Opened, Visits, holds_in};
 use golog_base::{List, NoMemory};
 use golog_memo::{Nodes, Seen};
 use golog_progress::State;
-use golog_semantics::Mode;
-use golog_tree::{Agent, Label, Prog, Way, nest};
+use golog_tree::{Label, Prog, Way, nest};
 use golog_ways::{is_final, state_after, ways_of};
 use std::alloc::Global;
 
@@ -68,37 +68,36 @@ impl Level {
             }
         }
     }
+}
 
+impl<'a> Deepening<'a> {
     /// Whether the state that a step leads to is to be stored: while there is room, as one more, and behind
     /// that where the program may end in it.
     fn wants(
         &self,
-        alloc: Global,
-        agent: &Agent,
-        mode: Mode,
-        room: Option<usize>,
+        level: &Level,
         state: &State,
         label: Label,
         left: &Prog,
     ) -> Result<bool, NoMemory>
-        requires agent { WellFormed agent.now }
-        requires searched { IsSearched agent.now left.now state.now }
-        requires label { IsTrue (fits_label agent.now label) }
-        ensures { IfOk result (λ b. b ≡ is_stored room (length self.now.states)
-            (final agent.now (after agent.now state.now label) mode left.now)) }
+        requires agent { WellFormed self.now.agent.now }
+        requires searched { IsSearched self.now.agent.now left.now state.now }
+        requires label { IsTrue (fits_label self.now.agent.now label) }
+        ensures { IfOk result (λ b. b ≡ is_stored self.now.room (length level.now.states)
+            (final self.now.agent.now (after self.now.agent.now state.now label) self.now.mode left.now)) }
     {
-        let Some(room) = room else {
+        let Some(room) = self.room else {
             return Ok(true);
         };
-        let count = self.states.len();
+        let count = level.states.len();
         if count <= room {
             return Ok(true);
         }
         if count - 1 > room {
             return Ok(false);
         }
-        let next = state_after(alloc, agent, state, label)?;
-        let ends = is_final(alloc, agent, mode, left, &next);
+        let next = state_after(self.alloc, self.agent, state, label)?;
+        let ends = is_final(self.alloc, self.agent, self.mode, left, &next);
         drop(next);
         ends
     }
@@ -106,33 +105,31 @@ impl Level {
     /// Adds the state that a step leads to from this one, where it is to be stored, unless what the step leaves
     /// nests too deep.
     fn add(
-        &mut self,
-        alloc: Global,
-        agent: &Agent,
-        mode: Mode,
-        room: Option<usize>,
+        &self,
+        level: &mut Level,
         nodes: &mut Nodes,
         from: usize,
         state: &State,
         way: &Way,
     ) -> Result<(), NoMemory>
-        requires agent { WellFormed agent.now }
-        requires searched { IsSearched agent.now way.now.left state.now }
-        requires label { IsTrue (fits_label agent.now way.now.label) }
-        requires level { IsLevel nodes.old self.old }
-        ensures level { OnOk result (IsLevel nodes.new self.new) }
+        requires agent { WellFormed self.now.agent.now }
+        requires searched { IsSearched self.now.agent.now way.now.left state.now }
+        requires label { IsTrue (fits_label self.now.agent.now way.now.label) }
+        requires level { IsLevel nodes.old level.old }
+        ensures level { OnOk result (IsLevel nodes.new level.new) }
         ensures goes_on { OnOk result (GoesOn nodes.old nodes.new) }
-        ensures means { OnOk result (level_of nodes.new self.new
-            ≡ with_stored agent.now mode room from state.now (level_of nodes.old self.old) way.now) }
+        ensures means { OnOk result (level_of nodes.new level.new
+            ≡ with_stored self.now.agent.now self.now.mode self.now.room from state.now
+            (level_of nodes.old level.old) way.now) }
     {
         if nest(&way.left) > NEST_LIMIT {
-            self.cut = true;
+            level.cut = true;
             Ok(())
-        } else if !self.wants(alloc, agent, mode, room, state, way.label, &way.left)? {
+        } else if !self.wants(level, state, way.label, &way.left)? {
             Ok(())
         } else {
-            let reached = Numbered::by(alloc, agent, nodes, from, state, way)?;
-            self.add_state(reached)?;
+            let reached = Numbered::by(self.alloc, self.agent, nodes, from, state, way)?;
+            level.add_state(reached)?;
             Ok(())
         }
     }
@@ -140,76 +137,63 @@ impl Level {
     /// Adds the state that a kept step leads to from this one, where it is to be stored, unless what the step
     /// leaves nests too deep.
     fn add_front(
-        &mut self,
-        alloc: Global,
-        agent: &Agent,
-        mode: Mode,
-        room: Option<usize>,
+        &self,
+        level: &mut Level,
         nodes: &Nodes,
         from: usize,
         state: &State,
         front: &NumberedFront,
     ) -> Result<(), NoMemory>
-        requires agent { WellFormed agent.now }
-        requires searched { IsSearched agent.now (prog_at nodes.now front.now.left) state.now }
+        requires agent { WellFormed self.now.agent.now }
+        requires searched { IsSearched self.now.agent.now (prog_at nodes.now front.now.left) state.now }
         requires front { IsNumberedFront nodes.now front.now }
-        requires agents { IsOfAgent agent.now (meant_front nodes.now front.now) }
-        requires level { IsLevel nodes.now self.old }
-        ensures level { OnOk result (IsLevel nodes.now self.new) }
-        ensures means { OnOk result (level_of nodes.now self.new
-            ≡ with_stored agent.now mode room from state.now (level_of nodes.now self.old)
-            (meant_front nodes.now front.now).way) }
+        requires agents { IsOfAgent self.now.agent.now (meant_front nodes.now front.now) }
+        requires level { IsLevel nodes.now level.old }
+        ensures level { OnOk result (IsLevel nodes.now level.new) }
+        ensures means { OnOk result (level_of nodes.now level.new
+            ≡ with_stored self.now.agent.now self.now.mode self.now.room from state.now
+            (level_of nodes.now level.old) (meant_front nodes.now front.now).way) }
     {
         if !front.followed {
-            self.cut = true;
+            level.cut = true;
             Ok(())
-        } else if !self.wants(
-            alloc,
-            agent,
-            mode,
-            room,
-            state,
-            front.label,
-            nodes.prog(front.left),
-        )? {
+        } else if !self.wants(level, state, front.label, nodes.prog(front.left))? {
             Ok(())
         } else {
-            let state = state_after(alloc, agent, state, front.label)?;
+            let state = state_after(self.alloc, self.agent, state, front.label)?;
             let reached = Numbered {
                 label: front.label,
                 left: front.left,
                 state,
                 from,
             };
-            self.add_state(reached)?;
+            level.add_state(reached)?;
             Ok(())
         }
     }
 
     /// Adds the states that one step leads to from this one, of a program whose steps are kept.
     fn add_fronts(
-        &mut self,
-        alloc: Global,
-        agent: &Agent,
-        mode: Mode,
-        room: Option<usize>,
+        &self,
+        level: &mut Level,
         nodes: &Nodes,
         from: usize,
         state: &State,
         opened: &Opened,
     ) -> Result<(), NoMemory>
-        requires agent { WellFormed agent.now }
-        requires searched { IsSearched agent.now (prog_at nodes.now opened.now.prog) state.now }
-        requires opened { IsOpened agent.now nodes.now opened.now }
-        requires level { IsLevel nodes.now self.old }
-        ensures level { OnOk result (IsLevel nodes.now self.new) }
-        ensures means { OnOk result (level_of nodes.now self.new
-            ≡ fold (with_stored agent.now mode room from state.now) (level_of nodes.now self.old)
-            (plain_ways agent.now state.now mode (prog_at nodes.now opened.now.prog))) }
+        requires agent { WellFormed self.now.agent.now }
+        requires searched { IsSearched self.now.agent.now (prog_at nodes.now opened.now.prog) state.now }
+        requires opened { IsOpened self.now.agent.now nodes.now opened.now }
+        requires level { IsLevel nodes.now level.old }
+        ensures level { OnOk result (IsLevel nodes.now level.new) }
+        ensures means { OnOk result (level_of nodes.now level.new
+            ≡ fold (with_stored self.now.agent.now self.now.mode self.now.room from state.now)
+            (level_of nodes.now level.old)
+            (plain_ways self.now.agent.now state.now self.now.mode (prog_at nodes.now opened.now.prog))) }
     {
         for front in opened.fronts.as_slice() {
-            if holds_in(agent, mode, &front.cond, state) {
-                self.add_front(alloc, agent, mode, room, nodes, from, state, front)?;
+            if holds_in(self.agent, self.mode, &front.cond, state) {
+                self.add_front(level, nodes, from, state, front)?;
             }
         }
         Ok(())
@@ -217,99 +201,87 @@ impl Level {
 
     /// Adds the states that one step leads to from this one, of a program whose steps are listed anew.
     fn add_ways(
-        &mut self,
-        alloc: Global,
-        agent: &Agent,
-        mode: Mode,
-        room: Option<usize>,
+        &self,
+        level: &mut Level,
         nodes: &mut Nodes,
         from: usize,
         reached: &Numbered,
     ) -> Result<(), NoMemory>
-        requires agent { WellFormed agent.now }
+        requires agent { WellFormed self.now.agent.now }
         requires number { reached.now.left < length nodes.old }
-        requires searched { IsSearched agent.now (meant nodes.old reached.now).way.left reached.now.state }
-        requires level { IsLevel nodes.old self.old }
-        ensures level { OnOk result (IsLevel nodes.new self.new) }
+        requires searched { IsSearched self.now.agent.now (meant nodes.old reached.now).way.left reached.now.state }
+        requires level { IsLevel nodes.old level.old }
+        ensures level { OnOk result (IsLevel nodes.new level.new) }
         ensures goes_on { OnOk result (GoesOn nodes.old nodes.new) }
-        ensures means { OnOk result (level_of nodes.new self.new
-            ≡ fold (with_stored agent.now mode room from reached.now.state) (level_of nodes.old self.old)
-            (plain_ways agent.now reached.now.state mode (meant nodes.old reached.now).way.left)) }
+        ensures means { OnOk result (level_of nodes.new level.new
+            ≡ fold (with_stored self.now.agent.now self.now.mode self.now.room from reached.now.state)
+            (level_of nodes.old level.old)
+            (plain_ways self.now.agent.now reached.now.state self.now.mode (meant nodes.old reached.now).way.left)) }
     {
-        let ways = ways_of(alloc, agent, mode, nodes.prog(reached.left), &reached.state)?;
+        let ways = ways_of(
+            self.alloc,
+            self.agent,
+            self.mode,
+            nodes.prog(reached.left),
+            &reached.state,
+        )?;
         for way in ways.as_slice() {
-            self.add(alloc, agent, mode, room, nodes, from, &reached.state, way)?;
+            self.add(level, nodes, from, &reached.state, way)?;
         }
         Ok(())
     }
 
     /// Adds the states that one step leads to from this one, which stands at the place `from`.
     fn add_steps(
-        &mut self,
-        alloc: Global,
-        agent: &Agent,
-        mode: Mode,
-        room: Option<usize>,
+        &self,
+        level: &mut Level,
         nodes: &mut Nodes,
         visits: &Visits,
         from: usize,
         reached: &Numbered,
     ) -> Result<(), NoMemory>
-        requires agent { WellFormed agent.now }
+        requires agent { WellFormed self.now.agent.now }
         requires number { reached.now.left < length nodes.old }
-        requires searched { IsSearched agent.now (meant nodes.old reached.now).way.left reached.now.state }
-        requires kept { AreKept agent.now nodes.old visits.now }
-        requires level { IsLevel nodes.old self.old }
-        ensures level { OnOk result (IsLevel nodes.new self.new) }
+        requires searched { IsSearched self.now.agent.now (meant nodes.old reached.now).way.left reached.now.state }
+        requires kept { AreKept self.now.agent.now nodes.old visits.now }
+        requires level { IsLevel nodes.old level.old }
+        ensures level { OnOk result (IsLevel nodes.new level.new) }
         ensures goes_on { OnOk result (GoesOn nodes.old nodes.new) }
-        ensures means { OnOk result (level_of nodes.new self.new
-            ≡ fold (with_stored agent.now mode room from reached.now.state) (level_of nodes.old self.old)
-            (plain_ways agent.now reached.now.state mode (meant nodes.old reached.now).way.left)) }
+        ensures means { OnOk result (level_of nodes.new level.new
+            ≡ fold (with_stored self.now.agent.now self.now.mode self.now.room from reached.now.state)
+            (level_of nodes.old level.old)
+            (plain_ways self.now.agent.now reached.now.state self.now.mode (meant nodes.old reached.now).way.left)) }
     {
         match visits.of(reached.left) {
-            Some(opened) => {
-                self.add_fronts(
-                    alloc,
-                    agent,
-                    mode,
-                    room,
-                    nodes,
-                    from,
-                    &reached.state,
-                    opened,
-                )
-            }
-            None => self.add_ways(alloc, agent, mode, room, nodes, from, reached),
+            Some(opened) => self.add_fronts(level, nodes, from, &reached.state, opened),
+            None => self.add_ways(level, nodes, from, reached),
         }
     }
-}
 
-/// The distinct states that one step leads to from these, as far as there is room for them. The steps of a
-/// program that was visited before are kept.
-pub fn next_level(
-    alloc: Global,
-    agent: &Agent,
-    mode: Mode,
-    room: Option<usize>,
-    nodes: &mut Nodes,
-    visits: &mut Visits,
-    states: &[Numbered],
-) -> Result<Level, NoMemory>
-    requires agent { WellFormed agent.now }
-    requires numbers { HaveNumbers nodes.old states.now }
-    requires once { AreOnce nodes.old }
-    requires kept { AreKept agent.now nodes.old visits.old }
-    requires searched { AreSearched agent.now (all_meant nodes.old states.now) }
-    ensures goes_on { OnOk result (GoesOn nodes.old nodes.new) }
-    ensures kept { OnOk result (AreKept agent.now nodes.new visits.new) }
-    ensures level { IfOk result (λ level. IsLevel nodes.new level) }
-    ensures next { IfOk result (λ level. level_of nodes.new level
-        ≡ stored_level agent.now mode room (all_meant nodes.old states.now)) }
-{
-    let mut level = Level::new(alloc)?;
-    for (from, reached) in states.iter().enumerate() {
-        visits.visit(alloc, agent, nodes, reached.left)?;
-        level.add_steps(alloc, agent, mode, room, nodes, visits, from, reached)?;
+    /// The distinct states that one step leads to from these, as far as there is room for them. The steps of a
+    /// program that was visited before are kept.
+    pub fn next_level(
+        &self,
+        nodes: &mut Nodes,
+        visits: &mut Visits,
+        states: &[Numbered],
+    ) -> Result<Level, NoMemory>
+        requires agent { WellFormed self.now.agent.now }
+        requires numbers { HaveNumbers nodes.old states.now }
+        requires once { AreOnce nodes.old }
+        requires kept { AreKept self.now.agent.now nodes.old visits.old }
+        requires searched { AreSearched self.now.agent.now (all_meant nodes.old states.now) }
+        ensures goes_on { OnOk result (GoesOn nodes.old nodes.new) }
+        ensures kept { OnOk result (AreKept self.now.agent.now nodes.new visits.new) }
+        ensures level { IfOk result (λ level. IsLevel nodes.new level) }
+        ensures next { IfOk result (λ level. level_of nodes.new level
+            ≡ stored_level self.now.agent.now self.now.mode self.now.room (all_meant nodes.old states.now)) }
+    {
+        let mut level = Level::new(self.alloc)?;
+        for (from, reached) in states.iter().enumerate() {
+            visits.visit(self.alloc, self.agent, nodes, reached.left)?;
+            self.add_steps(&mut level, nodes, visits, from, reached)?;
+        }
+        Ok(level)
     }
-    Ok(level)
 }

@@ -1,6 +1,7 @@
 //! The search of a block.
 #![tactic(auto)]
 
+mod deepening;
 mod finding;
 mod found;
 mod level;

@@ -9,7 +9,8 @@ ghost use Rattle.golog_find.specs.Visits.{AreKept};
 ghost use Rattle.golog_tree.specs.declared.agent.Agent.{Agent as AnyAgent};
 ghost use Rattle.golog_ways.specs.Searched.{IsSearched};
 
-use crate::level::{Level, next_level};
+use crate::deepening::Deepening;
+use crate::level::Level;
 use crate::numbered::Numbered;
 use crate::visits::{Visits, holds_in};
 use golog_base::{List, NoMemory};
@@ -122,15 +123,13 @@ impl Search {
         ensures numbers { OnOk result (IsNumbered self.new) }
         ensures kept { OnOk result (AreKept agent.now self.new.nodes self.new.visits) }
     {
-        let next = next_level(
+        let deepening = Deepening {
             alloc,
             agent,
             mode,
             room,
-            &mut self.nodes,
-            &mut self.visits,
-            self.last.as_slice(),
-        )?;
+        };
+        let next = deepening.next_level(&mut self.nodes, &mut self.visits, self.last.as_slice())?;
         let Level { states, seen, cut } = next;
         drop(seen);
         let last = mem::replace(&mut self.last, states);

@@ -24,7 +24,7 @@ use Rattle.golog_semantics.proofs.Words.{and-left, and-right}
 use Rattle.golog_semantics.proofs.ActionNames.{args_at-map}
 use Rattle.golog_semantics.proofs.GroundNumbers.{some-same, stands}
 use Rattle.golog_semantics.proofs.CausesKeep.{Has, has, chosen-some}
-use Rattle.golog_progress.specs.Effects.{HeadFits, IsSpread, ArePlaces, IsAffected}
+use Rattle.golog_progress.specs.Effects.{effect_of, HeadFits, IsSpread, ArePlaces, IsAffected}
 use Rattle.golog_semantics.proofs.CausesKeep.{within-length}
 use Rattle.golog_progress.proofs.Placed.{args-of-item, fluent_of}
 use Rattle.golog_progress.proofs.Bound.{matched-split, bind}
@@ -166,7 +166,7 @@ module _ (agent : Agent) where
               both false o e = refl
 
       module _ (new : Values) (found : List ℕ) (m : matched_values given args [] ≡ Some found) (first count : ℕ) (places : ArePlaces agent cause.fluent first count)
-          (spread : IsSpread agent values cause (sizes agent is.fluent.args) free found first old new) where
+          (spread : IsSpread (effect_of agent values cause) (sizes agent is.fluent.args) free found first old new) where
         abbrev ns : List ℕ
         ns = sizes agent is.fluent.args
 

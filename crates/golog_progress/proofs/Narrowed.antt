@@ -8,7 +8,7 @@ use Rattle.golog_tree.specs.declared.cond.Arg.{Arg}
 use Rattle.golog_tree.specs.Ground.{product, sizes, sort_size}
 use Rattle.golog_semantics.specs.Truth.{Values, arg_value}
 use Rattle.golog_semantics.proofs.GroundNumbers.{factors}
-use Rattle.golog_progress.specs.Effects.{is_next, HeadFits, IsSpread, IsRanged}
+use Rattle.golog_progress.specs.Effects.{is_next, effect_of, HeadFits, IsSpread, IsRanged}
 use Rattle.golog_progress.proofs.Heads.{fixed, next, Fixed, no_more_args}
 use Rattle.golog_progress.proofs.Spread.{at_fixed, ranged-all, part-behind}
 
@@ -42,25 +42,25 @@ module _ (agent : Agent) (cause : CauseItem) (sorts : List ℕ) (args : List Arg
   fixed_of taken = fixed agent cause sort later arg others found taken head_of
 
   module _ (values : Values) (first : ℕ) (old new : Values) where
-    pub spread_next : is_next found arg ≡ true → IsRanged agent values cause (sizes agent later) others found first old size new
-        → IsSpread agent values cause (sizes agent sorts) args found first old new
+    pub spread_next : is_next found arg ≡ true → IsRanged (effect_of agent values cause) (sizes agent later) others found first old size new
+        → IsSpread (effect_of agent values cause) (sizes agent sorts) args found first old new
     spread_next free r =
         let s = ranged-all agent values cause (sizes agent later) others found first old size arg new free both_some.1 r in
-        let t : IsSpread agent values cause (sizes agent (sort ∷ later)) (arg ∷ others) found first old new =
-        subst (λ n. IsSpread agent values cause (n ∷ sizes agent later) (arg ∷ others) found first old new) size_is s in
-        subst (λ ss. IsSpread agent values cause (sizes agent ss) args found first old new) (sym es)
-        (subst (λ xs. IsSpread agent values cause (sizes agent (sort ∷ later)) xs found first old new) (sym ea) t)
+        let t : IsSpread (effect_of agent values cause) (sizes agent (sort ∷ later)) (arg ∷ others) found first old new =
+        subst (λ n. IsSpread (effect_of agent values cause) (n ∷ sizes agent later) (arg ∷ others) found first old new) size_is s in
+        subst (λ ss. IsSpread (effect_of agent values cause) (sizes agent ss) args found first old new) (sym es)
+        (subst (λ xs. IsSpread (effect_of agent values cause) (sizes agent (sort ∷ later)) xs found first old new) (sym ea) t)
 
     pub spread_fixed : is_next found arg ≡ false → (v start : ℕ) → v ≡ arg_value found arg → start ≡ first + v * w
-        → IsSpread agent values cause (sizes agent later) others found start old new
-        → IsSpread agent values cause (sizes agent sorts) args found first old new
+        → IsSpread (effect_of agent values cause) (sizes agent later) others found start old new
+        → IsSpread (effect_of agent values cause) (sizes agent sorts) args found first old new
     spread_fixed taken v start is there r =
         let below : v < sort_size agent sort = subst (λ x. x < sort_size agent sort) (sym is) (fixed_of taken).below in
-        let t : IsSpread agent values cause (sizes agent (sort ∷ later)) (arg ∷ others) found first old new =
+        let t : IsSpread (effect_of agent values cause) (sizes agent (sort ∷ later)) (arg ∷ others) found first old new =
         at_fixed agent values cause (sort_size agent sort) (sizes agent later) arg others found first old new taken v is below both_some.1
-        (subst (λ f. IsSpread agent values cause (sizes agent later) others found f old new) there r) in
-        subst (λ ss. IsSpread agent values cause (sizes agent ss) args found first old new) (sym es)
-        (subst (λ xs. IsSpread agent values cause (sizes agent (sort ∷ later)) xs found first old new) (sym ea) t)
+        (subst (λ f. IsSpread (effect_of agent values cause) (sizes agent later) others found f old new) there r) in
+        subst (λ ss. IsSpread (effect_of agent values cause) (sizes agent ss) args found first old new) (sym es)
+        (subst (λ xs. IsSpread (effect_of agent values cause) (sizes agent (sort ∷ later)) xs found first old new) (sym ea) t)
 
   -- a part lies within the whole
   pub part_within : is_next found arg ≡ false → (v : ℕ) → v ≡ arg_value found arg → v * w + w ≤ count
@@ -80,11 +80,11 @@ pub record Narrowed (agent : Agent) (cause : CauseItem) (sorts : List ℕ) (args
   pub nexts : is_next found arg ≡ true → (c : ℕ) → c < size → HeadFits agent cause later others (found ++ c ∷ [])
   pub rest : is_next found arg ≡ false → HeadFits agent cause later others found
   pub part : is_next found arg ≡ false → (v : ℕ) → v ≡ arg_value found arg → v * product (sizes agent later) + product (sizes agent later) ≤ count
-  pub all : (values : Values) (first : ℕ) (old new : Values) → is_next found arg ≡ true → IsRanged agent values cause (sizes agent later) others found first old size new
-      → IsSpread agent values cause (sizes agent sorts) args found first old new
+  pub all : (values : Values) (first : ℕ) (old new : Values) → is_next found arg ≡ true → IsRanged (effect_of agent values cause) (sizes agent later) others found first old size new
+      → IsSpread (effect_of agent values cause) (sizes agent sorts) args found first old new
   pub one : (values : Values) (first : ℕ) (old new : Values) → is_next found arg ≡ false → (v start : ℕ) → v ≡ arg_value found arg → start ≡ first + v * product (sizes agent later)
-      → IsSpread agent values cause (sizes agent later) others found start old new
-      → IsSpread agent values cause (sizes agent sorts) args found first old new
+      → IsSpread (effect_of agent values cause) (sizes agent later) others found start old new
+      → IsSpread (effect_of agent values cause) (sizes agent sorts) args found first old new
 
 pub narrow : {agent : Agent} {cause : CauseItem} {sorts : List ℕ} {args : List Arg} {found : List ℕ} {sort : ℕ} {later : List ℕ} {arg : Arg} {others : List Arg} {count size : ℕ}
     → HeadFits agent cause sorts args found → sorts ≡ sort ∷ later → args ≡ arg ∷ others → size ≡ sort_size agent sort → count ≡ product (sizes agent sorts) → 0 < count
@@ -115,9 +115,9 @@ ended {agent} {cause} {sorts} {args} {found} head h =
     subst (λ xs. HeadFits agent cause [] xs found) (no_more_args agent cause args found k) k
 
 pub both_ended : {agent : Agent} {cause : CauseItem} {sorts : List ℕ} {args : List Arg} {found : List ℕ} → HeadFits agent cause sorts args found → length sorts ≡ 0
-    → (values : Values) (first : ℕ) (old new : Values) → IsSpread agent values cause [] [] found first old new → IsSpread agent values cause (sizes agent sorts) args found first old new
+    → (values : Values) (first : ℕ) (old new : Values) → IsSpread (effect_of agent values cause) [] [] found first old new → IsSpread (effect_of agent values cause) (sizes agent sorts) args found first old new
 both_ended {agent} {cause} {sorts} {args} {found} head h values first old new s =
     let e : sorts ≡ [] = none-of sorts h in
     let k : HeadFits agent cause [] args found = subst (λ ss. HeadFits agent cause ss args found) e head in
-    subst (λ ss. IsSpread agent values cause (sizes agent ss) args found first old new) (sym e)
-    (subst (λ xs. IsSpread agent values cause [] xs found first old new) (sym (no_more_args agent cause args found k)) s)
+    subst (λ ss. IsSpread (effect_of agent values cause) (sizes agent ss) args found first old new) (sym e)
+    (subst (λ xs. IsSpread (effect_of agent values cause) [] xs found first old new) (sym (no_more_args agent cause args found k)) s)

@@ -12,7 +12,7 @@ use Rattle.golog_tree.specs.Ground.{args_of, product}
 use Rattle.golog_semantics.specs.Truth.{Values, arg_value}
 use Rattle.golog_semantics.specs.Values.{matched_values, value_caused}
 use Rattle.golog_semantics.proofs.NumbersStand.{args-shift}
-use Rattle.golog_progress.specs.Effects.{is_next, IsSpread, IsRanged}
+use Rattle.golog_progress.specs.Effects.{is_next, effect_of, IsSpread, IsRanged}
 
 -- the arguments at a place of a part
 args-at : (n : ℕ) (ns : List ℕ) (a q : ℕ) → a < n → q < product ns → args_of (n ∷ ns) (a * product ns + q) ≡ a ∷ args_of ns q
@@ -55,7 +55,7 @@ matched-free (Var x) args a at found h =
 
 module _ (agent : Agent) (values : Values) (cause : CauseItem) where
   abbrev Spread : List ℕ → List Arg → List ℕ → ℕ → Values → Values → Type 0
-  Spread = IsSpread agent values cause
+  Spread = IsSpread (effect_of agent values cause)
 
   abbrev Caused : Option (List ℕ) → ℕ → ℕ
   Caused = value_caused agent values cause
@@ -125,7 +125,7 @@ module _ (agent : Agent) (values : Values) (cause : CauseItem) where
         wider f (inr h) = let r : v * product ns + product ns ≤ n * product ns = part-behind v n (product ns) below some in inr (omega arith)
 
   abbrev Ranged : List ℕ → List Arg → List ℕ → ℕ → Values → ℕ → Values → Type 0
-  Ranged = IsRanged agent values cause
+  Ranged = IsRanged (effect_of agent values cause)
 
   module _ (ns : List ℕ) (args : List Arg) (found : List ℕ) (start : ℕ) (old : Values) where
     pub ranged-none : Ranged ns args found start old 0 old

@@ -6,14 +6,14 @@ ghost use Rattle.golog_progress.specs.Effects.{is_next};
 use golog_tree::Arg;
 use std::marker::Model;
 
-/// How many arguments the head of a cause has at most.
-const MOST_ARGS: usize = 6;
+/// The most variables that the head of a cause binds.
+const MOST_BINDINGS: usize = 6;
 
 /// The values of the variables of a cause's head that are bound so far, by their numbers. Contracts see
 /// it as their list.
 #[derive(Drop)]
 pub struct Bindings {
-    values: [u8; MOST_ARGS],
+    values: [u8; MOST_BINDINGS],
     count: usize,
 }
 
@@ -33,7 +33,7 @@ impl Bindings {
         ensures { result ≡ [] }
     {
         Bindings {
-            values: [0; MOST_ARGS],
+            values: [0; MOST_BINDINGS],
             count: 0,
         }
     }

@@ -1,144 +1,22 @@
 ghost use Rattle.std.specs.Prelude.{◌≡◌, ℕ, ◌+◌, ◌*◌, ◌<◌, ◌≤◌, [], ◌∷◌, ◌++◌, Some, IsTrue, length, slice_index, take};
 ghost use Rattle.std.specs.List.{list_all};
-ghost use Rattle.golog_tree.specs.Ground.{AreWithin, IsCountable, action_args, args_at, ground_fluents, product, sizes};
+ghost use Rattle.golog_tree.specs.Ground.{AreWithin, action_args, args_at, ground_fluents, product, sizes};
 ghost use Rattle.golog_semantics.specs.Truth.{env_of};
 ghost use Rattle.golog_semantics.specs.Values.{value_caused, after_do, ground_actions};
 ghost use Rattle.golog_semantics.specs.WellFormed.{WellFormed, cause_fits};
 ghost use Rattle.golog_known.specs.Fits.{CondFitsAt, TermFitsAt};
-ghost use Rattle.golog_progress.specs.Effects.{HeadFits, IsSpread, IsRanged, ArePlaces, IsAffected, AreRuled};
+ghost use Rattle.golog_progress.specs.Effects.{HeadFits, IsSpread, IsRanged, ArePlaces, IsAffected, AreRuled, effect_in};
 
 use crate::bindings::{Bindings, bound_by};
+use crate::causing::Causing;
 use golog_known::{Env, chosen, term, value};
-use golog_tree::{Agent, Arg, CauseItem, action_of, fluent_no, sort_size};
-
-/// What a cause, whose variables have these values, makes of a value, given what the causes after it
-/// make of it.
-fn effect(agent: &Agent, cause: &CauseItem, found: &Bindings, values: &[u8], later: u8) -> u8
-    requires countable { IsCountable agent.now }
-    requires few { length found.now ≤ 32 }
-    requires cond { CondFitsAt agent.now cause.now.cond (env_of found.now) }
-    requires term { TermFitsAt agent.now cause.now.term (env_of found.now) }
-    requires whole { length values.now ≡ length (ground_fluents agent.now) }
-    ensures { result ≡ value_caused agent.now values.now cause.now (Some found.now) later }
-{
-    let env = Env::of(found.as_slice());
-    chosen(
-        value(agent, &cause.cond, &env, values),
-        term(agent, &cause.term, &env, values),
-        later,
-    )
-}
+use golog_tree::{Agent, Arg, CauseItem, action_of, args_count, fluent_no, sort_size};
 
 /// Ground things that stand together: the number of the first, and how many there are.
 #[derive(Clone, Copy)]
 struct Places {
     first: usize,
     count: usize,
-}
-
-/// Puts a cause into the values of the ground fluents at these places, whose arguments are of these
-/// sorts, where the variables of its head before these arguments are bound.
-#[cycle(spread)]
-fn spread(
-    agent: &Agent,
-    cause: &CauseItem,
-    sorts: &[u32],
-    args: &[Arg],
-    found: &Bindings,
-    values: &[u8],
-    places: Places,
-    next: &mut [u8],
-)
-    requires countable { IsCountable agent.now }
-    requires head { HeadFits agent.now cause.now sorts.now args.now found.now }
-    requires whole { length values.now ≡ length (ground_fluents agent.now) }
-    requires count { places.count ≡ product (sizes agent.now sorts.now) }
-    requires some { 0 < places.count }
-    requires inside { places.first + places.count ≤ length next.old }
-    ensures { IsSpread agent.now values.now cause.now (sizes agent.now sorts.now) args.now found.now places.first
-        next.old next.new }
-{
-    match (sorts.split_first(), args.split_first()) {
-        (Some((sort, sorts)), Some((arg, args))) => {
-            let size = sort_size(agent, *sort);
-            let count = places.count / size as usize;
-            if found.is_next(*arg) {
-                let places = Places { count, ..places };
-                range_over(agent, cause, size, sorts, args, found, values, places, next);
-            } else {
-                let first = places.first + usize::from(found.value_of(*arg)) * count;
-                spread(
-                    agent,
-                    cause,
-                    sorts,
-                    args,
-                    found,
-                    values,
-                    Places { first, count },
-                    next,
-                );
-            }
-        }
-        (None, _) => {
-            let later = next[places.first];
-            next[places.first] = effect(agent, cause, found, values, later);
-        }
-        (Some(_), None) => {}
-    }
-}
-
-/// Puts a cause into the values of the ground fluents at these places and the parts of the same size
-/// behind them, one for each constant of the next variable.
-#[cycle(spread)]
-fn range_over(
-    agent: &Agent,
-    cause: &CauseItem,
-    size: u32,
-    sorts: &[u32],
-    args: &[Arg],
-    found: &Bindings,
-    values: &[u8],
-    places: Places,
-    next: &mut [u8],
-)
-    requires countable { IsCountable agent.now }
-    requires small { size ≤ 255 }
-    requires head { (c : ℕ) → c < size
-        → HeadFits agent.now cause.now sorts.now args.now (found.now ++ c ∷ []) }
-    requires room { length found.now < 6 }
-    requires whole { length values.now ≡ length (ground_fluents agent.now) }
-    requires count { places.count ≡ product (sizes agent.now sorts.now) }
-    requires some { 0 < places.count }
-    requires inside { places.first + size * places.count ≤ length next.old }
-    ensures { IsRanged agent.now values.now cause.now (sizes agent.now sorts.now) args.now found.now places.first
-        next.old size next.new }
-{
-    for constant in 0..size {
-        let first = places.first + constant as usize * places.count;
-        let places = Places { first, ..places };
-        spread(
-            agent,
-            cause,
-            sorts,
-            args,
-            &found.with(constant as u8),
-            values,
-            places,
-            next,
-        );
-    }
-}
-
-/// How many lists of arguments of these sorts there are.
-fn count_of(agent: &Agent, sorts: &[u32]) -> u32
-    requires countable { IsCountable agent.now }
-    requires few { length sorts.now ≤ 3 }
-    ensures { result ≡ product (sizes agent.now sorts.now) }
-{
-    match sorts.split_first() {
-        None => 1,
-        Some((sort, others)) => sort_size(agent, *sort) * count_of(agent, others),
-    }
 }
 
 /// The places of the ground fluents of a fluent.
@@ -151,7 +29,7 @@ fn places_of(agent: &Agent, fluent: u32) -> Places
     let zeros = [0; 3];
     Places {
         first: fluent_no(agent, fluent, &zeros[..sorts.len()]) as usize,
-        count: count_of(agent, sorts) as usize,
+        count: args_count(agent, sorts) as usize,
     }
 }
 
@@ -173,32 +51,105 @@ fn head_of(cause: &CauseItem) -> [Arg; 6]
     head
 }
 
-/// Puts a cause of an action with these arguments into the values of the ground fluents that it speaks
-/// of, where its head is split at the end of the action's arguments.
-fn affect_by(
-    agent: &Agent,
-    cause: &CauseItem,
-    given: &[Arg],
-    free: &[Arg],
-    args: &[u8],
-    values: &[u8],
-    next: &mut [u8],
-)
-    requires agent { WellFormed agent.now }
-    requires cause { IsTrue (cause_fits agent.now cause.now) }
-    requires args { AreWithin (sizes agent.now (args_at (action_args agent.now) cause.now.action)) args.now }
-    requires head { given.now ++ free.now ≡ cause.now.action_args ++ cause.now.fluent_args }
-    requires even { length given.now ≡ length args.now }
-    requires whole { length values.now ≡ length (ground_fluents agent.now) }
-    requires room { length next.old ≡ length (ground_fluents agent.now) }
-    ensures { IsAffected agent.now values.now cause.now (cause.now.action, args.now) next.old next.new }
-{
-    if let Some(found) = bound_by(given, args, Bindings::new()) {
-        let sorts = agent.fluents.as_slice()[cause.fluent as usize]
-            .args
-            .as_slice();
-        let places = places_of(agent, cause.fluent);
-        spread(agent, cause, sorts, free, &found, values, places, next);
+impl<'a, 'c, 'v> Causing<'a, 'c, 'v> {
+    /// What the cause, whose variables have these values, makes of a value, given what the causes after it
+    /// make of it.
+    fn effect(&self, found: &Bindings, later: u8) -> u8
+        requires few { length found.now ≤ 32 }
+        requires cond { CondFitsAt self.now.agent.now self.now.cause.now.cond (env_of found.now) }
+        requires term { TermFitsAt self.now.agent.now self.now.cause.now.term (env_of found.now) }
+        ensures { result
+            ≡ value_caused self.now.agent.now self.now.values.now self.now.cause.now (Some found.now) later }
+    {
+        let env = Env::of(found.as_slice());
+        chosen(
+            value(self.agent, &self.cause.cond, &env, self.values),
+            term(self.agent, &self.cause.term, &env, self.values),
+            later,
+        )
+    }
+
+    /// Puts the cause into the values of the ground fluents at these places, whose arguments are of these
+    /// sorts, where the variables of its head before these arguments are bound.
+    #[cycle(spread)]
+    fn spread(&self, sorts: &[u32], args: &[Arg], found: &Bindings, places: Places, next: &mut [u8])
+        requires head { HeadFits self.now.agent.now self.now.cause.now sorts.now args.now found.now }
+        requires count { places.count ≡ product (sizes self.now.agent.now sorts.now) }
+        requires some { 0 < places.count }
+        requires inside { places.first + places.count ≤ length next.old }
+        ensures { IsSpread (effect_in self.now) (sizes self.now.agent.now sorts.now) args.now found.now places.first
+            next.old next.new }
+    {
+        match (sorts.split_first(), args.split_first()) {
+            (Some((sort, sorts)), Some((arg, args))) => {
+                let size = sort_size(self.agent, *sort);
+                let count = places.count / size as usize;
+                if found.is_next(*arg) {
+                    let places = Places { count, ..places };
+                    self.range_over(size, sorts, args, found, places, next);
+                } else {
+                    let first = places.first + usize::from(found.value_of(*arg)) * count;
+                    self.spread(sorts, args, found, Places { first, count }, next);
+                }
+            }
+            (None, _) => {
+                let later = next[places.first];
+                next[places.first] = self.effect(found, later);
+            }
+            (Some(_), None) => {}
+        }
+    }
+
+    /// Puts the cause into the values of the ground fluents at these places and the parts of the same size
+    /// behind them, one for each constant of the next variable.
+    #[cycle(spread)]
+    fn range_over(
+        &self,
+        size: u32,
+        sorts: &[u32],
+        args: &[Arg],
+        found: &Bindings,
+        places: Places,
+        next: &mut [u8],
+    )
+        requires small { size ≤ 255 }
+        requires head { (c : ℕ) → c < size
+            → HeadFits self.now.agent.now self.now.cause.now sorts.now args.now (found.now ++ c ∷ []) }
+        requires room { length found.now < 6 }
+        requires count { places.count ≡ product (sizes self.now.agent.now sorts.now) }
+        requires some { 0 < places.count }
+        requires inside { places.first + size * places.count ≤ length next.old }
+        ensures { IsRanged (effect_in self.now) (sizes self.now.agent.now sorts.now) args.now found.now places.first
+            next.old size next.new }
+    {
+        for constant in 0..size {
+            let first = places.first + constant as usize * places.count;
+            let places = Places { first, ..places };
+            self.spread(sorts, args, &found.with(constant as u8), places, next);
+        }
+    }
+
+    /// Puts the cause of an action with these arguments into the values of the ground fluents that it speaks
+    /// of, where its head is split at the end of the action's arguments.
+    fn affect_by(&self, given: &[Arg], free: &[Arg], args: &[u8], next: &mut [u8])
+        requires agent { WellFormed self.now.agent.now }
+        requires cause { IsTrue (cause_fits self.now.agent.now self.now.cause.now) }
+        requires args { AreWithin (sizes self.now.agent.now
+            (args_at (action_args self.now.agent.now) self.now.cause.now.action)) args.now }
+        requires head { given.now ++ free.now ≡ self.now.cause.now.action_args ++ self.now.cause.now.fluent_args }
+        requires even { length given.now ≡ length args.now }
+        requires room { length next.old ≡ length (ground_fluents self.now.agent.now) }
+        ensures { IsAffected self.now.agent.now self.now.values.now self.now.cause.now
+            (self.now.cause.now.action, args.now) next.old next.new }
+    {
+        let cause = self.cause;
+        if let Some(found) = bound_by(given, args, Bindings::new()) {
+            let sorts = self.agent.fluents.as_slice()[cause.fluent as usize]
+                .args
+                .as_slice();
+            let places = places_of(self.agent, cause.fluent);
+            self.spread(sorts, free, &found, places, next);
+        }
     }
 }
 
@@ -216,7 +167,12 @@ fn affect(agent: &Agent, cause: &CauseItem, args: &[u8], values: &[u8], next: &m
     let count = cause.action_args.len() + cause.fluent_args.len();
     let given = &head[..args.len()];
     let free = &head[args.len()..count];
-    affect_by(agent, cause, given, free, args, values, next);
+    let causing = Causing {
+        agent,
+        cause,
+        values,
+    };
+    causing.affect_by(given, free, args, next);
 }
 
 /// Puts these causes into the values after an action, the last of them first.

@@ -3,6 +3,7 @@
 
 mod bindings;
 mod causes;
+mod causing;
 mod laws;
 mod state;
 

@@ -2,6 +2,7 @@ ghost use Rattle.std.specs.Prelude.{◌≡◌, [], ◌++◌, IfOk, Some};
 ghost use Rattle.golog_regress.specs.Causes.{matching as spec_matching, guarded as spec_guarded, is_plainly_true as spec_is_plainly_true, choice as spec_choice, layer as spec_layer, layered as spec_layered, sorts_of as spec_sorts_of, chain as spec_chain};
 ghost use Rattle.golog_regress.specs.Images.{cond_image, term_image};
 
+use crate::change::Change;
 use crate::happened::Happened;
 use crate::matching::{Matched, matching};
 use crate::substitute::{cond_with, term_with};
@@ -162,25 +163,24 @@ fn given_of(alloc: Global, happened: &Happened, args: &[Arg]) -> Result<List<Arg
 }
 
 /// What the causes make of a fluent at these arguments: a term over the situation before the action.
-pub fn chain(
+pub(crate) fn chain(
     alloc: Global,
-    agent: &Agent,
-    causes: &[CauseItem],
-    happened: &Happened,
+    change: &Change<'_>,
     fluent: u32,
     args: &[Arg],
 ) -> Result<Term, NoMemory>
-    ensures { IfOk result (λ t. t ≡ spec_chain agent.now happened.now causes.now fluent args.now) }
+    ensures { IfOk result (λ t. t
+        ≡ spec_chain change.now.agent.now change.now.happened.now change.now.causes.now fluent args.now) }
 {
-    let sorts = sorts_of(alloc, agent, happened, fluent)?;
-    let given = given_of(alloc, happened, args)?;
+    let sorts = sorts_of(alloc, change.agent, change.happened, fluent)?;
+    let given = given_of(alloc, change.happened, args)?;
     let mut term = Term::Fluent {
         fluent,
         args: List::copy_of(alloc, args)?,
     };
-    for index in (0..causes.len()).rev() {
-        let cause = &causes[index];
-        if cause.action == happened.action && cause.fluent == fluent {
+    for index in (0..change.causes.len()).rev() {
+        let cause = &change.causes[index];
+        if cause.action == change.happened.action && cause.fluent == fluent {
             term = layer(alloc, cause, sorts.as_slice(), given.as_slice(), term)?;
         }
     }

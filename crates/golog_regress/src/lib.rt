@@ -2,6 +2,7 @@
 #![tactic(auto)]
 
 mod causes;
+mod change;
 mod event;
 mod happened;
 mod matching;

@@ -5,6 +5,7 @@ ghost use Rattle.golog_semantics.specs.WellFormed.{WellFormed};
 ghost use Rattle.golog_regress.specs.Causes.{action_sorts};
 ghost use Rattle.golog_regress.specs.Regression.{EventFits, IsRegressed};
 
+use crate::change::Change;
 use crate::event::Event;
 use crate::happened::Happened;
 use crate::taking_back::cond_back;
@@ -46,7 +47,12 @@ fn before_action(alloc: Global, agent: &Agent, cond: &Cond, action: u32) -> Resu
         sorts: sorts_of_action(alloc, agent, ground.item)?,
         args: constants(alloc, &ground.args[..usize::from(ground.count)])?,
     };
-    cond_back(alloc, agent, &happened, agent.causes.as_slice(), cond)
+    let change = Change {
+        agent,
+        happened: &happened,
+        causes: agent.causes.as_slice(),
+    };
+    cond_back(alloc, &change, cond)
 }
 
 /// The condition before a ground fluent is sensed to have a value: sensing is one cause, of an action
@@ -77,7 +83,12 @@ fn before_sensing(
         sorts: List::new(alloc),
         args: List::new(alloc),
     };
-    let before = cond_back(alloc, agent, &happened, slice::from_ref(&cause), cond);
+    let change = Change {
+        agent,
+        happened: &happened,
+        causes: slice::from_ref(&cause),
+    };
+    let before = cond_back(alloc, &change, cond);
     drop(happened);
     drop(cause);
     before

@@ -1,7 +1,7 @@
 -- Whether some block at the front of a program weighs, by its parts.
-use Rattle.std.proofs.Common.{◌≡◌, ℕ, suc, ◌+◌, ◌-◌, ◌<◌, ◌≤◌, Bool, true, false, ◌||◌, if◌then◌else◌, List, [], ◌∷◌, refl, sym, ap, ◌∙◌, subst, arith}
+use Rattle.std.proofs.Common.{◌≡◌, ℕ, ◌+◌, ◌-◌, ◌<◌, ◌≤◌, Bool, true, false, ◌||◌, if◌then◌else◌, List, [], ◌∷◌, refl, sym, ap, ◌∙◌, subst, arith}
 use Rattle.std.specs.Prelude.{Result, IfOk}
-use Rattle.std.specs.List.{flat_map, list_any, range_with_len}
+use Rattle.std.specs.List.{flat_map, list_any}
 use Rattle.std.proofs.lemmas.List.Folds.{list_any-append}
 use Rattle.golog_tree.specs.declared.agent.Agent.{Agent}
 use Rattle.golog_tree.specs.declared.cond.Arg.{Arg}
@@ -19,6 +19,7 @@ use Rattle.golog_semantics.specs.Program.{put_arg, body_of}
 use Rattle.golog_semantics.specs.Guarded.{front, IsGuarded}
 use Rattle.golog_semantics.specs.Blocks.{is_kept}
 use Rattle.golog_semantics.specs.Heavy.{Reached, blocks_step}
+use Rattle.golog_ways.proofs.Some.{from, from-next}
 use Rattle.golog_search.specs.Weighing.{blocks_at, some_weighs, weighs_by, weighs_unless_kept}
 use Rattle.golog_search.proofs.FrontBlocksUnfold.{front_blocks-out}
 
@@ -34,15 +35,7 @@ pub any-flat : (f : Reached → Bool) (g : ℕ → List Reached) (xs : List ℕ)
 any-flat f g [] = refl
 any-flat f g (x ∷ xs) = list_any-append f (g x) (flat_map g xs) ∙ ap (λ b. list_any f (g x) || b) (any-flat f g xs)
 
--- one of the constants from this one on
-abbrev from : (ℕ → Bool) → ℕ → ℕ → Bool
-from f i n = list_any f (range_with_len i (n - i))
-
-from-next : (f : ℕ → Bool) (i n : ℕ) → i < n → from f i n ≡ (f i || from f (i + 1) n)
-from-next f i n h =
-    let e : n - i ≡ suc (n - (i + 1)) = omega arith in
-    rw e refl
-
+-- none of the constants behind the last
 from-end : (f : ℕ → Bool) (i n : ℕ) → n ≤ i → from f i n ≡ false
 from-end f i n h =
     let e : n - i ≡ 0 = omega arith in

@@ -1,4 +1,7 @@
-use golog_semantics::Move;
+ghost use Rattle.std.specs.Prelude.{◌≡◌};
+ghost use Rattle.golog_search.specs.Laws.{blocked_answer};
+
+use golog_semantics::{Answer, Move};
 
 /// What a program does next.
 #[derive(Drop)]
@@ -24,4 +27,17 @@ pub enum Blocked {
     Depth,
     /// No step and no end is possible.
     Stuck,
+}
+
+impl Blocked {
+    /// The answer of a program that is blocked so.
+    pub fn answer(self) -> Answer
+        ensures { result ≡ blocked_answer self }
+    {
+        match self {
+            Blocked::Unknown => Answer::Unknown,
+            Blocked::Depth => Answer::Depth,
+            Blocked::Stuck => Answer::Stuck,
+        }
+    }
 }

@@ -3,8 +3,8 @@ use crate::reach::FirstStep;
 use crate::told::Told;
 use golog_progress::State;
 use golog_semantics::Move;
-use golog_tree::{Agent, Prog, Way};
-use golog_ways::{Blocks, Reach, Stop};
+use golog_tree::Agent;
+use golog_ways::{Blocks, Following, Reach, Stop};
 use std::alloc::Global;
 
 /// Tells the steps of search blocks in a state by what is told of the runs under way and by searching, as far as
@@ -33,17 +33,14 @@ impl<'a> Blocks for Searches<'a> {
         alloc: Global,
         agent: &Agent,
         _values: &[u8],
-        depth: u32,
-        fuel: u32,
-        body: &Prog,
-        rest: &[Way],
+        following: &Following<'_>,
     ) -> Result<Option<Move>, Stop> {
-        let block = block_of(alloc, depth, fuel, body)?;
+        let block = block_of(alloc, following.depth, following.fuel, following.body)?;
         match first_of_block(
             alloc,
             agent,
             &block,
-            rest,
+            following.rest,
             self.state,
             self.bounded,
             self.told,
@@ -58,17 +55,14 @@ impl<'a> Blocks for Searches<'a> {
         alloc: Global,
         agent: &Agent,
         _values: &[u8],
-        depth: u32,
-        fuel: u32,
-        body: &Prog,
-        rest: &[Way],
+        following: &Following<'_>,
     ) -> Result<Reach, Stop> {
-        let block = block_of(alloc, depth, fuel, body)?;
+        let block = block_of(alloc, following.depth, following.fuel, following.body)?;
         let reach = reach_of_block(
             alloc,
             agent,
             &block,
-            rest,
+            following.rest,
             self.state,
             self.bounded,
             self.told,

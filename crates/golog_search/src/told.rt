@@ -6,9 +6,8 @@ ghost use Rattle.golog_ways.specs.Searched.{IsSearched};
 ghost use Rattle.golog_search.specs.Told.{AreTold, told_at, told_in};
 
 use golog_base::{List, NoMemory};
-use golog_memo::{are_same_ways, is_same_prog};
 use golog_progress::State;
-use golog_tree::{Agent, Prog, Way, copy_prog};
+use golog_tree::{Agent, Prog, Way, are_same_ways, copy_prog, is_same_prog};
 use golog_ways::{Keep, copy_ways};
 use std::alloc::Global;
 

@@ -1,12 +1,13 @@
 -- Watches in their order: none yet, one used again, one more, and what the last of them tells.
-use Rattle.std.proofs.Common.{◌≡◌, ℕ, zero, suc, ◌+◌, ◌-◌, ◌<◌, ◌≤◌, Bool, true, false, if◌then◌else◌, Option, Some, None, Result, Ok, Err, List, [], ◌∷◌, ◌++◌, length, take, drop, get_or, refl, sym, ap, ◌∙◌, subst, arith}
+use Rattle.std.proofs.Common.{◌≡◌, ℕ, zero, suc, ◌+◌, ◌-◌, ◌<◌, ◌≤◌, Bool, true, false, if◌then◌else◌, Option, Some, Result, Ok, Err, List, [], ◌∷◌, ◌++◌, length, take, drop, refl, sym, ap, ◌∙◌, subst, arith}
 use Rattle.std.specs.Prelude.{◌==◌, IfSome, OnErr, OnOk, option_map, slice_get, slice_index_or}
-use Rattle.std.specs.List.{All, position_from, remove}
+use Rattle.std.specs.List.{All, position, remove}
 use Rattle.std.proofs.lemmas.Bool.{eq-eqb, eqb-false, ne_eqb}
-use Rattle.std.proofs.lemmas.List.{at_drop_all, at_drop_more, drop_all, length-append, length-drop}
+use Rattle.std.proofs.lemmas.List.{drop_all, length-append, length-drop}
 use lib.Seq.{take_all}
 use mathlib.Core.List.{append-nil}
 use Rattle.std.proofs.lemmas.List.Edits.{length-remove}
+use Rattle.std.proofs.lemmas.List.Quantifiers.{position-Some}
 use Rattle.std.proofs.lemmas.Option.{get_or_from_slice_get, slice_get_within}
 use Rattle.std.proofs.lemmas.List.Elements.{All-append, All-drop, All-nil, All-take}
 use Rattle.golog_tree.specs.declared.agent.Agent.{Agent}
@@ -15,7 +16,6 @@ use Rattle.golog_semantics.specs.Search.{Run}
 use Rattle.golog_watch.specs.declared.watch.Watch.{Watch}
 use Rattle.golog_watch.specs.declared.watches.Watches.{Watches}
 use Rattle.golog_watch.specs.Watched.{AreWatches, IsWatch, LastKeeps, Tells, UsedLast, is_left, keeps, most_watches, with_room}
-use Rattle.golog_watch.proofs.Opening.{by-bool}
 use Rattle.golog_watch.proofs.Telling.{get-last, own-left, told-left}
 
 one-alone : (P : Watch → Type 0) (w : Watch) → P w → All P (w ∷ [])
@@ -25,57 +25,10 @@ one-alone P w h (suc k) d l = absurd (omega arith)
 pub at-get : (P : Watch → Type 0) (ws : List Watch) (k : ℕ) (w : Watch) → slice_get ws k ≡ Some w → All P ws → P w
 at-get P ws k w e h = subst P (get_or_from_slice_get ws k w w e) (h k w (slice_get_within ws k w e))
 
-first-is : {A : Type 0} (b : Bool) (i n : A) (o : Option A) → b ≡ true → (if b then Some i else o) ≡ Some n → i ≡ n
-first-is true i n o t e = cc
-first-is false i n o t e = absurd (cc)
-
-later-is : {A : Type 0} (b : Bool) (i n : A) (o : Option A) → b ≡ false → (if b then Some i else o) ≡ Some n → o ≡ Some n
-later-is true i n o t e = absurd (cc)
-later-is false i n o t e = e
-
-shift : (i n l : ℕ) → (i + 1 ≤ n) × (n < i + 1 + l) → (i ≤ n) × (n < i + suc l)
-shift i n l (a, b) = (omega arith, omega arith)
-
-here : (i n l : ℕ) → i ≡ n → (i ≤ n) × (n < i + suc l)
-here i n l e = (omega arith, omega arith)
-
 -- where the first that passes stands
-pub place-in : (f : Watch → Bool) (ws : List Watch) (i n : ℕ) → position_from f i ws ≡ Some n → (i ≤ n) × (n < i + length ws)
-place-in f [] i n e = absurd (cc)
-place-in f (w ∷ ws) i n e =
-    by-bool (f w) (λ t. here i n (length ws) (first-is (f w) i n (position_from f (i + 1) ws) t e))
-    (λ t. shift i n (length ws) (place-in f ws (i + 1) n (later-is (f w) i n (position_from f (i + 1) ws) t e)))
-
--- the watches still to be tried, the first of which passes or doesn't, or of which there are none
-module _ (f : Watch → Bool) (ws : List Watch) (i : ℕ) where
-  module _ (w : Watch) where
-    place-next : i < length ws → w ≡ get_or ws i w → position_from f i (drop i ws) ≡ position_from f i (w ∷ drop (i + 1) ws)
-    place-next less e =
-        at_drop_more (position_from f i) ws i w less ∙ ap (λ (v : Watch). position_from f i (v ∷ drop (i + 1) ws)) (sym e)
-
-    pub place-here : i < length ws → w ≡ get_or ws i w → f w ≡ true → position_from f i (drop i ws) ≡ Some i
-    place-here less e h = place-next less e ∙ ap (λ b. if b then Some i else position_from f (i + 1) (drop (i + 1) ws)) h
-
-    pub place-later : i < length ws → w ≡ get_or ws i w → f w ≡ false → position_from f i (drop i ws) ≡ position_from f (i + 1) (drop (i + 1) ws)
-    place-later less e h = place-next less e ∙ ap (λ b. if b then Some i else position_from f (i + 1) (drop (i + 1) ws)) h
-
-  pub no-place : length ws ≤ i → position_from f i (drop i ws) ≡ None
-  no-place l = at_drop_all (position_from f i) ws i l
-
--- the first that passes does
-place-passes : (f : Watch → Bool) (ws : List Watch) (i n : ℕ) (d : Watch) → position_from f i ws ≡ Some n → f (slice_index_or ws (n - i) d) ≡ true
-place-passes f [] i n d e = absurd (cc)
-place-passes f (w ∷ ws) i n d e =
-    by-bool (f w)
-    (λ t.
-    let same : i ≡ n = first-is (f w) i n (position_from f (i + 1) ws) t e in
-    let none : n - i ≡ 0 = omega arith in
-    subst (λ k. f (slice_index_or (w ∷ ws) k d) ≡ true) (sym none) t)
-    (λ t.
-    let later : position_from f (i + 1) ws ≡ Some n = later-is (f w) i n (position_from f (i + 1) ws) t e in
-    let l : i + 1 ≤ n = (place-in f ws (i + 1) n later).0 in
-    let one : n - i ≡ suc (n - (i + 1)) = omega arith in
-    subst (λ k. f (slice_index_or (w ∷ ws) k d) ≡ true) (sym one) (place-passes f ws (i + 1) n d later))
+pub place-in : (f : Watch → Bool) (ws : List Watch) (n : ℕ) → position f ws ≡ Some n → n < length ws
+place-in f [] n e = absurd (cc)
+place-in f (w ∷ ws) n e = (position-Some f (w ∷ ws) n w e).0
 
 -- what stands after a write to all of the slice that was lent
 written-back : (ws new : List Watch) (len : ℕ) → len ≡ length ws → length new ≡ length ws → take len (new ++ drop (length new) ws) ≡ new
@@ -115,12 +68,10 @@ module _ (p : Prog) (rest : Run) where
   pub last-keeps : (ws others : List Watch) (w : Watch) → ws ≡ others ++ w ∷ [] → keeps p rest w ≡ true → LastKeeps p rest ws
   last-keeps ws others w e k = ap (option_map (keeps p rest)) (last-is ws others w e) ∙ ap Some k
 
-  pub used-last : (ws new : List Watch) (place : ℕ) → place < length ws → UsedLast ws place new → position_from (keeps p rest) 0 ws ≡ Some place → LastKeeps p rest new
+  pub used-last : (ws new : List Watch) (place : ℕ) → place < length ws → UsedLast ws place new → position (keeps p rest) ws ≡ Some place → LastKeeps p rest new
   used-last [] new place l u e = absurd (omega arith)
   used-last (w ∷ ws) new place l u e =
-      let same : place - 0 ≡ place = omega arith in
-      last-keeps new (remove (w ∷ ws) place) (slice_index_or (w ∷ ws) place w) (u w)
-      (subst (λ n. keeps p rest (slice_index_or (w ∷ ws) n w) ≡ true) same (place-passes (keeps p rest) (w ∷ ws) 0 place w e))
+      last-keeps new (remove (w ∷ ws) place) (slice_index_or (w ∷ ws) place w) (u w) (position-Some (keeps p rest) (w ∷ ws) place w e).1
 
   pub own-keeps : (w : Watch) → w.body ≡ p → w.rest ≡ rest → keeps p rest w ≡ true
   own-keeps w body run =

@@ -169,10 +169,9 @@ module _ (agent : Agent) where
   told-whole p [] conds c h e = subst (λ o. IfSome o (Tells agent p [])) e h.each
   told-whole p (w ∷ run) conds c h e = subst (λ o. IfSome o (Tells agent p (w ∷ run))) e h.each.1
 
-  pub next-of : (p : Prog) (run : Run) (w : Way) (later : Run) (conds : List Cond) (next whole : Cond) → run ≡ w ∷ later → slice_get conds (length later) ≡ Some next → Tells agent p run whole → IsNext agent p run conds whole
-  next-of p run w later conds next whole is n t =
+  pub next-of : (p : Prog) (w : Way) (later : Run) (conds : List Cond) (next whole : Cond) → slice_get conds (length later) ≡ Some next → Tells agent p (w ∷ later) whole → IsNext agent p (w ∷ later) conds whole
+  next-of p w later conds next whole n t =
       let l = slice_get_within conds (length later) next n in
-      let k : length run ≡ suc (length later) = ap length is in
       record { tells = t; next = omega arith }
 
   pub told-if : (p : Prog) (run : Run) (conds : List Cond) → TellEach agent p run conds → IfSome (slice_get conds (length run)) (Tells agent p run)

@@ -3,9 +3,9 @@
 -- That a condition on what is known after an action is taken back to one on what is known before it is
 -- regression (Reiter 2001). That a run is watched by the conditions of all that is left of it is this project's
 -- own.
-use Rattle.std.specs.Prelude.{◌≡◌, ◌⊎◌, ℕ, suc, ◌-◌, ◌≤◌, ◌==◌, nat_lt, Bool, true, not, ◌&&◌, if◌then◌else◌, IsTrue, Some, IfSome, MatchOption, option_map, All, List, [], ◌∷◌, ◌++◌, length, map, filter, drop, slice_get, slice_index_or}
+use Rattle.std.specs.Prelude.{◌≡◌, ◌⊎◌, ℕ, suc, ◌-◌, ◌≤◌, ◌==◌, nat_lt, Bool, true, not, ◌&&◌, if◌then◌else◌, IsTrue, Some, IfSome, IsSome, MatchOption, option_map, All, List, [], ◌∷◌, ◌++◌, length, map, filter, drop, slice_get, slice_index_or}
 use Rattle.std.specs.Cmp.Lexicographic.{pointwise}
-use Rattle.std.specs.List.{list_any, position_from, remove}
+use Rattle.std.specs.List.{list_any, position, remove}
 use Rattle.golog_tree.specs.declared.agent.Agent.{Agent}
 use Rattle.golog_tree.specs.declared.cond.Cond.{Cond}
 use Rattle.golog_tree.specs.declared.prog.Label.{Label}
@@ -63,6 +63,10 @@ is_left p (w ∷ run) q rest =
 abbrev pub keeps : Prog → Run → Watch → Bool
 keeps p rest w = is_left w.body w.rest p rest
 
+-- the watch has a condition that tells whether what is left of its run goes through
+abbrev pub IsTold : Watch → Run → Type 0
+IsTold w rest = IsSome (slice_get w.conds (length rest))
+
 -- the most watches that are kept
 abbrev pub most_watches : ℕ
 most_watches = 16
@@ -85,7 +89,7 @@ pub record IsNewest (p : Prog) (rest : Run) (ws new : List Watch) : Type 0 where
 -- the first watch that keeps the run stands last, or where none does a new one
 abbrev pub IsRecalled : Prog → Run → List Watch → List Watch → Type 0
 IsRecalled p rest ws new =
-    MatchOption (position_from (keeps p rest) 0 ws) (IsNewest p rest ws new) (λ place. UsedLast ws place new)
+    MatchOption (position (keeps p rest) ws) (IsNewest p rest ws new) (λ place. UsedLast ws place new)
 
 -- no watch but the first is gone, and that only where there was no room for one more
 abbrev pub StayThere : List Watch → List Watch → Type 0

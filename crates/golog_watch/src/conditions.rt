@@ -34,17 +34,15 @@ fn first_and(
     alloc: Global,
     agent: &Agent,
     prog: &Prog,
-    run: &[Way],
     way: &Way,
     later: &[Way],
     opened: Cond,
     next: &Cond,
 ) -> Result<Cond, NoMemory>
     requires formed { WellFormed agent.now }
-    requires run { run.now ≡ way.now ∷ later.now }
     requires opens { Opens agent.now prog.now way.now opened }
     requires tells { Tells agent.now way.now.left later.now next.now }
-    ensures { IfOk result (Tells agent.now prog.now run.now) }
+    ensures { IfOk result (Tells agent.now prog.now (way.now ∷ later.now)) }
 {
     match before(alloc, agent, next, way.label) {
         Ok(next) => conjunction(alloc, opened, next),
@@ -84,17 +82,15 @@ fn whole_of(
     alloc: Global,
     agent: &Agent,
     prog: &Prog,
-    run: &[Way],
     way: &Way,
     later: &[Way],
     opened: Cond,
     conds: &List<Cond>,
 ) -> Result<Option<Cond>, NoMemory>
     requires formed { WellFormed agent.now }
-    requires run { run.now ≡ way.now ∷ later.now }
     requires opens { Opens agent.now prog.now way.now opened }
     requires told { AreTold agent.now way.now.left later.now conds.now }
-    ensures { IfOk result (λ found. IfSome found (IsNext agent.now prog.now run.now conds.now)) }
+    ensures { IfOk result (λ found. IfSome found (IsNext agent.now prog.now (way.now ∷ later.now) conds.now)) }
 {
     match conds.get(later.len()) {
         None => {
@@ -102,7 +98,7 @@ fn whole_of(
             Ok(None)
         }
         Some(next) => {
-            let whole = first_and(alloc, agent, prog, run, way, later, opened, next)?;
+            let whole = first_and(alloc, agent, prog, way, later, opened, next)?;
             Ok(Some(whole))
         }
     }
@@ -113,19 +109,17 @@ fn with_first(
     alloc: Global,
     agent: &Agent,
     prog: &Prog,
-    run: &[Way],
     way: &Way,
     later: &[Way],
     opened: Cond,
     conds: List<Cond>,
 ) -> Result<List<Cond>, NoMemory>
     requires formed { WellFormed agent.now }
-    requires run { run.now ≡ way.now ∷ later.now }
     requires opens { Opens agent.now prog.now way.now opened }
     requires told { AreTold agent.now way.now.left later.now conds }
-    ensures { IfOk result (AreTold agent.now prog.now run.now) }
+    ensures { IfOk result (AreTold agent.now prog.now (way.now ∷ later.now)) }
 {
-    match whole_of(alloc, agent, prog, run, way, later, opened, &conds) {
+    match whole_of(alloc, agent, prog, way, later, opened, &conds) {
         Ok(Some(whole)) => with_small(conds, whole),
         Ok(None) => Ok(conds),
         Err(refused) => {
@@ -156,7 +150,7 @@ pub fn conditions(
         return Ok(List::new(alloc));
     };
     match conditions(alloc, agent, &way.left, later) {
-        Ok(conds) => with_first(alloc, agent, prog, run, way, later, opened, conds),
+        Ok(conds) => with_first(alloc, agent, prog, way, later, opened, conds),
         Err(refused) => {
             drop(opened);
             Err(refused)

@@ -1,7 +1,7 @@
 ghost use Rattle.std.specs.Prelude.{◌≡◌, None, Some, if◌then◌else◌, IfOk, IfSome, IsTrue, not};
 ghost use Rattle.golog_semantics.specs.BlockFree.{has_block};
 ghost use Rattle.golog_semantics.specs.ProgFits.{fits};
-ghost use Rattle.golog_semantics.specs.Same.{same_label, same_way};
+ghost use Rattle.golog_semantics.specs.Same.{same_way};
 ghost use Rattle.golog_semantics.specs.Ways.{is_empty};
 ghost use Rattle.golog_semantics.specs.WellFormed.{WellFormed};
 ghost use Rattle.golog_ways.specs.FrontLists.{guarded_of};
@@ -9,21 +9,10 @@ ghost use Rattle.golog_watch.specs.Watched.{Opens, conds_for};
 
 use crate::looks::is_light;
 use golog_base::{List, NoMemory};
-use golog_memo::is_same_prog;
-use golog_tree::{Agent, Cond, Label, Prog, Way, copy_cond};
+use golog_memo::is_same_label;
+use golog_tree::{Agent, Cond, Prog, Way, copy_cond, is_same_prog};
 use golog_ways::{Front, fronts};
 use std::alloc::Global;
-
-/// Whether two steps do the same.
-fn is_same_label(one: Label, other: Label) -> bool
-    ensures { result ≡ same_label one other }
-{
-    match (one, other) {
-        (Label::Quiet, Label::Quiet) => true,
-        (Label::Do(action), Label::Do(another)) => action == another,
-        _ => false,
-    }
-}
 
 /// Whether the front is this step.
 fn is_step(front: &Front, way: &Way) -> bool

@@ -1,4 +1,4 @@
-ghost use Rattle.std.specs.Prelude.{◌≡◌, IfOk, IfSome, IsTrue, length, not, slice_get};
+ghost use Rattle.std.specs.Prelude.{◌≡◌, IfOk, IfSome, IsOk, IsTrue, length, not, slice_get};
 ghost use Rattle.golog_semantics.specs.BlockFree.{has_block};
 ghost use Rattle.golog_semantics.specs.Blocks.{goes_through as leads_to_final};
 ghost use Rattle.golog_semantics.specs.Fits.{cond_fits, nothing_bound};
@@ -7,15 +7,14 @@ ghost use Rattle.golog_semantics.specs.SortLaws.{AreInSorts};
 ghost use Rattle.golog_semantics.specs.Ways.{is_so};
 ghost use Rattle.golog_semantics.specs.WellFormed.{WellFormed};
 ghost use Rattle.golog_ways.specs.Searched.{IsSearched};
-ghost use Rattle.golog_watch.specs.Watched.{IsWatch, StaysKept, Tells};
+ghost use Rattle.golog_watch.specs.Watched.{IsTold, IsWatch, StaysKept, Tells};
 ghost use Rattle.golog_watch.specs.Watched.{is_left as is_left_of, is_whole as is_whole_of, keeps as keeps_run};
 
 use crate::conditions::conditions;
 use golog_base::{List, NoMemory};
 use golog_known::{Env, value};
-use golog_memo::{are_same_ways, is_same_prog};
 use golog_progress::State;
-use golog_tree::{Agent, Cond, Prog, Way, copy_prog};
+use golog_tree::{Agent, Cond, Prog, Way, are_same_ways, copy_prog, is_same_prog};
 use golog_ways::{Mode, copy_ways, goes_through, holds};
 use std::alloc::Global;
 
@@ -76,7 +75,7 @@ impl Watch {
 
     /// Whether the run goes through from a state: each of its ways is a certain step of the program left, and
     /// where they lead the program certainly may end. It does where it went through from a state in which less
-    /// was known.
+    /// was known. Takes no memory where the watch has a condition that tells it.
     pub fn still(&self, alloc: Global, agent: &Agent, state: &State) -> Result<bool, NoMemory>
         requires formed { WellFormed agent.now }
         requires watch { IsWatch agent.now self.now }
@@ -84,6 +83,7 @@ impl Watch {
         ensures still { IfOk result (λ b. b
             ≡ leads_to_final agent.now self.now.body self.now.rest state.now) }
         ensures kept { IfOk result (StaysKept agent.now self.now.body self.now.rest state.now) }
+        ensures told { IsTold self.now self.now.rest → IsOk result }
     {
         self.still_left(alloc, agent, &self.body, self.rest.as_slice(), state)
     }
@@ -101,7 +101,8 @@ impl Watch {
         requires searched { IsSearched agent.now body.now state.now }
         requires tells { IfSome (slice_get self.now.conds (length rest.now))
             (Tells agent.now body.now rest.now) }
-        ensures { IfOk result (λ b. b ≡ leads_to_final agent.now body.now rest.now state.now) }
+        ensures still { IfOk result (λ b. b ≡ leads_to_final agent.now body.now rest.now state.now) }
+        ensures told { IsTold self.now rest.now → IsOk result }
     {
         match self.conds.get(rest.len()) {
             Some(cond) => Ok(is_certain(agent, cond, state)),

@@ -1,5 +1,5 @@
 ghost use Rattle.std.specs.Prelude.{◌≡◌, ◌<◌, [], ◌∷◌, ◌++◌, IfOk, IsTrue, OnErr, OnOk, length, not};
-ghost use Rattle.std.specs.List.{position_from};
+ghost use Rattle.std.specs.List.{position};
 ghost use Rattle.golog_tree.specs.declared.agent.Agent.{Agent as AnyAgent};
 ghost use Rattle.golog_semantics.specs.BlockFree.{has_block};
 ghost use Rattle.golog_semantics.specs.Blocks.{goes_through as leads_to_final};
@@ -26,14 +26,9 @@ pub struct Watches {
 
 /// The place of the first watch that keeps the run.
 fn place_of(watches: &[Watch], body: &Prog, rest: &[Way]) -> Option<usize>
-    ensures { result ≡ position_from (keeps body.now rest.now) 0 watches.now }
+    ensures { result ≡ position (keeps body.now rest.now) watches.now }
 {
-    for (place, watch) in watches.iter().enumerate() {
-        if watch.keeps(body, rest) {
-            return Some(place);
-        }
-    }
-    None
+    watches.iter().position(|watch| watch.keeps(body, rest))
 }
 
 impl Watches {

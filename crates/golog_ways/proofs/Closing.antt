@@ -189,35 +189,30 @@ module _ (agent : Agent) where
       few-args agent.procs item args f.params (and_cases (option_map_or (fits_params args) (slice_get agent.procs item) false) _ (level r c (Call item args) is)).0
 
 module _ {agent : Agent} {r p q : Prog} where
-  pub choice_parts : IsClosed agent r → r ≡ prog.Choice p q → PartsOf agent r p q
-  choice_parts c e =
-      let is : out-Prog r ≡ Choice p q = ap out-Prog e ∙ prog.outs-Choice p q in
-      let k = and_cases (prog_fits agent p (outside agent c.in_block)) (prog_fits agent q (outside agent c.in_block)) (level agent r c (Choice p q) is) in
-      let h = ap (λ (f : Front). f.height) (front-at agent r (Choice p q) is) in
+  -- two parts that fit as the program does, and lead less deep
+  both_parts : (c : IsClosed agent r) → (prog_fits agent p (outside agent c.in_block) && prog_fits agent q (outside agent c.in_block)) ≡ true
+      → height agent r ≡ 1 + max (height agent p) (height agent q) → PartsOf agent r p q
+  both_parts c fit h =
+      let k = and_cases (prog_fits agent p (outside agent c.in_block)) (prog_fits agent q (outside agent c.in_block)) fit in
       record {
         one = record { closed_too = closed agent c.in_block p k.0; lower = omega arith };
         other = record { closed_too = closed agent c.in_block q k.1; lower = omega arith };
       }
+
+  pub choice_parts : IsClosed agent r → r ≡ prog.Choice p q → PartsOf agent r p q
+  choice_parts c e =
+      let is : out-Prog r ≡ Choice p q = ap out-Prog e ∙ prog.outs-Choice p q in
+      both_parts c (level agent r c (Choice p q) is) (ap (λ (f : Front). f.height) (front-at agent r (Choice p q) is))
 
   pub conc_parts : IsClosed agent r → r ≡ prog.Conc p q → PartsOf agent r p q
   conc_parts c e =
       let is : out-Prog r ≡ Conc p q = ap out-Prog e ∙ prog.outs-Conc p q in
-      let k = and_cases (prog_fits agent p (outside agent c.in_block)) (prog_fits agent q (outside agent c.in_block)) (level agent r c (Conc p q) is) in
-      let h = ap (λ (f : Front). f.height) (front-at agent r (Conc p q) is) in
-      record {
-        one = record { closed_too = closed agent c.in_block p k.0; lower = omega arith };
-        other = record { closed_too = closed agent c.in_block q k.1; lower = omega arith };
-      }
+      both_parts c (level agent r c (Conc p q) is) (ap (λ (f : Front). f.height) (front-at agent r (Conc p q) is))
 
   pub prio_parts : IsClosed agent r → r ≡ prog.Prio p q → PartsOf agent r p q
   prio_parts c e =
       let is : out-Prog r ≡ Prio p q = ap out-Prog e ∙ prog.outs-Prio p q in
-      let k = and_cases (prog_fits agent p (outside agent c.in_block)) (prog_fits agent q (outside agent c.in_block)) (level agent r c (Prio p q) is) in
-      let h = ap (λ (f : Front). f.height) (front-at agent r (Prio p q) is) in
-      record {
-        one = record { closed_too = closed agent c.in_block p k.0; lower = omega arith };
-        other = record { closed_too = closed agent c.in_block q k.1; lower = omega arith };
-      }
+      both_parts c (level agent r c (Prio p q) is) (ap (λ (f : Front). f.height) (front-at agent r (Prio p q) is))
 
   pub seq_parts : IsClosed agent r → r ≡ prog.Seq p q → SeqParts agent r p q
   seq_parts c e =
@@ -276,21 +271,22 @@ module _ {agent : Agent} {r p : Prog} where
   pub part_as : {q : Prog} → q ≡ p → PartOf agent r p → PartOf agent r q
   part_as {q} e part = subst (λ (z : Prog). PartOf agent r z) (sym e) part
 
+  -- a part that fits as the program does, and leads less deep
+  one_part : (c : IsClosed agent r) → prog_fits agent p (outside agent c.in_block) ≡ true → height agent r ≡ 1 + height agent p → PartOf agent r p
+  one_part c fit h = record { closed_too = closed agent c.in_block p fit; lower = omega arith }
+
   pub star_part : IsClosed agent r → r ≡ prog.Star p → PartOf agent r p
   star_part c e =
       let is : out-Prog r ≡ Star p = ap out-Prog e ∙ prog.outs-Star p in
-      let h = ap (λ (f : Front). f.height) (front-at agent r (Star p) is) in
-      record { closed_too = closed agent c.in_block p (level agent r c (Star p) is); lower = omega arith }
+      one_part c (level agent r c (Star p) is) (ap (λ (f : Front). f.height) (front-at agent r (Star p) is))
 
   pub cstar_part : IsClosed agent r → r ≡ prog.Cstar p → PartOf agent r p
   cstar_part c e =
       let is : out-Prog r ≡ Cstar p = ap out-Prog e ∙ prog.outs-Cstar p in
-      let h = ap (λ (f : Front). f.height) (front-at agent r (Cstar p) is) in
-      record { closed_too = closed agent c.in_block p (level agent r c (Cstar p) is); lower = omega arith }
+      one_part c (level agent r c (Cstar p) is) (ap (λ (f : Front). f.height) (front-at agent r (Cstar p) is))
 
   pub while_parts : {t : Cond} → IsClosed agent r → r ≡ prog.While t p → WhileParts agent r t p
   while_parts {t} c e =
       let is : out-Prog r ≡ While t p = ap out-Prog e ∙ prog.outs-While t p in
       let k = and_cases (cond_fits agent t nothing_bound) (prog_fits agent p (outside agent c.in_block)) (level agent r c (While t p) is) in
-      let h = ap (λ (f : Front). f.height) (front-at agent r (While t p) is) in
-      record { cond = k.0; body = record { closed_too = closed agent c.in_block p k.1; lower = omega arith } }
+      record { cond = k.0; body = one_part c k.1 (ap (λ (f : Front). f.height) (front-at agent r (While t p) is)) }

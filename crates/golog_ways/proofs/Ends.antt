@@ -1,5 +1,5 @@
 -- The condition under which a program may end, by those of its parts.
-use Rattle.std.proofs.Common.{◌≡◌, ℕ, zero, suc, ◌+◌, ◌<◌, ◌≤◌, Bool, true, false, ◌&&◌, ◌||◌, List, [], ◌∷◌, ◌++◌, map, refl, sym, ap, ◌∙◌, subst, arith}
+use Rattle.std.proofs.Common.{◌≡◌, ℕ, ◌+◌, Bool, true, false, ◌&&◌, ◌||◌, List, [], ◌∷◌, ◌++◌, map, refl, sym, ap, ◌∙◌, subst, arith}
 use Rattle.std.specs.Prelude.{Result, Ok, Err, IfOk}
 use Rattle.std.specs.List.{list_all, list_any, range_with_len}
 use Rattle.std.proofs.lemmas.List.Folds.{list_any-append}
@@ -8,8 +8,6 @@ use Rattle.golog_tree.specs.declared.agent.Agent.{Agent}
 use Rattle.golog_tree.specs.declared.cond.Arg.{Arg}
 use Rattle.golog_tree.specs.declared.cond.Cond.{Cond}
 use Rattle.golog_tree.specs.declared.cond.Cond.TheVariants as cond
-use Rattle.golog_tree.specs.declared.cond.Cond.TheOpen.{Truth as Plain, Or}
-use Rattle.golog_tree.specs.declared.cond.Cond.TheFolds.{fold-roll-Cond}
 use Rattle.golog_tree.specs.declared.cond.Truth.{Truth}
 use Rattle.golog_tree.specs.declared.cond.Truth.TheVariants.{Yes}
 use Rattle.golog_tree.specs.declared.prog.Prog.{Prog}
@@ -19,7 +17,7 @@ use Rattle.golog_tree.specs.declared.prog.Prog.TheVariants as prog
 use Rattle.golog_tree.specs.Ground.{sort_size}
 use Rattle.golog_semantics.specs.declared.Mode.{Mode}
 use Rattle.golog_semantics.specs.Modes.{holds}
-use Rattle.golog_semantics.specs.Truth.{Env, Values, both, cond_step, env_of, not_of, or_of, term_step, truth, truth_of}
+use Rattle.golog_semantics.specs.Truth.{Env, Values, both, cond_step, env_of, or_of, term_step, truth_of}
 use Rattle.golog_semantics.specs.Program.{put_arg, body_of}
 use Rattle.golog_semantics.specs.Search.{final}
 use Rattle.golog_semantics.specs.Ways.{is_so, is_not}
@@ -146,23 +144,18 @@ module _ (agent : Agent) (g : IsGuarded agent) where
     both_end : (m : Mode) (v : Values) → is_so agent v m (cond.And (c ∷ d ∷ [])) ≡ (final agent v m p && final agent v m q)
     both_end m v = let e = one.end.final m v in let f = other.end.final m v in so-both agent v m c d ∙ (rw (e, f) refl)
 
+    -- a program that may end exactly where both may
+    as_both : (r : Prog) → ((m : Mode) (v : Values) → (final agent v m p && final agent v m q) ≡ final agent v m r) → End r (cond.And (c ∷ d ∷ []))
+    as_both r h = record { end = record { final = λ m v. both_end m v ∙ h m v }; closed = fits-both agent c d one.closed other.closed }
+
     pub seq_end : End (prog.Seq p q) (cond.And (c ∷ d ∷ []))
-    seq_end = record {
-      end = record { final = λ m v. both_end m v ∙ sym (final-by agent v g m (prog.Seq p q) (Seq p q) (prog.outs-Seq p q)) };
-      closed = fits-both agent c d one.closed other.closed;
-    }
+    seq_end = as_both (prog.Seq p q) (λ m v. sym (final-by agent v g m (prog.Seq p q) (Seq p q) (prog.outs-Seq p q)))
 
     pub conc_end : End (prog.Conc p q) (cond.And (c ∷ d ∷ []))
-    conc_end = record {
-      end = record { final = λ m v. both_end m v ∙ sym (final-by agent v g m (prog.Conc p q) (Conc p q) (prog.outs-Conc p q)) };
-      closed = fits-both agent c d one.closed other.closed;
-    }
+    conc_end = as_both (prog.Conc p q) (λ m v. sym (final-by agent v g m (prog.Conc p q) (Conc p q) (prog.outs-Conc p q)))
 
     pub prio_end : End (prog.Prio p q) (cond.And (c ∷ d ∷ []))
-    prio_end = record {
-      end = record { final = λ m v. both_end m v ∙ sym (final-by agent v g m (prog.Prio p q) (Prio p q) (prog.outs-Prio p q)) };
-      closed = fits-both agent c d one.closed other.closed;
-    }
+    prio_end = as_both (prog.Prio p q) (λ m v. sym (final-by agent v g m (prog.Prio p q) (Prio p q) (prog.outs-Prio p q)))
 
     pub choice_end : End (prog.Choice p q) (cond.Or (c ∷ d ∷ []))
     choice_end = record {

@@ -1,5 +1,5 @@
 -- What a program begins with, by its parts.
-use Rattle.std.proofs.Common.{◌≡◌, ℕ, zero, suc, ◌+◌, ◌<◌, max, Bool, true, false, ◌&&◌, ◌||◌, if◌then◌else◌, List, [], ◌∷◌, Option, Some, None, refl, sym, ap, ◌∙◌, subst, arith}
+use Rattle.std.proofs.Common.{◌≡◌, ℕ, ◌+◌, ◌*◌, ◌<◌, max, Bool, true, false, ◌&&◌, ◌||◌, if◌then◌else◌, List, [], Option, Some, None, refl, sym, ap, ◌∙◌, arith}
 use Rattle.std.specs.Prelude.{slice_get}
 use Rattle.golog_tree.specs.declared.agent.Agent.{Agent}
 use Rattle.golog_tree.specs.declared.cond.Arg.{Arg}
@@ -9,10 +9,9 @@ use Rattle.golog_tree.specs.declared.prog.Way.{Way}
 use Rattle.golog_tree.specs.declared.prog.Prog.TheOpen.{Nil, Act, Test, Seq, Choice, Pick, Star, If, While, Conc, Prio, Cstar, Call, Search, Follow}
 use Rattle.golog_tree.specs.declared.prog.Prog.TheVariants as prog
 use Rattle.golog_tree.specs.declared.prog.Prog.TheViews.{out-Prog}
-use Rattle.golog_tree.specs.Tidy.{Layer}
 use Rattle.golog_tree.specs.declared.agent.ProcItem.{ProcItem}
 use Rattle.golog_semantics.specs.declared.Mode.TheVariants.{Must}
-use Rattle.golog_semantics.specs.Program.{body_with, body_of}
+use Rattle.golog_semantics.specs.Program.{body_with}
 use Rattle.golog_semantics.specs.Guarded.{Front, front, front_at, leaf, proc_fronts, IsGuarded}
 use Rattle.golog_semantics.proofs.Settled.{bodies}
 use Rattle.golog_semantics.proofs.Parts.{front-at}
@@ -164,50 +163,46 @@ module _ (agent : Agent) where
   abbrev height_of : Front → ℕ
   height_of f = f.height
 
-  -- parts at the front lead less deep
-  pub record BothLower (r p q : Prog) : Type 0 where
-    pub one : height p < height r
-    pub other : height q < height r
+  -- a walk comes down to the parts at the front
+  pub choice_low : (r p q : Prog) → r ≡ prog.Choice p q → 2 + 3 * max (height p) (height q) < 1 + 3 * height r
+  choice_low r p q e = let h = ap height_of (front-at agent r (Choice p q) (ap out-Prog e ∙ prog.outs-Choice p q)) in omega arith
 
-  pub choice_low : (r p q : Prog) → r ≡ prog.Choice p q → BothLower r p q
-  choice_low r p q e = let h = ap height_of (front-at agent r (Choice p q) (ap out-Prog e ∙ prog.outs-Choice p q)) in record { one = omega arith; other = omega arith }
+  pub if_low : (c : Cond) (r p q : Prog) → r ≡ prog.If c p q → 2 + 3 * max (height p) (height q) < 1 + 3 * height r
+  if_low c r p q e = let h = ap height_of (front-at agent r (If c p q) (ap out-Prog e ∙ prog.outs-If c p q)) in omega arith
 
-  pub if_low : (c : Cond) (r p q : Prog) → r ≡ prog.If c p q → BothLower r p q
-  if_low c r p q e = let h = ap height_of (front-at agent r (If c p q) (ap out-Prog e ∙ prog.outs-If c p q)) in record { one = omega arith; other = omega arith }
+  pub conc_low : (r p q : Prog) → r ≡ prog.Conc p q → 2 + 3 * max (height p) (height q) < 1 + 3 * height r
+  conc_low r p q e = let h = ap height_of (front-at agent r (Conc p q) (ap out-Prog e ∙ prog.outs-Conc p q)) in omega arith
 
-  pub conc_low : (r p q : Prog) → r ≡ prog.Conc p q → BothLower r p q
-  conc_low r p q e = let h = ap height_of (front-at agent r (Conc p q) (ap out-Prog e ∙ prog.outs-Conc p q)) in record { one = omega arith; other = omega arith }
+  pub prio_low : (r p q : Prog) → r ≡ prog.Prio p q → 2 + 3 * max (height p) (height q) < 1 + 3 * height r
+  prio_low r p q e = let h = ap height_of (front-at agent r (Prio p q) (ap out-Prog e ∙ prog.outs-Prio p q)) in omega arith
 
-  pub prio_low : (r p q : Prog) → r ≡ prog.Prio p q → BothLower r p q
-  prio_low r p q e = let h = ap height_of (front-at agent r (Prio p q) (ap out-Prog e ∙ prog.outs-Prio p q)) in record { one = omega arith; other = omega arith }
-
-  pub pick_low : (x sort : ℕ) (r p : Prog) → r ≡ prog.Pick x sort p → height p < height r
+  pub pick_low : (x sort : ℕ) (r p : Prog) → r ≡ prog.Pick x sort p → 1 + 3 * height p < 1 + 3 * height r
   pick_low x sort r p e = let h = ap height_of (front-at agent r (Pick x sort p) (ap out-Prog e ∙ prog.outs-Pick x sort p)) in omega arith
 
-  pub star_low : (r p : Prog) → r ≡ prog.Star p → height p < height r
+  pub star_low : (r p : Prog) → r ≡ prog.Star p → 1 + 3 * height p < 1 + 3 * height r
   star_low r p e = let h = ap height_of (front-at agent r (Star p) (ap out-Prog e ∙ prog.outs-Star p)) in omega arith
 
-  pub cstar_low : (r p : Prog) → r ≡ prog.Cstar p → height p < height r
+  pub cstar_low : (r p : Prog) → r ≡ prog.Cstar p → 1 + 3 * height p < 1 + 3 * height r
   cstar_low r p e = let h = ap height_of (front-at agent r (Cstar p) (ap out-Prog e ∙ prog.outs-Cstar p)) in omega arith
 
-  pub while_low : (c : Cond) (r p : Prog) → r ≡ prog.While c p → height p < height r
+  pub while_low : (c : Cond) (r p : Prog) → r ≡ prog.While c p → 1 + 3 * height p < 1 + 3 * height r
   while_low c r p e = let h = ap height_of (front-at agent r (While c p) (ap out-Prog e ∙ prog.outs-While c p)) in omega arith
 
-  pub search_low : (depth fuel : ℕ) (r p : Prog) → r ≡ prog.Search depth fuel p → height p < height r
+  pub search_low : (depth fuel : ℕ) (r p : Prog) → r ≡ prog.Search depth fuel p → 1 + 3 * height p < 1 + 3 * height r
   search_low depth fuel r p e = let h = ap height_of (front-at agent r (Search depth fuel p) (ap out-Prog e ∙ prog.outs-Search depth fuel p)) in omega arith
 
-  pub follow_low : (depth fuel : ℕ) (rest : List Way) (r p : Prog) → r ≡ prog.Follow depth fuel p rest → height p < height r
+  pub follow_low : (depth fuel : ℕ) (rest : List Way) (r p : Prog) → r ≡ prog.Follow depth fuel p rest → 1 + 3 * height p < 1 + 3 * height r
   follow_low depth fuel rest r p e = let h = ap height_of (front-at agent r (Follow depth fuel p rest) (ap out-Prog e ∙ prog.outs-Follow depth fuel p rest)) in omega arith
 
-  pub call_low : (r : Prog) (item : ℕ) (args : List Arg) → r ≡ prog.Call item args → (front_at (proc_fronts agent) item).height < height r
+  pub call_low : (r : Prog) (item : ℕ) (args : List Arg) → r ≡ prog.Call item args → 2 + 3 * (front_at (proc_fronts agent) item).height < 1 + 3 * height r
   call_low r item args e = let h = ap height_of (front-at agent r (Call item args) (ap out-Prog e ∙ prog.outs-Call item args)) in omega arith
 
-  pub seq_low : (p q : Prog) → height p < height (prog.Seq p q)
+  pub seq_low : (p q : Prog) → 1 + 3 * height p < 3 * height (prog.Seq p q)
   seq_low p q =
       let h : height (prog.Seq p q) ≡ 1 + max (height p) (if (front agent p).skip then height q else 0) = ap height_of (front-at agent (prog.Seq p q) (Seq p q) (prog.outs-Seq p q)) in
       omega arith
 
-  pub second_low : (p q : Prog) → (front agent p).skip ≡ true → height q < height (prog.Seq p q)
+  pub second_low : (p q : Prog) → (front agent p).skip ≡ true → 1 + 3 * height q < 3 * height (prog.Seq p q)
   second_low p q s =
       let h : height (prog.Seq p q) ≡ 1 + max (height p) (if (front agent p).skip then height q else 0) = ap height_of (front-at agent (prog.Seq p q) (Seq p q) (prog.outs-Seq p q)) in
       let d : height (prog.Seq p q) ≡ 1 + max (height p) (height q) = h ∙ (rw s refl) in

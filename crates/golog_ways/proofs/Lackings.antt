@@ -4,7 +4,7 @@ use Rattle.std.proofs.Common.{◌≤◌, zero, arith}
 use Rattle.std.specs.Prelude.{Result, Ok, Err, IfErr, ◌⊎◌}
 use Rattle.std.specs.Result.{IsErrAnd}
 use Rattle.std.specs.List.{list_any, range_with_len}
-use Rattle.std.proofs.lemmas.Bool.{cases_lt}
+use Rattle.std.proofs.lemmas.Bool.{and_from, cases_lt, or_left, or_right}
 use Rattle.golog_tree.specs.declared.agent.Agent.{Agent}
 use Rattle.golog_tree.specs.declared.prog.Prog.{Prog}
 use Rattle.golog_tree.specs.declared.prog.Way.{Way}
@@ -21,18 +21,6 @@ use Rattle.golog_tree.specs.Tidy.{Layer}
 use Rattle.golog_ways.specs.declared.answering.Stop.{Stop}
 use Rattle.golog_ways.specs.declared.answering.Stop.TheVariants.{Fuel, Memory}
 use Rattle.golog_ways.specs.Lacking.{Wants, Lacks, StopsAt, StopsAtEither, lacks_step, lacks_to, wants_at}
-
-or_left : (a b : Bool) → a ≡ true → (a || b) ≡ true
-or_left true b e = refl
-or_left false b e = absurd (cc)
-
-or_right : (a b : Bool) → b ≡ true → (a || b) ≡ true
-or_right true b e = refl
-or_right false b e = e
-
-and_both : (a b : Bool) → a ≡ true → b ≡ true → (a && b) ≡ true
-and_both true b e h = h
-and_both false b e h = absurd (cc)
 
 any_in : (f : ℕ → Bool) (n low i : ℕ) → low ≤ i → i < low + n → f i ≡ true → list_any f (range_with_len low n) ≡ true
 any_in f zero low i a b e = absurd (omega arith)
@@ -147,11 +135,21 @@ module _ (agent : Agent) (wants : Mode → Wants) (higher : Bool) where
   must_stops (Ok x) r l e b d step h = tt
   must_stops (Err s) r l e b d step h = record { why = λ is. level_lacks 0 r l e (step (lacks_to agent wants 0) ∙ or_left b d (h is)) }
 
+  -- a block that has not begun lacks what one lacks that follows nothing
+  pub search_lacks : (r p : Prog) (depth fuel : ℕ) → r ≡ prog.Search depth fuel p → L (prog.Follow depth fuel p []) → L r
+  search_lacks r p depth fuel e h = go h.deep h.lacks
+    where
+      go : (n : ℕ) → lacks_to agent wants n higher (prog.Follow depth fuel p []) ≡ true → L r
+      go zero k = let none : false ≡ true = k in absurd (cc)
+      go (suc n) k =
+          level_lacks n r (Search depth fuel p) (ap out-Prog e ∙ prog.outs-Search depth fuel p)
+          (sym (ap (at (lacks_to agent wants n)) (prog.outs-Follow depth fuel p [])) ∙ k)
+
   pub seq_one : (p q : Prog) → L p → L (prog.Seq p q)
   seq_one p q h = level_lacks h.deep (prog.Seq p q) (Seq p q) (prog.outs-Seq p q) (or_left _ _ h.lacks)
 
   pub seq_other : (p q : Prog) → (front agent p).skip ≡ true → L q → L (prog.Seq p q)
-  seq_other p q s h = level_lacks h.deep (prog.Seq p q) (Seq p q) (prog.outs-Seq p q) (or_right _ _ (and_both _ _ s h.lacks))
+  seq_other p q s h = level_lacks h.deep (prog.Seq p q) (Seq p q) (prog.outs-Seq p q) (or_right _ _ (and_from _ _ s h.lacks))
 
   pub pick_lacks : (x sort : ℕ) (p : Prog) (i : ℕ) → i < sort_size agent sort → L (put_arg p x i) → L (prog.Pick x sort p)
   pick_lacks x sort p i l h =

@@ -127,11 +127,13 @@ module _ (agent : Agent) (blocks : Blocks) (values : Values) (g : IsGuarded agen
   pub nil_first : F prog.Nil ≡ None
   nil_first = move-by agent blocks values g prog.Nil Nil prog.outs-Nil
 
-  pub search_first : (depth fuel : ℕ) (p : Prog) → F (prog.Search depth fuel p) ≡ head_of (blocks Must depth fuel p [])
-  search_first depth fuel p = move-by agent blocks values g (prog.Search depth fuel p) (Search depth fuel p) (prog.outs-Search depth fuel p)
-
   pub follow_first : (depth fuel : ℕ) (p : Prog) (rest : List Way) → F (prog.Follow depth fuel p rest) ≡ head_of (blocks Must depth fuel p rest)
   follow_first depth fuel p rest = move-by agent blocks values g (prog.Follow depth fuel p rest) (Follow depth fuel p rest) (prog.outs-Follow depth fuel p rest)
+
+  -- a block that has not begun steps as one that follows nothing
+  pub search_first : (depth fuel : ℕ) (p : Prog) → F (prog.Follow depth fuel p []) ≡ F (prog.Search depth fuel p)
+  search_first depth fuel p =
+      follow_first depth fuel p [] ∙ sym (move-by agent blocks values g (prog.Search depth fuel p) (Search depth fuel p) (prog.outs-Search depth fuel p))
 
   -- an action steps where its precondition holds
   act_first : (action : ℕ) (args : List Arg) (t : Truth) → t ≡ precondition agent values action (map (arg_value (env_of [])) args)

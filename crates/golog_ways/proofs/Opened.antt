@@ -19,7 +19,7 @@ use Rattle.golog_semantics.specs.Truth.{Values, arg_value, env_of}
 use Rattle.golog_semantics.specs.Program.{put_arg, body_of}
 use Rattle.golog_semantics.specs.Search.{final, plain_ways}
 use Rattle.golog_semantics.specs.Values.{is_possible}
-use Rattle.golog_semantics.specs.Ways.{is_empty, is_so, is_not}
+use Rattle.golog_semantics.specs.Ways.{is_empty, is_so}
 use Rattle.golog_semantics.specs.FitLaws.{ProcsFit}
 use Rattle.golog_semantics.specs.Guarded.{IsGuarded, front}
 use Rattle.golog_semantics.specs.Fronts.{AreFronts, Guarded, open_ways}
@@ -293,27 +293,26 @@ module _ (agent : Agent) (g : IsGuarded agent) where
     }
 
   module _ (p : Prog) (fs : List Front) (part : Are p fs) where
-    pub star_fronts : Are (prog.Star p) (map (front_in (λ l. tidy_seq l (prog.Star p))) fs)
-    star_fronts = record {
-      fronts = record {
-        ways = λ m v.
-            open-in agent v m (λ l. tidy_seq l (prog.Star p)) fs ∙ ap (map (way_in (λ l. tidy_seq l (prog.Star p)))) (part.fronts.ways m v)
-            ∙ sym (ways-by agent v g m (prog.Star p) (Star p) (prog.outs-Star p));
-      };
-      closed = closed-in agent (λ l. tidy_seq l (prog.Star p)) fs part.closed;
-      lefts = λ b k. lefts-in agent b (λ l. tidy_seq l (prog.Star p)) (λ l j. seq-fits agent b l (prog.Star p) j k) fs (part.lefts b (star-part agent b p k));
+    -- a program whose steps are those of its part, with what they leave put into a context
+    as_part : (r : Prog) (context : Prog → Prog) → ((m : Mode) (v : Values) → map (way_in context) (plain_ways agent v m p) ≡ plain_ways agent v m r)
+        → ((b : Bool) → fits_in agent b r ≡ true → fits_in agent b p ≡ true)
+        → ((b : Bool) → fits_in agent b r ≡ true → (l : Prog) → fits_in agent b l ≡ true → fits_in agent b (context l) ≡ true)
+        → Are r (map (front_in context) fs)
+    as_part r context steps part_fits left_fits = record {
+      fronts = record { ways = λ m v. open-in agent v m context fs ∙ ap (map (way_in context)) (part.fronts.ways m v) ∙ steps m v };
+      closed = closed-in agent context fs part.closed;
+      lefts = λ b k. lefts-in agent b context (left_fits b k) fs (part.lefts b (part_fits b k));
     }
 
+    pub star_fronts : Are (prog.Star p) (map (front_in (λ l. tidy_seq l (prog.Star p))) fs)
+    star_fronts =
+        as_part (prog.Star p) (λ l. tidy_seq l (prog.Star p)) (λ m v. sym (ways-by agent v g m (prog.Star p) (Star p) (prog.outs-Star p)))
+        (λ b k. star-part agent b p k) (λ b k l j. seq-fits agent b l (prog.Star p) j k)
+
     pub cstar_fronts : Are (prog.Cstar p) (map (front_in (λ l. tidy_conc l (prog.Cstar p))) fs)
-    cstar_fronts = record {
-      fronts = record {
-        ways = λ m v.
-            open-in agent v m (λ l. tidy_conc l (prog.Cstar p)) fs ∙ ap (map (way_in (λ l. tidy_conc l (prog.Cstar p)))) (part.fronts.ways m v)
-            ∙ sym (ways-by agent v g m (prog.Cstar p) (Cstar p) (prog.outs-Cstar p));
-      };
-      closed = closed-in agent (λ l. tidy_conc l (prog.Cstar p)) fs part.closed;
-      lefts = λ b k. lefts-in agent b (λ l. tidy_conc l (prog.Cstar p)) (λ l j. conc-fits agent b l (prog.Cstar p) j k) fs (part.lefts b (cstar-part agent b p k));
-    }
+    cstar_fronts =
+        as_part (prog.Cstar p) (λ l. tidy_conc l (prog.Cstar p)) (λ m v. sym (ways-by agent v g m (prog.Cstar p) (Cstar p) (prog.outs-Cstar p)))
+        (λ b k. cstar-part agent b p k) (λ b k l j. conc-fits agent b l (prog.Cstar p) j k)
 
     pub while_fronts : (t : Cond) → fits agent t ≡ true → Are (prog.While t p) (map (front_where t) (map (front_in (λ l. tidy_seq l (prog.While t p))) fs))
     while_fronts t k = record {

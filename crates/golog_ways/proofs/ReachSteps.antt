@@ -242,8 +242,14 @@ module _ (agent : Agent) (blocks : Blocks) (values : Values) where
     pub call_reach : (item : ℕ) (args : List Arg) (body : Prog) (o : Reach) → body ≡ body_of agent item args → Of body o → Of (prog.Call item args) o
     call_reach item args body o e h = record { steps = λ m. h.steps m ∙ ap (has_move agent blocks values m) e ∙ sym (any-by g m (prog.Call item args) (Call item args) (prog.outs-Call item args)) }
 
-    pub search_reach : (depth fuel : ℕ) (p : Prog) (o : Reach) → ((m : Mode) → reaches m o ≡ any_of (blocks m depth fuel p [])) → Of (prog.Search depth fuel p) o
-    search_reach depth fuel p o h = record { steps = λ m. h m ∙ sym (any-by g m (prog.Search depth fuel p) (Search depth fuel p) (prog.outs-Search depth fuel p)) }
+    -- a block that has not begun reaches as one that follows nothing
+    pub search_reach : (depth fuel : ℕ) (p : Prog) (o : Reach) → Of (prog.Follow depth fuel p []) o → Of (prog.Search depth fuel p) o
+    search_reach depth fuel p o h = record {
+      steps = λ m.
+          h.steps m
+          ∙ any-by g m (prog.Follow depth fuel p []) (Follow depth fuel p []) (prog.outs-Follow depth fuel p [])
+          ∙ sym (any-by g m (prog.Search depth fuel p) (Search depth fuel p) (prog.outs-Search depth fuel p));
+    }
 
     pub follow_reach : (depth fuel : ℕ) (p : Prog) (rest : List Way) (o : Reach) → ((m : Mode) → reaches m o ≡ any_of (blocks m depth fuel p rest)) → Of (prog.Follow depth fuel p rest) o
     follow_reach depth fuel p rest o h = record { steps = λ m. h m ∙ sym (any-by g m (prog.Follow depth fuel p rest) (Follow depth fuel p rest) (prog.outs-Follow depth fuel p rest)) }
@@ -308,8 +314,7 @@ module _ (agent : Agent) (blocks : Blocks) (values : Values) where
     call_gives (Ok o) item args body e h = call_reach g item args body o e h
     call_gives (Err x) item args body e h = h
 
-    pub search_gives : (result : Result Reach E) (r p : Prog) (depth fuel : ℕ) → r ≡ prog.Search depth fuel p
-        → IfOk result (λ o. (m : Mode) → reaches m o ≡ any_of (blocks m depth fuel p [])) → IfOk result (Of r)
+    pub search_gives : (result : Result Reach E) (r p : Prog) (depth fuel : ℕ) → r ≡ prog.Search depth fuel p → IfOk result (Of (prog.Follow depth fuel p [])) → IfOk result (Of r)
     search_gives (Ok o) r p depth fuel e h = reach_as r (prog.Search depth fuel p) o e (search_reach g depth fuel p o h)
     search_gives (Err x) r p depth fuel e h = h
 

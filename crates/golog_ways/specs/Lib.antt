@@ -3,6 +3,7 @@ pub mod Context
 pub mod Ends
 pub mod First
 pub mod FirstMove
+pub mod Following
 pub mod Fore
 pub mod FrontBlock
 pub mod FrontLists
@@ -13,3 +14,4 @@ pub mod Precondition
 pub mod Puts
 pub mod Reach
 pub mod Searched
+pub mod Walks

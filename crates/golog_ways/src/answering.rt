@@ -1,9 +1,10 @@
 ghost use Rattle.std.specs.Prelude.{◌≡◌};
 
+use crate::following::Following;
 use crate::reaches::Reach;
 use golog_base::NoMemory;
 use golog_semantics::Move;
-use golog_tree::{Agent, Prog, Way};
+use golog_tree::Agent;
 use std::alloc::Global;
 
 /// Why a search block's steps stay unknown.
@@ -37,6 +38,7 @@ pub trait Blocks {
     ghost use Rattle.golog_semantics.specs.Ways.{Blocks as Steps, is_empty};
     ghost use Rattle.golog_ways.specs.Closed.{IsFit, IsClosed};
     ghost use Rattle.golog_ways.specs.First.{head_of};
+    ghost use Rattle.golog_ways.specs.Following.{followed, of_block};
     ghost use Rattle.golog_ways.specs.Lacking.{Wants};
     ghost use Rattle.golog_ways.specs.Reach.{reaches};
 
@@ -49,44 +51,38 @@ pub trait Blocks {
     /// Which blocks want more than their fuel in a mode.
     ghost wants: { Self → Agent → Values → Mode → Wants };
 
-    /// The first certain step of a block that follows the rest of a run.
+    /// The first certain step of a block.
     fn first(
         &self,
         alloc: Global,
         agent: &Agent,
         values: &[u8],
-        depth: u32,
-        fuel: u32,
-        body: &Prog,
-        rest: &[Way],
+        block: &Following<'_>,
     ) -> Result<Option<Move>, Stop>
         requires fit { IsFit agent.now }
-        requires closed { IsClosed agent.now (Prog.Follow depth fuel body.now rest.now) }
+        requires closed { IsClosed agent.now (followed block.now) }
         requires whole { length values.now ≡ length (ground_fluents agent.now) }
         requires ready { ready self.now agent.now values.now }
         ensures first { IfOk result (λ move.
-            move ≡ head_of (moves self.now agent.now values.now Must depth fuel body.now rest.now)) }
+            move ≡ head_of (of_block (moves self.now agent.now values.now Must) block.now)) }
         ensures fuel { IfErr result (λ stop. stop ≡ Stop.Fuel
-            → wants self.now agent.now values.now Must depth fuel body.now rest.now ≡ true) };
+            → of_block (wants self.now agent.now values.now Must) block.now ≡ true) };
 
-    /// In which modes a block that follows the rest of a run has a step.
+    /// In which modes a block has a step.
     fn reach(
         &self,
         alloc: Global,
         agent: &Agent,
         values: &[u8],
-        depth: u32,
-        fuel: u32,
-        body: &Prog,
-        rest: &[Way],
+        block: &Following<'_>,
     ) -> Result<Reach, Stop>
         requires fit { IsFit agent.now }
-        requires closed { IsClosed agent.now (Prog.Follow depth fuel body.now rest.now) }
+        requires closed { IsClosed agent.now (followed block.now) }
         requires whole { length values.now ≡ length (ground_fluents agent.now) }
         requires ready { ready self.now agent.now values.now }
         ensures reach { IfOk result (λ r. (m : Mode) → reaches m r
-            ≡ not (is_empty (moves self.now agent.now values.now m depth fuel body.now rest.now))) }
+            ≡ not (is_empty (of_block (moves self.now agent.now values.now m) block.now))) }
         ensures fuel { IfErr result (λ stop. stop ≡ Stop.Fuel
-            → (wants self.now agent.now values.now Must depth fuel body.now rest.now
-            || wants self.now agent.now values.now Near depth fuel body.now rest.now) ≡ true) };
+            → (of_block (wants self.now agent.now values.now Must) block.now
+            || of_block (wants self.now agent.now values.now Near) block.now) ≡ true) };
 }

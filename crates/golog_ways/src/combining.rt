@@ -1,20 +1,8 @@
 ghost use Rattle.std.specs.Prelude.{◌≡◌, [], ◌∷◌, IfOk};
 
-use golog_base::{Boxed, List, NoMemory};
+use golog_base::{Boxed, List, NoMemory, both};
 use golog_tree::{Cond, copy_cond};
 use std::alloc::Global;
-
-/// Both values, where neither call wanted memory.
-pub fn pair_of<T: Drop>(
-    one: Result<T, NoMemory>,
-    other: Result<T, NoMemory>,
-) -> Result<(T, T), NoMemory>
-    ensures { IfOk result (λ pair. (one ≡ Ok pair.0) × (other ≡ Ok pair.1)) }
-{
-    let one = one?;
-    let other = other?;
-    Ok((one, other))
-}
 
 /// A list of two conditions.
 fn two(alloc: Global, one: Cond, other: Cond) -> Result<List<Cond>, NoMemory>
@@ -89,6 +77,6 @@ pub fn by_cases(alloc: Global, cond: &Cond, yes: Cond, no: Cond) -> Result<Cond,
     ensures { IfOk result (λ c. c ≡ Cond.Or
         (Cond.And (cond.now ∷ yes ∷ []) ∷ Cond.And (Cond.Not cond.now ∷ no ∷ []) ∷ [])) }
 {
-    let (yes, no) = pair_of(guarded(alloc, cond, yes), barred(alloc, cond, no))?;
+    let (yes, no) = both(guarded(alloc, cond, yes), barred(alloc, cond, no))?;
     disjunction(alloc, yes, no)
 }

@@ -7,9 +7,9 @@ ghost use Rattle.golog_ways.specs.Ends.{AreEnds, IsClosedEnd};
 
 use crate::blocks::may_skip;
 use crate::bodies::body_of;
-use crate::combining::{by_cases, conjunction, disjunction, implied, pair_of};
+use crate::combining::{by_cases, conjunction, disjunction, implied};
 use crate::here::Fit;
-use golog_base::{List, NoMemory};
+use golog_base::{List, NoMemory, both};
 use golog_tree::{Agent, Arg, Cond, Prog, put_arg, sort_size};
 use std::alloc::Global;
 
@@ -62,7 +62,7 @@ impl<'a> Fit<'a> {
     {
         let one = self.end_of(one);
         let other = self.end_of(other);
-        pair_of(one, other)
+        both(one, other)
     }
 
     /// The second part isn't looked at where the first never ends without a step.

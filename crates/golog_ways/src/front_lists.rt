@@ -1,11 +1,11 @@
-ghost use Rattle.std.specs.Prelude.{◌≡◌, [], ◌∷◌, ◌++◌, map, IfOk, Ok};
+ghost use Rattle.std.specs.Prelude.{◌≡◌, [], ◌∷◌, ◌++◌, map, IfOk};
 ghost use Rattle.golog_ways.specs.Context.{placed};
 ghost use Rattle.golog_ways.specs.FrontLists.{front_in, front_where as with_guard, none_open as none_of_these};
 
-use crate::combining::{guarded, pair_of};
-use crate::context::Place;
-use golog_base::{Boxed, List, NoMemory};
-use golog_tree::{Cond, Label, Prog, copy_cond, copy_prog, tidy_conc, tidy_prio, tidy_seq};
+use crate::combining::guarded;
+use crate::context::{Place, put_at};
+use golog_base::{Boxed, List, NoMemory, both};
+use golog_tree::{Cond, Label, Prog, copy_cond, copy_prog};
 use std::alloc::Global;
 
 /// A step of a program: the condition under which it may be taken, what it does, and the program left.
@@ -16,30 +16,12 @@ pub struct Front {
     pub left: Prog,
 }
 
-/// A condition and a program, or values of two other types, where neither call wanted memory.
-fn parts_of<A: Drop, B: Drop>(
-    one: Result<A, NoMemory>,
-    other: Result<B, NoMemory>,
-) -> Result<(A, B), NoMemory>
-    ensures { IfOk result (λ pair. (one ≡ Ok pair.0) × (other ≡ Ok pair.1)) }
-{
-    let one = one?;
-    let other = other?;
-    Ok((one, other))
-}
-
 /// A copy of the program at its place beside a copy of the other one.
 fn copy_at(alloc: Global, place: Place, left: &Prog, other: &Prog) -> Result<Prog, NoMemory>
     ensures { IfOk result (λ p. p ≡ placed place left.now other.now) }
 {
-    let (left, other) = pair_of(copy_prog(alloc, left), copy_prog(alloc, other))?;
-    match place {
-        Place::Before => tidy_seq(alloc, left, other),
-        Place::Beside => tidy_conc(alloc, left, other),
-        Place::NextTo => tidy_conc(alloc, other, left),
-        Place::Over => tidy_prio(alloc, left, other),
-        Place::Under => tidy_prio(alloc, other, left),
-    }
+    let left = copy_prog(alloc, left)?;
+    put_at(alloc, place, left, other)
 }
 
 /// That both conditions hold, with copies of them.
@@ -56,7 +38,7 @@ fn front_at(alloc: Global, place: Place, front: &Front, other: &Prog) -> Result<
 {
     let cond = copy_cond(alloc, &front.cond);
     let left = copy_at(alloc, place, &front.left, other);
-    let (cond, left) = parts_of(cond, left)?;
+    let (cond, left) = both(cond, left)?;
     Ok(Front {
         cond,
         label: front.label,
@@ -70,7 +52,7 @@ fn front_where(alloc: Global, cond: &Cond, front: &Front) -> Result<Front, NoMem
 {
     let cond = both_of(alloc, cond, &front.cond);
     let left = copy_prog(alloc, &front.left);
-    let (cond, left) = parts_of(cond, left)?;
+    let (cond, left) = both(cond, left)?;
     Ok(Front {
         cond,
         label: front.label,

@@ -13,10 +13,9 @@ ghost use Rattle.golog_ways.specs.Searched.{IsSearched};
 use crate::listing::ways_of;
 use crate::programs::is_final;
 use golog_base::{List, NoMemory};
-use golog_memo::is_same_way;
 use golog_progress::State;
 use golog_semantics::Mode;
-use golog_tree::{Agent, Label, Prog, Way, copy_prog};
+use golog_tree::{Agent, Label, Prog, Way, copy_prog, is_same_way};
 use std::alloc::Global;
 
 /// A copy of the step.

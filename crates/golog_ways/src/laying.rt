@@ -4,11 +4,11 @@ ghost use Rattle.golog_ways.specs.Closed.{IsFit, IsClosed};
 ghost use Rattle.golog_ways.specs.FrontLists.{AreClosedFronts, AreWhereEnds, IsPrecondition, front_in, front_where, last_front, none_open as none_of_these};
 ghost use Rattle.golog_ways.specs.Puts.{cond_put_args, cond_put_one};
 
-use crate::combining::{negation_of, pair_of};
+use crate::combining::negation_of;
 use crate::context::Place;
 use crate::front_lists::{Front, fronts_at, fronts_where, joined, none_open};
 use crate::here::Fit;
-use golog_base::{List, NoMemory};
+use golog_base::{List, NoMemory, both};
 use golog_known::Env;
 use golog_tree::{Agent, Arg, Cond, Label, Prog, action_no, copy_cond, put_cond};
 use std::alloc::Global;
@@ -133,7 +133,7 @@ pub fn in_sequence(
 {
     let ones = fronts_at(alloc, Place::Before, ones.as_slice(), other);
     let others = where_ends(alloc, agent, others.as_slice(), one);
-    let (ones, others) = pair_of(ones, others)?;
+    let (ones, others) = both(ones, others)?;
     joined(ones, others)
 }
 
@@ -148,9 +148,9 @@ pub fn side_by_side(
     ensures { IfOk result (λ fs. fs ≡ map (front_in (λ l. conc_of l other.now)) ones
         ++ map (front_in (λ l. conc_of one.now l)) others) }
 {
-    let ones = fronts_at(alloc, Place::Beside, ones.as_slice(), other);
-    let others = fronts_at(alloc, Place::NextTo, others.as_slice(), one);
-    let (ones, others) = pair_of(ones, others)?;
+    let ones = fronts_at(alloc, Place::FirstBeside, ones.as_slice(), other);
+    let others = fronts_at(alloc, Place::SecondBeside, others.as_slice(), one);
+    let (ones, others) = both(ones, others)?;
     joined(ones, others)
 }
 
@@ -189,7 +189,7 @@ pub fn one_over_other(
 {
     let over = fronts_at(alloc, Place::Over, highs.as_slice(), low);
     let under = lower(alloc, highs.as_slice(), lows.as_slice(), high);
-    let (over, under) = pair_of(over, under)?;
+    let (over, under) = both(over, under)?;
     joined(over, under)
 }
 
@@ -213,7 +213,7 @@ pub fn either_way(
 {
     let yes = fronts_where(alloc, cond, yes.as_slice());
     let no = where_not(alloc, cond, no.as_slice());
-    let (yes, no) = pair_of(yes, no)?;
+    let (yes, no) = both(yes, no)?;
     joined(yes, no)
 }
 

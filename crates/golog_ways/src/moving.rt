@@ -3,14 +3,16 @@ ghost use Rattle.golog_tree.specs.Ground.{ground_fluents};
 ghost use Rattle.golog_ways.specs.Closed.{IsFit, IsClosed};
 ghost use Rattle.golog_ways.specs.FirstMove.{IsFirst};
 ghost use Rattle.golog_ways.specs.Lacking.{StopsAt};
+ghost use Rattle.golog_ways.specs.Walks.{IsReadyWithin, IsFirstWithin, FirstStops};
 
 use crate::answering::{Blocks, Stop};
 use crate::bodies::body_of;
+use crate::following::Following;
 use crate::here::{Here, Within};
 use crate::modes::holds;
-use crate::placing::{before, beside, next_to, over, under};
+use crate::placing::{before, first_beside, over, second_beside, under};
 use golog_semantics::{Mode, Move};
-use golog_tree::{Agent, Arg, Cond, Prog, Truth, put_arg, sort_size};
+use golog_tree::{Agent, Arg, Cond, Prog, Truth, Way, put_arg, sort_size};
 use std::alloc::Global;
 
 /// The first of the certain steps of a program, without listing the others, where `values` has the value of
@@ -44,12 +46,9 @@ impl<'a, 'v, 'b, B: Blocks> Within<'a, 'v, 'b, B> {
     #[cycle(moving)]
     pub fn first_move(&self, prog: &Prog) -> Result<Option<Move>, Stop>
         requires closed { IsClosed self.now.here.agent.now prog.now }
-        requires ready { B.ready self.now.blocks.now self.now.here.agent.now self.now.here.values.now }
-        ensures first { IfOk result (IsFirst self.now.here.agent.now
-            (B.moves self.now.blocks.now self.now.here.agent.now self.now.here.values.now) self.now.here.values.now
-            prog.now) }
-        ensures fuel { IfErr result (StopsAt self.now.here.agent.now
-            (B.wants self.now.blocks.now self.now.here.agent.now self.now.here.values.now) false prog.now) }
+        requires ready { IsReadyWithin B.ready self.now }
+        ensures first { IfOk result (IsFirstWithin B.moves self.now prog.now) }
+        ensures fuel { IfErr result (FirstStops B.wants self.now prog.now) }
     {
         match prog {
             Prog::Nil => Ok(None),
@@ -68,7 +67,7 @@ impl<'a, 'v, 'b, B: Blocks> Within<'a, 'v, 'b, B> {
             }
             Prog::Cstar(body) => {
                 let found = self.first_move(body.get())?;
-                beside(self.here.alloc, found, prog)
+                first_beside(self.here.alloc, found, prog)
             }
             Prog::While { cond, body } => {
                 if holds(Mode::Must, self.here.truth(cond)) {
@@ -79,43 +78,46 @@ impl<'a, 'v, 'b, B: Blocks> Within<'a, 'v, 'b, B> {
                 }
             }
             Prog::Search { depth, fuel, body } => {
-                self.blocks.first(
-                    self.here.alloc,
-                    self.here.agent,
-                    self.here.values,
-                    *depth,
-                    *fuel,
-                    body.get(),
-                    &[],
-                )
+                self.first_of_block(*depth, *fuel, body.get(), &[])
             }
             Prog::Follow {
                 depth,
                 fuel,
                 body,
                 rest,
-            } => self.blocks.first(
-                self.here.alloc,
-                self.here.agent,
-                self.here.values,
-                *depth,
-                *fuel,
-                body.get(),
-                rest.as_slice(),
-            ),
+            } => self.first_of_block(*depth, *fuel, body.get(), rest.as_slice()),
         }
+    }
+
+    /// The first certain step of a block. One that has not begun follows nothing.
+    fn first_of_block(
+        &self,
+        depth: u32,
+        fuel: u32,
+        body: &Prog,
+        rest: &[Way],
+    ) -> Result<Option<Move>, Stop>
+        requires closed { IsClosed self.now.here.agent.now (Prog.Follow depth fuel body.now rest.now) }
+        requires ready { IsReadyWithin B.ready self.now }
+        ensures first { IfOk result (IsFirstWithin B.moves self.now (Prog.Follow depth fuel body.now rest.now)) }
+        ensures fuel { IfErr result (FirstStops B.wants self.now (Prog.Follow depth fuel body.now rest.now)) }
+    {
+        let block = Following {
+            depth,
+            fuel,
+            body,
+            rest,
+        };
+        self.blocks
+            .first(self.here.alloc, self.here.agent, self.here.values, &block)
     }
 
     #[cycle(moving)]
     fn first_of_seq(&self, one: &Prog, other: &Prog) -> Result<Option<Move>, Stop>
         requires closed { IsClosed self.now.here.agent.now (Prog.Seq one.now other.now) }
-        requires ready { B.ready self.now.blocks.now self.now.here.agent.now self.now.here.values.now }
-        ensures first { IfOk result (IsFirst self.now.here.agent.now
-            (B.moves self.now.blocks.now self.now.here.agent.now self.now.here.values.now) self.now.here.values.now
-            (Prog.Seq one.now other.now)) }
-        ensures fuel { IfErr result (StopsAt self.now.here.agent.now
-            (B.wants self.now.blocks.now self.now.here.agent.now self.now.here.values.now) false
-            (Prog.Seq one.now other.now)) }
+        requires ready { IsReadyWithin B.ready self.now }
+        ensures first { IfOk result (IsFirstWithin B.moves self.now (Prog.Seq one.now other.now)) }
+        ensures fuel { IfErr result (FirstStops B.wants self.now (Prog.Seq one.now other.now)) }
     {
         match self.first_move(one)? {
             Some(found) => before(self.here.alloc, Some(found), other),
@@ -132,13 +134,9 @@ impl<'a, 'v, 'b, B: Blocks> Within<'a, 'v, 'b, B> {
     #[cycle(moving)]
     fn first_of_choice(&self, one: &Prog, other: &Prog) -> Result<Option<Move>, Stop>
         requires closed { IsClosed self.now.here.agent.now (Prog.Choice one.now other.now) }
-        requires ready { B.ready self.now.blocks.now self.now.here.agent.now self.now.here.values.now }
-        ensures first { IfOk result (IsFirst self.now.here.agent.now
-            (B.moves self.now.blocks.now self.now.here.agent.now self.now.here.values.now) self.now.here.values.now
-            (Prog.Choice one.now other.now)) }
-        ensures fuel { IfErr result (StopsAt self.now.here.agent.now
-            (B.wants self.now.blocks.now self.now.here.agent.now self.now.here.values.now) false
-            (Prog.Choice one.now other.now)) }
+        requires ready { IsReadyWithin B.ready self.now }
+        ensures first { IfOk result (IsFirstWithin B.moves self.now (Prog.Choice one.now other.now)) }
+        ensures fuel { IfErr result (FirstStops B.wants self.now (Prog.Choice one.now other.now)) }
     {
         match self.first_move(one)? {
             Some(found) => Ok(Some(found)),
@@ -149,19 +147,15 @@ impl<'a, 'v, 'b, B: Blocks> Within<'a, 'v, 'b, B> {
     #[cycle(moving)]
     fn first_of_conc(&self, one: &Prog, other: &Prog) -> Result<Option<Move>, Stop>
         requires closed { IsClosed self.now.here.agent.now (Prog.Conc one.now other.now) }
-        requires ready { B.ready self.now.blocks.now self.now.here.agent.now self.now.here.values.now }
-        ensures first { IfOk result (IsFirst self.now.here.agent.now
-            (B.moves self.now.blocks.now self.now.here.agent.now self.now.here.values.now) self.now.here.values.now
-            (Prog.Conc one.now other.now)) }
-        ensures fuel { IfErr result (StopsAt self.now.here.agent.now
-            (B.wants self.now.blocks.now self.now.here.agent.now self.now.here.values.now) false
-            (Prog.Conc one.now other.now)) }
+        requires ready { IsReadyWithin B.ready self.now }
+        ensures first { IfOk result (IsFirstWithin B.moves self.now (Prog.Conc one.now other.now)) }
+        ensures fuel { IfErr result (FirstStops B.wants self.now (Prog.Conc one.now other.now)) }
     {
         match self.first_move(one)? {
-            Some(found) => beside(self.here.alloc, Some(found), other),
+            Some(found) => first_beside(self.here.alloc, Some(found), other),
             None => {
                 let found = self.first_move(other)?;
-                next_to(self.here.alloc, one, found)
+                second_beside(self.here.alloc, one, found)
             }
         }
     }
@@ -170,13 +164,9 @@ impl<'a, 'v, 'b, B: Blocks> Within<'a, 'v, 'b, B> {
     #[cycle(moving)]
     fn first_of_prio(&self, high: &Prog, low: &Prog) -> Result<Option<Move>, Stop>
         requires closed { IsClosed self.now.here.agent.now (Prog.Prio high.now low.now) }
-        requires ready { B.ready self.now.blocks.now self.now.here.agent.now self.now.here.values.now }
-        ensures first { IfOk result (IsFirst self.now.here.agent.now
-            (B.moves self.now.blocks.now self.now.here.agent.now self.now.here.values.now) self.now.here.values.now
-            (Prog.Prio high.now low.now)) }
-        ensures fuel { IfErr result (StopsAt self.now.here.agent.now
-            (B.wants self.now.blocks.now self.now.here.agent.now self.now.here.values.now) false
-            (Prog.Prio high.now low.now)) }
+        requires ready { IsReadyWithin B.ready self.now }
+        ensures first { IfOk result (IsFirstWithin B.moves self.now (Prog.Prio high.now low.now)) }
+        ensures fuel { IfErr result (FirstStops B.wants self.now (Prog.Prio high.now low.now)) }
     {
         match self.first_move(high)? {
             Some(found) => over(self.here.alloc, Some(found), low),
@@ -195,13 +185,9 @@ impl<'a, 'v, 'b, B: Blocks> Within<'a, 'v, 'b, B> {
     #[cycle(moving)]
     fn first_of_if(&self, cond: &Cond, yes: &Prog, no: &Prog) -> Result<Option<Move>, Stop>
         requires closed { IsClosed self.now.here.agent.now (Prog.If cond.now yes.now no.now) }
-        requires ready { B.ready self.now.blocks.now self.now.here.agent.now self.now.here.values.now }
-        ensures first { IfOk result (IsFirst self.now.here.agent.now
-            (B.moves self.now.blocks.now self.now.here.agent.now self.now.here.values.now) self.now.here.values.now
-            (Prog.If cond.now yes.now no.now)) }
-        ensures fuel { IfErr result (StopsAt self.now.here.agent.now
-            (B.wants self.now.blocks.now self.now.here.agent.now self.now.here.values.now) false
-            (Prog.If cond.now yes.now no.now)) }
+        requires ready { IsReadyWithin B.ready self.now }
+        ensures first { IfOk result (IsFirstWithin B.moves self.now (Prog.If cond.now yes.now no.now)) }
+        ensures fuel { IfErr result (FirstStops B.wants self.now (Prog.If cond.now yes.now no.now)) }
     {
         match self.here.truth(cond) {
             Truth::Yes => self.first_move(yes),
@@ -214,12 +200,9 @@ impl<'a, 'v, 'b, B: Blocks> Within<'a, 'v, 'b, B> {
     #[cycle(moving)]
     fn first_of(&self, prog: Prog) -> Result<Option<Move>, Stop>
         requires closed { IsClosed self.now.here.agent.now prog }
-        requires ready { B.ready self.now.blocks.now self.now.here.agent.now self.now.here.values.now }
-        ensures first { IfOk result (IsFirst self.now.here.agent.now
-            (B.moves self.now.blocks.now self.now.here.agent.now self.now.here.values.now)
-            self.now.here.values.now prog) }
-        ensures fuel { IfErr result (StopsAt self.now.here.agent.now
-            (B.wants self.now.blocks.now self.now.here.agent.now self.now.here.values.now) false prog) }
+        requires ready { IsReadyWithin B.ready self.now }
+        ensures first { IfOk result (IsFirstWithin B.moves self.now prog) }
+        ensures fuel { IfErr result (FirstStops B.wants self.now prog) }
     {
         let first = self.first_move(&prog);
         drop(prog);
@@ -229,13 +212,9 @@ impl<'a, 'v, 'b, B: Blocks> Within<'a, 'v, 'b, B> {
     #[cycle(moving)]
     fn first_of_pick(&self, var: u8, sort: u32, body: &Prog) -> Result<Option<Move>, Stop>
         requires closed { IsClosed self.now.here.agent.now (Prog.Pick var sort body.now) }
-        requires ready { B.ready self.now.blocks.now self.now.here.agent.now self.now.here.values.now }
-        ensures first { IfOk result (IsFirst self.now.here.agent.now
-            (B.moves self.now.blocks.now self.now.here.agent.now self.now.here.values.now) self.now.here.values.now
-            (Prog.Pick var sort body.now)) }
-        ensures fuel { IfErr result (StopsAt self.now.here.agent.now
-            (B.wants self.now.blocks.now self.now.here.agent.now self.now.here.values.now) false
-            (Prog.Pick var sort body.now)) }
+        requires ready { IsReadyWithin B.ready self.now }
+        ensures first { IfOk result (IsFirstWithin B.moves self.now (Prog.Pick var sort body.now)) }
+        ensures fuel { IfErr result (FirstStops B.wants self.now (Prog.Pick var sort body.now)) }
     {
         for constant in 0..sort_size(self.here.agent, sort) {
             let put = put_arg(self.here.alloc, body, var, constant as u8)?;
@@ -250,13 +229,9 @@ impl<'a, 'v, 'b, B: Blocks> Within<'a, 'v, 'b, B> {
     #[cycle(moving)]
     fn first_of_call(&self, item: u32, args: &[Arg]) -> Result<Option<Move>, Stop>
         requires closed { IsClosed self.now.here.agent.now (Prog.Call item args.now) }
-        requires ready { B.ready self.now.blocks.now self.now.here.agent.now self.now.here.values.now }
-        ensures first { IfOk result (IsFirst self.now.here.agent.now
-            (B.moves self.now.blocks.now self.now.here.agent.now self.now.here.values.now) self.now.here.values.now
-            (Prog.Call item args.now)) }
-        ensures fuel { IfErr result (StopsAt self.now.here.agent.now
-            (B.wants self.now.blocks.now self.now.here.agent.now self.now.here.values.now) false
-            (Prog.Call item args.now)) }
+        requires ready { IsReadyWithin B.ready self.now }
+        ensures first { IfOk result (IsFirstWithin B.moves self.now (Prog.Call item args.now)) }
+        ensures fuel { IfErr result (FirstStops B.wants self.now (Prog.Call item args.now)) }
     {
         let body = body_of(self.here.alloc, self.here.agent, item, args)?;
         self.first_of(body)

@@ -9,14 +9,13 @@ ghost use Rattle.golog_ways.specs.Lefts.{LeavesClosed};
 
 use crate::blocks::may_skip;
 use crate::bodies::body_of;
-use crate::combining::pair_of;
 use crate::context::Place;
 use crate::front_lists::{Front, fronts_at, joined};
 use crate::here::Fit;
 use crate::laying::{
     act_front, either_way, in_sequence, one_over_other, side_by_side, test_front, while_holds,
 };
-use golog_base::{List, NoMemory};
+use golog_base::{List, NoMemory, both};
 use golog_tree::{Agent, Arg, Prog, put_arg, sort_size};
 use std::alloc::Global;
 
@@ -57,7 +56,7 @@ impl<'a> Fit<'a> {
             }
             Prog::Cstar(body) => {
                 let steps = self.fronts_of(body.get())?;
-                fronts_at(self.alloc, Place::Beside, steps.as_slice(), prog)
+                fronts_at(self.alloc, Place::FirstBeside, steps.as_slice(), prog)
             }
             Prog::Pick { var, sort, body } => self.fronts_of_pick(*var, *sort, body.get()),
             Prog::Call { item, args } => self.fronts_of_call(*item, args.as_slice()),
@@ -78,7 +77,7 @@ impl<'a> Fit<'a> {
     {
         let ones = self.fronts_of(one);
         let others = self.fronts_of(other);
-        pair_of(ones, others)
+        both(ones, others)
     }
 
     /// The second part isn't looked at where the first never ends without a step.

@@ -37,19 +37,19 @@ pub fn before(alloc: Global, found: Option<Move>, rest: &Prog) -> Result<Option<
 }
 
 /// The step of a first part, with what it leaves beside the second part.
-pub fn beside(alloc: Global, found: Option<Move>, other: &Prog) -> Result<Option<Move>, Stop>
+pub fn first_beside(alloc: Global, found: Option<Move>, other: &Prog) -> Result<Option<Move>, Stop>
     ensures left { IfOk result (λ m. m ≡ moved_in (λ l. tidy_conc l other.now) found) }
     ensures memory { IfErr result (λ stop. stop ≡ Stop.Memory) }
 {
-    at_place(alloc, Place::Beside, found, other)
+    at_place(alloc, Place::FirstBeside, found, other)
 }
 
 /// The step of a second part, with what it leaves beside the first part.
-pub fn next_to(alloc: Global, one: &Prog, found: Option<Move>) -> Result<Option<Move>, Stop>
+pub fn second_beside(alloc: Global, one: &Prog, found: Option<Move>) -> Result<Option<Move>, Stop>
     ensures left { IfOk result (λ m. m ≡ moved_in (λ l. tidy_conc one.now l) found) }
     ensures memory { IfErr result (λ stop. stop ≡ Stop.Memory) }
 {
-    at_place(alloc, Place::NextTo, found, one)
+    at_place(alloc, Place::SecondBeside, found, one)
 }
 
 /// The step of a higher part, with what it leaves over the lower part.

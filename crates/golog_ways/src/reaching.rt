@@ -1,17 +1,19 @@
 ghost use Rattle.std.specs.Prelude.{◌≡◌, true, IfOk, IfErr, length};
 ghost use Rattle.golog_tree.specs.Ground.{ground_fluents};
 ghost use Rattle.golog_ways.specs.Closed.{IsFit, IsClosed};
-ghost use Rattle.golog_ways.specs.Lacking.{StopsAt, StopsAtEither};
-ghost use Rattle.golog_ways.specs.Reach.{IsReach, IsReachOfEither, IsReachOr};
+ghost use Rattle.golog_ways.specs.Lacking.{StopsAt};
+ghost use Rattle.golog_ways.specs.Reach.{IsReach};
+ghost use Rattle.golog_ways.specs.Walks.{IsReadyWithin, IsReachWithin, IsReachOfEitherWithin, IsReachOrWithin, ReachStops, ReachStopsAtEither};
 
 use crate::answering::{Blocks, Stop};
 use crate::bodies::body_of;
+use crate::following::Following;
 use crate::here::{Here, Within};
 use crate::modes::holds;
 use crate::reaches::{NOWHERE, Reach};
 use golog_known::negation;
 use golog_semantics::Mode;
-use golog_tree::{Agent, Arg, Cond, Prog, Truth, put_arg, sort_size};
+use golog_tree::{Agent, Arg, Cond, Prog, Truth, Way, put_arg, sort_size};
 use std::alloc::Global;
 
 /// In which modes a program has a step, where `values` has the value of each ground fluent and `blocks` tells
@@ -45,12 +47,9 @@ impl<'a, 'v, 'b, B: Blocks> Within<'a, 'v, 'b, B> {
     #[cycle(reach)]
     pub fn reach_of(&self, prog: &Prog) -> Result<Reach, Stop>
         requires closed { IsClosed self.now.here.agent.now prog.now }
-        requires ready { B.ready self.now.blocks.now self.now.here.agent.now self.now.here.values.now }
-        ensures reach { IfOk result (IsReach self.now.here.agent.now
-            (B.moves self.now.blocks.now self.now.here.agent.now self.now.here.values.now) self.now.here.values.now
-            prog.now) }
-        ensures fuel { IfErr result (StopsAt self.now.here.agent.now
-            (B.wants self.now.blocks.now self.now.here.agent.now self.now.here.values.now) true prog.now) }
+        requires ready { IsReadyWithin B.ready self.now }
+        ensures reach { IfOk result (IsReachWithin B.moves self.now prog.now) }
+        ensures fuel { IfErr result (ReachStops B.wants self.now prog.now) }
     {
         match prog {
             Prog::Nil => Ok(NOWHERE),
@@ -69,31 +68,38 @@ impl<'a, 'v, 'b, B: Blocks> Within<'a, 'v, 'b, B> {
             Prog::Pick { var, sort, body } => self.reach_of_pick(*var, *sort, body.get()),
             Prog::Call { item, args } => self.reach_of_call(*item, args.as_slice()),
             Prog::Search { depth, fuel, body } => {
-                self.blocks.reach(
-                    self.here.alloc,
-                    self.here.agent,
-                    self.here.values,
-                    *depth,
-                    *fuel,
-                    body.get(),
-                    &[],
-                )
+                self.reach_of_block(*depth, *fuel, body.get(), &[])
             }
             Prog::Follow {
                 depth,
                 fuel,
                 body,
                 rest,
-            } => self.blocks.reach(
-                self.here.alloc,
-                self.here.agent,
-                self.here.values,
-                *depth,
-                *fuel,
-                body.get(),
-                rest.as_slice(),
-            ),
+            } => self.reach_of_block(*depth, *fuel, body.get(), rest.as_slice()),
         }
+    }
+
+    /// In which modes a block has a step. One that has not begun follows nothing.
+    fn reach_of_block(
+        &self,
+        depth: u32,
+        fuel: u32,
+        body: &Prog,
+        rest: &[Way],
+    ) -> Result<Reach, Stop>
+        requires closed { IsClosed self.now.here.agent.now (Prog.Follow depth fuel body.now rest.now) }
+        requires ready { IsReadyWithin B.ready self.now }
+        ensures reach { IfOk result (IsReachWithin B.moves self.now (Prog.Follow depth fuel body.now rest.now)) }
+        ensures fuel { IfErr result (ReachStops B.wants self.now (Prog.Follow depth fuel body.now rest.now)) }
+    {
+        let block = Following {
+            depth,
+            fuel,
+            body,
+            rest,
+        };
+        self.blocks
+            .reach(self.here.alloc, self.here.agent, self.here.values, &block)
     }
 
     /// In which modes one of two programs has a step. Where the first certainly has one, the second isn't asked.
@@ -101,12 +107,9 @@ impl<'a, 'v, 'b, B: Blocks> Within<'a, 'v, 'b, B> {
     fn reach_of_either(&self, one: &Prog, other: &Prog) -> Result<Reach, Stop>
         requires one { IsClosed self.now.here.agent.now one.now }
         requires other { IsClosed self.now.here.agent.now other.now }
-        requires ready { B.ready self.now.blocks.now self.now.here.agent.now self.now.here.values.now }
-        ensures reach { IfOk result (IsReachOfEither self.now.here.agent.now
-            (B.moves self.now.blocks.now self.now.here.agent.now self.now.here.values.now) self.now.here.values.now
-            one.now other.now) }
-        ensures fuel { IfErr result (StopsAtEither self.now.here.agent.now
-            (B.wants self.now.blocks.now self.now.here.agent.now self.now.here.values.now) true one.now other.now) }
+        requires ready { IsReadyWithin B.ready self.now }
+        ensures reach { IfOk result (IsReachOfEitherWithin B.moves self.now one.now other.now) }
+        ensures fuel { IfErr result (ReachStopsAtEither B.wants self.now one.now other.now) }
     {
         let reach = self.reach_of(one)?;
         self.reach_or(reach, Truth::Yes, other)
@@ -116,13 +119,9 @@ impl<'a, 'v, 'b, B: Blocks> Within<'a, 'v, 'b, B> {
     #[cycle(reach)]
     fn reach_of_prio(&self, high: &Prog, low: &Prog) -> Result<Reach, Stop>
         requires closed { IsClosed self.now.here.agent.now (Prog.Prio high.now low.now) }
-        requires ready { B.ready self.now.blocks.now self.now.here.agent.now self.now.here.values.now }
-        ensures reach { IfOk result (IsReach self.now.here.agent.now
-            (B.moves self.now.blocks.now self.now.here.agent.now self.now.here.values.now) self.now.here.values.now
-            (Prog.Prio high.now low.now)) }
-        ensures fuel { IfErr result (StopsAt self.now.here.agent.now
-            (B.wants self.now.blocks.now self.now.here.agent.now self.now.here.values.now) true
-            (Prog.Prio high.now low.now)) }
+        requires ready { IsReadyWithin B.ready self.now }
+        ensures reach { IfOk result (IsReachWithin B.moves self.now (Prog.Prio high.now low.now)) }
+        ensures fuel { IfErr result (ReachStops B.wants self.now (Prog.Prio high.now low.now)) }
     {
         let high = self.reach_of(high)?;
         if high.is_settled(Truth::Unknown) {
@@ -137,13 +136,9 @@ impl<'a, 'v, 'b, B: Blocks> Within<'a, 'v, 'b, B> {
     #[cycle(reach)]
     fn reach_of_seq(&self, one: &Prog, other: &Prog) -> Result<Reach, Stop>
         requires closed { IsClosed self.now.here.agent.now (Prog.Seq one.now other.now) }
-        requires ready { B.ready self.now.blocks.now self.now.here.agent.now self.now.here.values.now }
-        ensures reach { IfOk result (IsReach self.now.here.agent.now
-            (B.moves self.now.blocks.now self.now.here.agent.now self.now.here.values.now) self.now.here.values.now
-            (Prog.Seq one.now other.now)) }
-        ensures fuel { IfErr result (StopsAt self.now.here.agent.now
-            (B.wants self.now.blocks.now self.now.here.agent.now self.now.here.values.now) true
-            (Prog.Seq one.now other.now)) }
+        requires ready { IsReadyWithin B.ready self.now }
+        ensures reach { IfOk result (IsReachWithin B.moves self.now (Prog.Seq one.now other.now)) }
+        ensures fuel { IfErr result (ReachStops B.wants self.now (Prog.Seq one.now other.now)) }
     {
         let reach = self.reach_of(one)?;
         if reach.is_settled(Truth::Yes) {
@@ -162,12 +157,9 @@ impl<'a, 'v, 'b, B: Blocks> Within<'a, 'v, 'b, B> {
     #[cycle(reach)]
     fn reach_or(&self, so_far: Reach, truth: Truth, prog: &Prog) -> Result<Reach, Stop>
         requires closed { IsClosed self.now.here.agent.now prog.now }
-        requires ready { B.ready self.now.blocks.now self.now.here.agent.now self.now.here.values.now }
-        ensures reach { IfOk result (IsReachOr self.now.here.agent.now
-            (B.moves self.now.blocks.now self.now.here.agent.now self.now.here.values.now) self.now.here.values.now
-            so_far truth prog.now) }
-        ensures fuel { IfErr result (StopsAt self.now.here.agent.now
-            (B.wants self.now.blocks.now self.now.here.agent.now self.now.here.values.now) true prog.now) }
+        requires ready { IsReadyWithin B.ready self.now }
+        ensures reach { IfOk result (IsReachOrWithin B.moves self.now so_far truth prog.now) }
+        ensures fuel { IfErr result (ReachStops B.wants self.now prog.now) }
     {
         if so_far.is_settled(truth) {
             Ok(so_far)
@@ -180,13 +172,9 @@ impl<'a, 'v, 'b, B: Blocks> Within<'a, 'v, 'b, B> {
     #[cycle(reach)]
     fn reach_of_if(&self, cond: &Cond, yes: &Prog, no: &Prog) -> Result<Reach, Stop>
         requires closed { IsClosed self.now.here.agent.now (Prog.If cond.now yes.now no.now) }
-        requires ready { B.ready self.now.blocks.now self.now.here.agent.now self.now.here.values.now }
-        ensures reach { IfOk result (IsReach self.now.here.agent.now
-            (B.moves self.now.blocks.now self.now.here.agent.now self.now.here.values.now) self.now.here.values.now
-            (Prog.If cond.now yes.now no.now)) }
-        ensures fuel { IfErr result (StopsAt self.now.here.agent.now
-            (B.wants self.now.blocks.now self.now.here.agent.now self.now.here.values.now) true
-            (Prog.If cond.now yes.now no.now)) }
+        requires ready { IsReadyWithin B.ready self.now }
+        ensures reach { IfOk result (IsReachWithin B.moves self.now (Prog.If cond.now yes.now no.now)) }
+        ensures fuel { IfErr result (ReachStops B.wants self.now (Prog.If cond.now yes.now no.now)) }
     {
         let is_so = self.here.truth(cond);
         let yes = self.reach_or(NOWHERE, is_so, yes)?;
@@ -196,13 +184,9 @@ impl<'a, 'v, 'b, B: Blocks> Within<'a, 'v, 'b, B> {
     #[cycle(reach)]
     fn reach_of_while(&self, cond: &Cond, body: &Prog) -> Result<Reach, Stop>
         requires closed { IsClosed self.now.here.agent.now (Prog.While cond.now body.now) }
-        requires ready { B.ready self.now.blocks.now self.now.here.agent.now self.now.here.values.now }
-        ensures reach { IfOk result (IsReach self.now.here.agent.now
-            (B.moves self.now.blocks.now self.now.here.agent.now self.now.here.values.now) self.now.here.values.now
-            (Prog.While cond.now body.now)) }
-        ensures fuel { IfErr result (StopsAt self.now.here.agent.now
-            (B.wants self.now.blocks.now self.now.here.agent.now self.now.here.values.now) true
-            (Prog.While cond.now body.now)) }
+        requires ready { IsReadyWithin B.ready self.now }
+        ensures reach { IfOk result (IsReachWithin B.moves self.now (Prog.While cond.now body.now)) }
+        ensures fuel { IfErr result (ReachStops B.wants self.now (Prog.While cond.now body.now)) }
     {
         let is_so = self.here.truth(cond);
         self.reach_or(NOWHERE, is_so, body)
@@ -212,12 +196,9 @@ impl<'a, 'v, 'b, B: Blocks> Within<'a, 'v, 'b, B> {
     #[cycle(reach)]
     fn reach_of_put(&self, prog: Prog) -> Result<Reach, Stop>
         requires closed { IsClosed self.now.here.agent.now prog }
-        requires ready { B.ready self.now.blocks.now self.now.here.agent.now self.now.here.values.now }
-        ensures reach { IfOk result (IsReach self.now.here.agent.now
-            (B.moves self.now.blocks.now self.now.here.agent.now self.now.here.values.now)
-            self.now.here.values.now prog) }
-        ensures fuel { IfErr result (StopsAt self.now.here.agent.now
-            (B.wants self.now.blocks.now self.now.here.agent.now self.now.here.values.now) true prog) }
+        requires ready { IsReadyWithin B.ready self.now }
+        ensures reach { IfOk result (IsReachWithin B.moves self.now prog) }
+        ensures fuel { IfErr result (ReachStops B.wants self.now prog) }
     {
         let reach = self.reach_of(&prog);
         drop(prog);
@@ -227,13 +208,9 @@ impl<'a, 'v, 'b, B: Blocks> Within<'a, 'v, 'b, B> {
     #[cycle(reach)]
     fn reach_of_pick(&self, var: u8, sort: u32, body: &Prog) -> Result<Reach, Stop>
         requires closed { IsClosed self.now.here.agent.now (Prog.Pick var sort body.now) }
-        requires ready { B.ready self.now.blocks.now self.now.here.agent.now self.now.here.values.now }
-        ensures reach { IfOk result (IsReach self.now.here.agent.now
-            (B.moves self.now.blocks.now self.now.here.agent.now self.now.here.values.now) self.now.here.values.now
-            (Prog.Pick var sort body.now)) }
-        ensures fuel { IfErr result (StopsAt self.now.here.agent.now
-            (B.wants self.now.blocks.now self.now.here.agent.now self.now.here.values.now) true
-            (Prog.Pick var sort body.now)) }
+        requires ready { IsReadyWithin B.ready self.now }
+        ensures reach { IfOk result (IsReachWithin B.moves self.now (Prog.Pick var sort body.now)) }
+        ensures fuel { IfErr result (ReachStops B.wants self.now (Prog.Pick var sort body.now)) }
     {
         let mut some = NOWHERE;
         for constant in 0..sort_size(self.here.agent, sort) {
@@ -250,13 +227,9 @@ impl<'a, 'v, 'b, B: Blocks> Within<'a, 'v, 'b, B> {
     #[cycle(reach)]
     fn reach_of_call(&self, item: u32, args: &[Arg]) -> Result<Reach, Stop>
         requires closed { IsClosed self.now.here.agent.now (Prog.Call item args.now) }
-        requires ready { B.ready self.now.blocks.now self.now.here.agent.now self.now.here.values.now }
-        ensures reach { IfOk result (IsReach self.now.here.agent.now
-            (B.moves self.now.blocks.now self.now.here.agent.now self.now.here.values.now) self.now.here.values.now
-            (Prog.Call item args.now)) }
-        ensures fuel { IfErr result (StopsAt self.now.here.agent.now
-            (B.wants self.now.blocks.now self.now.here.agent.now self.now.here.values.now) true
-            (Prog.Call item args.now)) }
+        requires ready { IsReadyWithin B.ready self.now }
+        ensures reach { IfOk result (IsReachWithin B.moves self.now (Prog.Call item args.now)) }
+        ensures fuel { IfErr result (ReachStops B.wants self.now (Prog.Call item args.now)) }
     {
         let body = body_of(self.here.alloc, self.here.agent, item, args)?;
         self.reach_of_put(body)

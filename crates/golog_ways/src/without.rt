@@ -7,6 +7,7 @@ ghost use Rattle.golog_ways.specs.Closed.{IsFit, IsClosed};
 ghost use Rattle.golog_ways.specs.First.{first_way, has_way};
 
 use crate::answering::{Blocks, Stop};
+use crate::following::Following;
 use crate::moving::first_move;
 use crate::reaches::{NOWHERE, Reach};
 use crate::reaching::reach_of;
@@ -31,10 +32,7 @@ impl Blocks for NoBlocks {
         _alloc: Global,
         _agent: &Agent,
         _values: &[u8],
-        _depth: u32,
-        _fuel: u32,
-        _body: &Prog,
-        _rest: &[Way],
+        _block: &Following<'_>,
     ) -> Result<Option<Move>, Stop> {
         Ok(None)
     }
@@ -44,10 +42,7 @@ impl Blocks for NoBlocks {
         _alloc: Global,
         _agent: &Agent,
         _values: &[u8],
-        _depth: u32,
-        _fuel: u32,
-        _body: &Prog,
-        _rest: &[Way],
+        _block: &Following<'_>,
     ) -> Result<Reach, Stop> {
         Ok(NOWHERE)
     }

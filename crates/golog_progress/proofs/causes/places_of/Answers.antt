@@ -20,8 +20,8 @@ slice_bounds-fluent_no-end c =
     let f = fluent_of c.args.agent.now c.requires.agent c.args.fluent item c.requires.fluent at in
     zeros-count (length c.as_slice-sorts.result.now) (subst (λ xs. length xs ≤ 3) (sym sorts) f.few)
 
-pub count_of-requires-clause-few : goal.count_of-requires-clause-few
-count_of-requires-clause-few c =
+pub args_count-requires-clause-few : goal.args_count-requires-clause-few
+args_count-requires-clause-few c =
     let item = c.index-as_slice-fluent.result in
     let at : slice_get c.args.agent.now.fluents c.args.fluent ≡ Some item = item-at c.args.agent.now.fluents c.args.fluent item c.requires.fluent (subst (λ xs. item ≡ get_or xs c.args.fluent item) c.as_slice.ensures c.index-as_slice-fluent.is) in
     let sorts : c.as_slice-sorts.result.now ≡ item.args = c.as_slice-sorts.ensures ∙ ap (λ i. i.args) (sym c.index-as_slice-fluent.is) in
@@ -43,6 +43,6 @@ returns c =
     let at : slice_get c.args.agent.now.fluents c.args.fluent ≡ Some item = item-at c.args.agent.now.fluents c.args.fluent item c.requires.fluent (subst (λ xs. item ≡ get_or xs c.args.fluent item) c.as_slice.ensures c.index-as_slice-fluent.is) in
     let sorts : c.as_slice-sorts.result.now ≡ item.args = c.as_slice-sorts.ensures ∙ ap (λ i. i.args) (sym c.index-as_slice-fluent.is) in
     let f = fluent_of c.args.agent.now c.requires.agent c.args.fluent item c.requires.fluent at in
-    f.places c.fluent_no.result c.count_of.result
+    f.places c.fluent_no.result c.args_count.result
     (c.fluent_no.ensures.number ∙ ap (λ xs. number_of c.args.agent.now (fluent_args c.args.agent.now) c.args.fluent (take (length xs) (0 ∷ 0 ∷ 0 ∷ []))) sorts)
-    (c.count_of.ensures ∙ ap (λ xs. product (sizes c.args.agent.now xs)) sorts)
+    (c.args_count.ensures ∙ ap (λ xs. product (sizes c.args.agent.now xs)) sorts)

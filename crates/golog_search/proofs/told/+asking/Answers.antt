@@ -1,10 +1,10 @@
-use Rattle.std.proofs.Common.{◌≡◌, ◌+◌, ◌*◌, ◌<◌, ◌++◌, [], List, max, rules, sym, ap, ◌∙◌, arith}
+use Rattle.std.proofs.Common.{◌≡◌, ◌+◌, ◌*◌, ◌<◌, ◌++◌, List, max, rules, sym, ap, ◌∙◌, arith}
 use Rattle.std.proofs.lemmas.Result.{on_ok_weaker}
 use mathlib.Core.List.{append-nil}
 use Rattle.golog_tree.specs.declared.prog.Prog.{Prog}
 use Rattle.golog_tree.specs.declared.prog.Prog.TheVariants as prog
 use Rattle.golog_semantics.specs.Guarded.{front}
-use Rattle.golog_ways.proofs.Closing.{conc_parts, prio_parts, seq_parts}
+use Rattle.golog_ways.proofs.Closing.{conc_parts, prio_parts, seq_parts, both_down, down}
 use Rattle.golog_ways.proofs.Moved.{one_same, two_same}
 use Rattle.golog_search.specs.declared.told.Told.{Told}
 use Rattle.golog_search.specs.Told.{told_at, told_in}
@@ -20,44 +20,23 @@ ask_of-ask-requires-clause-searched g t c =
 
 pub ask_of-ask_of-requires : goal.ask_of-ask_of-requires
 ask_of-ask_of-requires g t c κs within =
-    let a = c.get-in-Seq.result.now in
-    let e = one_same (λ (z : Prog). prog.Seq z c.in-Seq.field-1) c.in-Seq.is c.get-in-Seq.ensures in
-    let parts = seq_parts c.requires.closed e in
-    let closed = parts.one.closed_too in
-    let l = parts.one.lower in
-    let low : 2 * (front c.args.agent.now a).height < 2 * (front c.args.agent.now c.args.prog.now).height = omega arith in
+    let part = down ((seq_parts c.requires.closed (one_same (λ (z : Prog). prog.Seq z c.in-Seq.field-1) c.in-Seq.is c.get-in-Seq.ensures)).one) in
     search rules
 
 pub ask_of-ask_of_both-requires : goal.ask_of-ask_of_both-requires
 ask_of-ask_of_both-requires g t c κs within =
-    let a = c.get-in-Conc.result.now in
-    let b = c.get-in-Conc-2.result.now in
-    let e = two_same (prog.Conc) c.in-Conc.is c.get-in-Conc.ensures c.get-in-Conc-2.ensures in
-    let parts = conc_parts c.requires.closed e in
-    let one_closed = parts.one.closed_too in
-    let other_closed = parts.other.closed_too in
-    let l = parts.one.lower in
-    let k = parts.other.lower in
-    let low : 1 + 2 * max (front c.args.agent.now a).height (front c.args.agent.now b).height < 2 * (front c.args.agent.now c.args.prog.now).height = omega arith in
+    let parts = both_down (conc_parts c.requires.closed (two_same prog.Conc c.in-Conc.is c.get-in-Conc.ensures c.get-in-Conc-2.ensures)) in
     search rules
 
 pub ask_of-ask_of_both-requires-in-Prio : goal.ask_of-ask_of_both-requires-in-Prio
 ask_of-ask_of_both-requires-in-Prio g t c κs within =
-    let a = c.get-in-Prio.result.now in
-    let b = c.get-in-Prio-2.result.now in
-    let e = two_same (prog.Prio) c.in-Prio.is c.get-in-Prio.ensures c.get-in-Prio-2.ensures in
-    let parts = prio_parts c.requires.closed e in
-    let one_closed = parts.one.closed_too in
-    let other_closed = parts.other.closed_too in
-    let l = parts.one.lower in
-    let k = parts.other.lower in
-    let low : 1 + 2 * max (front c.args.agent.now a).height (front c.args.agent.now b).height < 2 * (front c.args.agent.now c.args.prog.now).height = omega arith in
+    let parts = both_down (prio_parts c.requires.closed (two_same prog.Prio c.in-Prio.is c.get-in-Prio.ensures c.get-in-Prio-2.ensures)) in
     search rules
 
 pub ask_of_both-ask_of-requires : goal.ask_of_both-ask_of-requires
 ask_of_both-ask_of-requires g t c κs within =
     let closed = c.requires.one in
-    let low : 2 * (front c.args.agent.now c.args.one.now).height < 1 + 2 * max (front c.args.agent.now c.args.one.now).height (front c.args.agent.now c.args.other.now).height = omega arith in
+    let low : 1 + 3 * (front c.args.agent.now c.args.one.now).height < 2 + 3 * max (front c.args.agent.now c.args.one.now).height (front c.args.agent.now c.args.other.now).height = omega arith in
     search rules
 
 pub ask_of_both-ask_of-requires-2 : goal.ask_of_both-ask_of-requires-2
@@ -65,7 +44,7 @@ ask_of_both-ask_of-requires-2 g t c κs within =
     let closed = c.requires.other in
     let serves = c.ask_of.ensures.serves in
     let told = c.in_ok-ask_of.ensures.told in
-    let low : 2 * (front c.args.agent.now c.args.other.now).height < 1 + 2 * max (front c.args.agent.now c.args.one.now).height (front c.args.agent.now c.args.other.now).height = omega arith in
+    let low : 1 + 3 * (front c.args.agent.now c.args.other.now).height < 2 + 3 * max (front c.args.agent.now c.args.one.now).height (front c.args.agent.now c.args.other.now).height = omega arith in
     search rules
 
 pub ask_of-returns-in-Follow-clause-asked : goal.ask_of-returns-in-Follow-clause-asked

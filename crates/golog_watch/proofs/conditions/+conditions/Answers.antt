@@ -12,3 +12,7 @@ returns-in_default t c =
 pub returns-in_default-2 : goal.returns-in_default-2
 returns-in_default-2 t c =
     subst (AreTold c.args.agent.now c.args.prog.now c.args.run.now) (sym c.new.ensures) (none-told c.args.agent.now c.args.prog.now c.args.run.now)
+
+pub returns-in-Ok : goal.returns-in-Ok
+returns-in-Ok t c =
+    subst (λ (run : Run). IfOk c.with_first.result (AreTold c.args.agent.now c.args.prog.now run)) (sym c.in-Some.ensures.cases.0) c.with_first.ensures

@@ -8,5 +8,5 @@ first_and-requires-clause-tells c =
 
 pub returns-in_ok-whole-in-Some : goal.returns-in_ok-whole-in-Some
 returns-in_ok-whole-in-Some c =
-    next-of c.args.agent.now c.args.prog.now c.args.run.now c.args.way.now c.args.later.now c.args.conds.now c.in-Some.next.now c.in_ok-whole-in-Some.whole
-    c.requires.run (sym c.in-Some.ensures) c.in_ok-whole-in-Some.ensures
+    next-of c.args.agent.now c.args.prog.now c.args.way.now c.args.later.now c.args.conds.now c.in-Some.next.now c.in_ok-whole-in-Some.whole
+    (sym c.in-Some.ensures) c.in_ok-whole-in-Some.ensures

@@ -1,120 +1,74 @@
-use Rattle.std.proofs.Common.{◌≡◌, ℕ, ◌+◌, ◌*◌, ◌<◌, max, List, [], ◌∷◌, length, Some, refl, sym, ap, ◌∙◌, subst, rules, arith}
+use Rattle.std.proofs.Common.{◌≡◌, ◌+◌, ◌*◌, ◌<◌, max, List, length, Some, refl, sym, ap, ◌∙◌, subst, rules, arith}
 use Rattle.std.specs.Prelude.{slice_get}
 use Rattle.std.proofs.lemmas.Option.{slice_get_past, slice_get_read}
 use Rattle.golog_tree.specs.declared.agent.ProcItem.{ProcItem}
 use Rattle.golog_tree.specs.declared.prog.Prog.{Prog}
 use Rattle.golog_tree.specs.declared.prog.Prog.TheVariants as prog
 use Rattle.golog_semantics.specs.Guarded.{Front, front, front_at, proc_fronts}
-use Rattle.golog_ways.specs.Fore.{IsFore, IsCallFore}
+use Rattle.golog_ways.specs.Fore.{IsFore}
 use Rattle.golog_ways.proofs.Moved.{one_same, two_same}
 use Rattle.golog_ways.proofs.Fores.{act_fore, body_fore, call_fore, call_low, choice_fore, choice_low, conc_fore, conc_low, cstar_fore, cstar_low, follow_fore, follow_low, front_in_body, if_fore, if_low, nil_fore, none_fore, pick_fore, pick_low, prio_fore, prio_low, search_fore, search_low, second_low, seq_barred, seq_fore, seq_low, star_fore, star_low, test_fore, while_fore, while_low}
 use Rattle.golog_ways.proofs.blocks.+fore.Goals as goal
 
 pub fore_of-fore_of_seq-requires : goal.fore_of-fore_of_seq-requires
 fore_of-fore_of_seq-requires t c =
-    let a = c.get.result.now in
-    let b = c.get-in-Seq.result.now in
-    let e = two_same prog.Seq c.in-Seq.is c.get.ensures c.get-in-Seq.ensures in
-    let same : (front c.args.agent.now c.args.prog.now).height ≡ (front c.args.agent.now (prog.Seq a b)).height = ap (λ (z : Prog). (front c.args.agent.now z).height) e in
-    let low : 3 * (front c.args.agent.now (prog.Seq a b)).height < 1 + 3 * (front c.args.agent.now c.args.prog.now).height = omega arith in
+    let same = ap (λ (z : Prog). (front c.args.agent.now z).height) (two_same prog.Seq c.in-Seq.is c.get.ensures c.get-in-Seq.ensures) in
+    let low : 3 * (front c.args.agent.now (prog.Seq c.get.result.now c.get-in-Seq.result.now)).height < 1 + 3 * (front c.args.agent.now c.args.prog.now).height = omega arith in
     search rules
 
 pub fore_of-fores-requires : goal.fore_of-fores-requires
 fore_of-fores-requires t c =
-    let a = c.get-in-Choice.result.now in
-    let b = c.get-in-Choice-2.result.now in
-    let e = two_same prog.Choice c.in-Choice.is c.get-in-Choice.ensures c.get-in-Choice-2.ensures in
-    let l = choice_low c.args.agent.now c.args.prog.now a b e in
-    let k = l.one in
-    let j = l.other in
-    let low : 2 + 3 * max (front c.args.agent.now a).height (front c.args.agent.now b).height < 1 + 3 * (front c.args.agent.now c.args.prog.now).height = omega arith in
+    let low = choice_low c.args.agent.now c.args.prog.now _ _ (two_same prog.Choice c.in-Choice.is c.get-in-Choice.ensures c.get-in-Choice-2.ensures) in
     search rules
 
 pub fore_of-fores-requires-in-If : goal.fore_of-fores-requires-in-If
 fore_of-fores-requires-in-If t c =
-    let a = c.get-in-If.result.now in
-    let b = c.get-in-If-2.result.now in
-    let e = two_same (prog.If c.in-If.cond) c.in-If.is c.get-in-If.ensures c.get-in-If-2.ensures in
-    let l = if_low c.args.agent.now c.in-If.cond c.args.prog.now a b e in
-    let k = l.one in
-    let j = l.other in
-    let low : 2 + 3 * max (front c.args.agent.now a).height (front c.args.agent.now b).height < 1 + 3 * (front c.args.agent.now c.args.prog.now).height = omega arith in
+    let low = if_low c.args.agent.now c.in-If.cond c.args.prog.now _ _ (two_same (prog.If c.in-If.cond) c.in-If.is c.get-in-If.ensures c.get-in-If-2.ensures) in
     search rules
 
 pub fore_of-fores-requires-in-Conc : goal.fore_of-fores-requires-in-Conc
 fore_of-fores-requires-in-Conc t c =
-    let a = c.get-in-Conc.result.now in
-    let b = c.get-in-Conc-2.result.now in
-    let e = two_same prog.Conc c.in-Conc.is c.get-in-Conc.ensures c.get-in-Conc-2.ensures in
-    let l = conc_low c.args.agent.now c.args.prog.now a b e in
-    let k = l.one in
-    let j = l.other in
-    let low : 2 + 3 * max (front c.args.agent.now a).height (front c.args.agent.now b).height < 1 + 3 * (front c.args.agent.now c.args.prog.now).height = omega arith in
+    let low = conc_low c.args.agent.now c.args.prog.now _ _ (two_same prog.Conc c.in-Conc.is c.get-in-Conc.ensures c.get-in-Conc-2.ensures) in
     search rules
 
 pub fore_of-fores-requires-in-Prio : goal.fore_of-fores-requires-in-Prio
 fore_of-fores-requires-in-Prio t c =
-    let a = c.get-in-Prio.result.now in
-    let b = c.get-in-Prio-2.result.now in
-    let e = two_same prog.Prio c.in-Prio.is c.get-in-Prio.ensures c.get-in-Prio-2.ensures in
-    let l = prio_low c.args.agent.now c.args.prog.now a b e in
-    let k = l.one in
-    let j = l.other in
-    let low : 2 + 3 * max (front c.args.agent.now a).height (front c.args.agent.now b).height < 1 + 3 * (front c.args.agent.now c.args.prog.now).height = omega arith in
+    let low = prio_low c.args.agent.now c.args.prog.now _ _ (two_same prog.Prio c.in-Prio.is c.get-in-Prio.ensures c.get-in-Prio-2.ensures) in
     search rules
 
 pub fore_of-fore_of-requires : goal.fore_of-fore_of-requires
 fore_of-fore_of-requires t c =
-    let a = c.get-in-Pick.result.now in
-    let e = one_same (prog.Pick c.in-Pick.var c.in-Pick.sort) c.in-Pick.is c.get-in-Pick.ensures in
-    let l = pick_low c.args.agent.now c.in-Pick.var c.in-Pick.sort c.args.prog.now a e in
-    let low : 1 + 3 * (front c.args.agent.now a).height < 1 + 3 * (front c.args.agent.now c.args.prog.now).height = omega arith in
+    let low = pick_low c.args.agent.now c.in-Pick.var c.in-Pick.sort c.args.prog.now _ (one_same (prog.Pick c.in-Pick.var c.in-Pick.sort) c.in-Pick.is c.get-in-Pick.ensures) in
     search rules
 
 pub fore_of-fore_of-requires-in-Star : goal.fore_of-fore_of-requires-in-Star
 fore_of-fore_of-requires-in-Star t c =
-    let a = c.get-in-Star.result.now in
-    let e = one_same prog.Star c.in-Star.is c.get-in-Star.ensures in
-    let l = star_low c.args.agent.now c.args.prog.now a e in
-    let low : 1 + 3 * (front c.args.agent.now a).height < 1 + 3 * (front c.args.agent.now c.args.prog.now).height = omega arith in
+    let low = star_low c.args.agent.now c.args.prog.now _ (one_same prog.Star c.in-Star.is c.get-in-Star.ensures) in
     search rules
 
 pub fore_of-fore_of-requires-in-Cstar : goal.fore_of-fore_of-requires-in-Cstar
 fore_of-fore_of-requires-in-Cstar t c =
-    let a = c.get-in-Cstar.result.now in
-    let e = one_same prog.Cstar c.in-Cstar.is c.get-in-Cstar.ensures in
-    let l = cstar_low c.args.agent.now c.args.prog.now a e in
-    let low : 1 + 3 * (front c.args.agent.now a).height < 1 + 3 * (front c.args.agent.now c.args.prog.now).height = omega arith in
+    let low = cstar_low c.args.agent.now c.args.prog.now _ (one_same prog.Cstar c.in-Cstar.is c.get-in-Cstar.ensures) in
     search rules
 
 pub fore_of-fore_of-requires-in-While : goal.fore_of-fore_of-requires-in-While
 fore_of-fore_of-requires-in-While t c =
-    let a = c.get-in-While.result.now in
-    let e = one_same (prog.While c.in-While.cond) c.in-While.is c.get-in-While.ensures in
-    let l = while_low c.args.agent.now c.in-While.cond c.args.prog.now a e in
-    let low : 1 + 3 * (front c.args.agent.now a).height < 1 + 3 * (front c.args.agent.now c.args.prog.now).height = omega arith in
+    let low = while_low c.args.agent.now c.in-While.cond c.args.prog.now _ (one_same (prog.While c.in-While.cond) c.in-While.is c.get-in-While.ensures) in
     search rules
 
 pub fore_of-fore_of-requires-in-Search : goal.fore_of-fore_of-requires-in-Search
 fore_of-fore_of-requires-in-Search t c =
-    let a = c.get-in-Search.result.now in
-    let e = one_same (prog.Search c.in-Search.depth c.in-Search.fuel) c.in-Search.is c.get-in-Search.ensures in
-    let l = search_low c.args.agent.now c.in-Search.depth c.in-Search.fuel c.args.prog.now a e in
-    let low : 1 + 3 * (front c.args.agent.now a).height < 1 + 3 * (front c.args.agent.now c.args.prog.now).height = omega arith in
+    let low = search_low c.args.agent.now c.in-Search.depth c.in-Search.fuel c.args.prog.now _ (one_same (prog.Search c.in-Search.depth c.in-Search.fuel) c.in-Search.is c.get-in-Search.ensures) in
     search rules
 
 pub fore_of-fore_of-requires-in-Follow : goal.fore_of-fore_of-requires-in-Follow
 fore_of-fore_of-requires-in-Follow t c =
-    let a = c.get-in-Follow.result.now in
-    let e = one_same (λ (z : Prog). prog.Follow c.in-Follow.depth c.in-Follow.fuel z c.in-Follow.rest) c.in-Follow.is c.get-in-Follow.ensures in
-    let l = follow_low c.args.agent.now c.in-Follow.depth c.in-Follow.fuel c.in-Follow.rest c.args.prog.now a e in
-    let low : 1 + 3 * (front c.args.agent.now a).height < 1 + 3 * (front c.args.agent.now c.args.prog.now).height = omega arith in
+    let low = follow_low c.args.agent.now c.in-Follow.depth c.in-Follow.fuel c.in-Follow.rest c.args.prog.now _ (one_same (λ (z : Prog). prog.Follow c.in-Follow.depth c.in-Follow.fuel z c.in-Follow.rest) c.in-Follow.is c.get-in-Follow.ensures) in
     search rules
 
 pub fore_of-fore_of_call-requires : goal.fore_of-fore_of_call-requires
 fore_of-fore_of_call-requires t c =
-    let l = call_low c.args.agent.now c.args.prog.now c.in-Call.item c.in-Call.args c.in-Call.is in
-    let low : 2 + 3 * (front_at (proc_fronts c.args.agent.now) c.in-Call.item).height < 1 + 3 * (front c.args.agent.now c.args.prog.now).height = omega arith in
+    let low = call_low c.args.agent.now c.args.prog.now c.in-Call.item c.in-Call.args c.in-Call.is in
     search rules
 
 pub fore_of-returns-in-Nil : goal.fore_of-returns-in-Nil
@@ -225,14 +179,12 @@ fore_of_call-returns-in-Some t c =
 
 pub fore_of_seq-fore_of-one-requires : goal.fore_of_seq-fore_of-one-requires
 fore_of_seq-fore_of-one-requires t c =
-    let l = seq_low c.args.agent.now c.args.one.now c.args.other.now in
-    let low : 1 + 3 * (front c.args.agent.now c.args.one.now).height < 3 * (front c.args.agent.now (prog.Seq c.args.one.now c.args.other.now)).height = omega arith in
+    let low = seq_low c.args.agent.now c.args.one.now c.args.other.now in
     search rules
 
 pub fore_of_seq-fore_of-requires : goal.fore_of_seq-fore_of-requires
 fore_of_seq-fore_of-requires t c =
-    let l = second_low c.args.agent.now c.args.one.now c.args.other.now (sym c.fore_of-one.ensures.skip ∙ c.if-one.true) in
-    let low : 1 + 3 * (front c.args.agent.now c.args.other.now).height < 3 * (front c.args.agent.now (prog.Seq c.args.one.now c.args.other.now)).height = omega arith in
+    let low = second_low c.args.agent.now c.args.one.now c.args.other.now (sym c.fore_of-one.ensures.skip ∙ c.if-one.true) in
     search rules
 
 pub fore_of_seq-returns-then-one : goal.fore_of_seq-returns-then-one

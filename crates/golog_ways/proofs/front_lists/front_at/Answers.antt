@@ -6,4 +6,4 @@ pub returns : goal.returns
 returns c =
     let front = c.args.front.now in
     front_given c.copy_cond-cond.result front.label c.copy_at-left.result c.in_ok-cond.cond front.cond c.in_ok-cond.left (placed c.args.place front.left c.args.other.now)
-    c.copy_cond-cond.ensures c.copy_at-left.ensures c.in_ok-cond.ensures.0 c.in_ok-cond.ensures.1
+    c.copy_cond-cond.ensures c.copy_at-left.ensures c.in_ok-cond.ensures.parts.0 c.in_ok-cond.ensures.parts.1

@@ -7,4 +7,4 @@ pub returns : goal.returns
 returns c =
     let front = c.args.front.now in
     front_given c.both_of-cond.result front.label c.copy_prog-left.result c.in_ok-cond.cond (cond.And (c.args.cond.now ∷ front.cond ∷ [])) c.in_ok-cond.left front.left
-    c.both_of-cond.ensures c.copy_prog-left.ensures c.in_ok-cond.ensures.0 c.in_ok-cond.ensures.1
+    c.both_of-cond.ensures c.copy_prog-left.ensures c.in_ok-cond.ensures.parts.0 c.in_ok-cond.ensures.parts.1

@@ -13,21 +13,21 @@ first_of_block-requires-clause-told c = c.requires.ready.told
 
 pub first_of_block-requires-clause-searched : goal.first_of_block-requires-clause-searched
 first_of_block-requires-clause-searched c =
-    follow_searched c.args.agent.now c.args._values.now c.args.self.now.state.now c.requires.ready.searched c.args.body.now c.in_ok-block.block.body (ap (λ (b : Block). b.body) c.in_ok-block.ensures)
-    c.args.depth c.args.fuel c.args.rest.now c.requires.closed
+    follow_searched c.args.agent.now c.args._values.now c.args.self.now.state.now c.requires.ready.searched c.args.following.now.body.now c.in_ok-block.block.body (ap (λ (b : Block). b.body) c.in_ok-block.ensures)
+    c.args.following.now.depth c.args.following.now.fuel c.args.following.now.rest.now c.requires.closed
 
 pub returns-in-Step-clause-first : goal.returns-in-Step-clause-first
 returns-in-Step-clause-first c =
     let agent = c.args.agent.now in
     let state = c.args.self.now.state.now in
     let block = c.in_ok-block.block in
-    first-given agent c.args._values.now state c.requires.ready.searched.same block _ c.in_ok-block.ensures c.args.rest.now c.in-Step.step
-    (step-told c.args.self.now.bounded agent state block c.args.rest.now c.in-Step.step (sym c.in-Step.is ∙ c.in_ok-step.ensures))
+    first-given agent c.args._values.now state c.requires.ready.searched.same block _ c.in_ok-block.ensures c.args.following.now.rest.now c.in-Step.step
+    (step-told c.args.self.now.bounded agent state block c.args.following.now.rest.now c.in-Step.step (sym c.in-Step.is ∙ c.in_ok-step.ensures))
 
 pub returns-clause-fuel : goal.returns-clause-fuel
 returns-clause-fuel c = λ e.
     let agent = c.args.agent.now in
     let state = c.args.self.now.state.now in
     let block = c.in_ok-block.block in
-    wants-given agent c.args._values.now state c.requires.ready.searched.same block _ c.in_ok-block.ensures c.args.rest.now c.args.self.now.bounded Must
-    (step-lacks c.args.self.now.bounded agent state block c.args.rest.now (sym c.in-Fuel.is ∙ c.in_ok-step.ensures))
+    wants-given agent c.args._values.now state c.requires.ready.searched.same block _ c.in_ok-block.ensures c.args.following.now.rest.now c.args.self.now.bounded Must
+    (step-lacks c.args.self.now.bounded agent state block c.args.following.now.rest.now (sym c.in-Fuel.is ∙ c.in_ok-step.ensures))

@@ -12,18 +12,18 @@ reach_of_block-reach-requires-clause-told c = c.requires.ready.told
 
 pub reach_of_block-reach-requires-clause-searched : goal.reach_of_block-reach-requires-clause-searched
 reach_of_block-reach-requires-clause-searched c =
-    follow_searched c.args.agent.now c.args._values.now c.args.self.now.state.now c.requires.ready.searched c.args.body.now c.in_ok-block.block.body (ap (λ (b : Block). b.body) c.in_ok-block.ensures)
-    c.args.depth c.args.fuel c.args.rest.now c.requires.closed
+    follow_searched c.args.agent.now c.args._values.now c.args.self.now.state.now c.requires.ready.searched c.args.following.now.body.now c.in_ok-block.block.body (ap (λ (b : Block). b.body) c.in_ok-block.ensures)
+    c.args.following.now.depth c.args.following.now.fuel c.args.following.now.rest.now c.requires.closed
 
 pub reach_of_block-reach-requires-clause-depth : goal.reach_of_block-reach-requires-clause-depth
 reach_of_block-reach-requires-clause-depth c =
-    subst (λ k. 1 ≤ k) (sym (ap (λ (b : Block). b.depth) c.in_ok-block.ensures)) (follow_depth c.args.agent.now c.args.body.now c.args.depth c.args.fuel c.args.rest.now c.requires.closed)
+    subst (λ k. 1 ≤ k) (sym (ap (λ (b : Block). b.depth) c.in_ok-block.ensures)) (follow_depth c.args.agent.now c.args.following.now.body.now c.args.following.now.depth c.args.following.now.fuel c.args.following.now.rest.now c.requires.closed)
 
 pub returns-clause-reach : goal.returns-clause-reach
 returns-clause-reach c =
-    reach-given c.args.agent.now c.args._values.now c.args.self.now.state.now c.requires.ready.searched.same c.in_ok-block.block _ c.in_ok-block.ensures c.args.rest.now c.reach_of_block-reach.result c.reach_of_block-reach.ensures.reach
+    reach-given c.args.agent.now c.args._values.now c.args.self.now.state.now c.requires.ready.searched.same c.in_ok-block.block _ c.in_ok-block.ensures c.args.following.now.rest.now c.reach_of_block-reach.result c.reach_of_block-reach.ensures.reach
 
 pub returns-clause-fuel : goal.returns-clause-fuel
 returns-clause-fuel c =
-    lacks-given c.args.agent.now c.args._values.now c.args.self.now.state.now c.requires.ready.searched.same c.in_ok-block.block _ c.in_ok-block.ensures c.args.rest.now c.args.self.now.bounded
+    lacks-given c.args.agent.now c.args._values.now c.args.self.now.state.now c.requires.ready.searched.same c.in_ok-block.block _ c.in_ok-block.ensures c.args.following.now.rest.now c.args.self.now.bounded
     c.reach_of_block-reach.result c.reach_of_block-reach.ensures.fuel

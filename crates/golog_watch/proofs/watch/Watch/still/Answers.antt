@@ -1,10 +1,10 @@
 use Rattle.std.proofs.Common.{◌≡◌, length, sym, ◌∙◌, subst}
-use Rattle.std.specs.Prelude.{IfOk, IfSome, slice_get}
+use Rattle.std.specs.Prelude.{IfOk, IfSome, IsOk, slice_get}
 use Rattle.std.proofs.lemmas.Result.{IfOk-weaker}
 use Rattle.golog_semantics.specs.Blocks.{goes_through}
 use Rattle.golog_semantics.specs.Search.{Run}
 use Rattle.golog_certain.proofs.RunsStay.{runs_stay}
-use Rattle.golog_watch.specs.Watched.{StaysKept, Tells}
+use Rattle.golog_watch.specs.Watched.{IsTold, StaysKept, Tells}
 use Rattle.golog_watch.proofs.Telling.{told-if}
 use Rattle.golog_watch.proofs.watch.Watch.still.Goals as goal
 
@@ -23,7 +23,7 @@ pub returns-clause-still : goal.returns-clause-still
 returns-clause-still c =
     let agent = c.args.agent.now in
     let watch = c.args.self.now in
-    subst (λ (run : Run). IfOk c.still_left.result (λ b. b ≡ goes_through agent watch.body run c.args.state.now)) c.as_slice.ensures c.still_left.ensures
+    subst (λ (run : Run). IfOk c.still_left.result (λ b. b ≡ goes_through agent watch.body run c.args.state.now)) c.as_slice.ensures c.still_left.ensures.still
 
 pub returns-clause-kept : goal.returns-clause-kept
 returns-clause-kept c =
@@ -32,4 +32,8 @@ returns-clause-kept c =
     let state = c.args.state.now in
     IfOk-weaker c.still_left.result (λ b. b ≡ goes_through agent watch.body watch.rest state) (StaysKept agent watch.body watch.rest state)
     (λ b e old more through. e ∙ runs_stay agent watch.body watch.rest old state more through)
-    (subst (λ (run : Run). IfOk c.still_left.result (λ b. b ≡ goes_through agent watch.body run state)) c.as_slice.ensures c.still_left.ensures)
+    (subst (λ (run : Run). IfOk c.still_left.result (λ b. b ≡ goes_through agent watch.body run state)) c.as_slice.ensures c.still_left.ensures.still)
+
+pub returns-clause-told : goal.returns-clause-told
+returns-clause-told c =
+    subst (λ (run : Run). IsTold c.args.self.now run → IsOk c.still_left.result) c.as_slice.ensures c.still_left.ensures.told

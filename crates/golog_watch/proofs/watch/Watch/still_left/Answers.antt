@@ -11,8 +11,8 @@ is_certain-requires-clause-closed c =
 pub is_certain-requires-clause-sorts : goal.is_certain-requires-clause-sorts
 is_certain-requires-clause-sorts c = c.requires.searched.sorts
 
-pub returns-in-Some : goal.returns-in-Some
-returns-in-Some c =
+pub returns-in-Some-clause-still : goal.returns-in-Some-clause-still
+returns-in-Some-clause-still c =
     c.is_certain.ensures
     ∙ (at-some (Tells c.args.agent.now c.args.body.now c.args.rest.now) (slice_get c.args.self.now.conds (length c.args.rest.now)) c.in-Some.cond.now c.requires.tells (sym c.in-Some.ensures)).tells
     c.args.state.now c.requires.searched.sorts

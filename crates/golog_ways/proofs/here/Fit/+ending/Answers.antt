@@ -158,7 +158,7 @@ ends-end_of-other-requires t c =
 
 pub ends-returns : goal.ends-returns
 ends-returns t c =
-    ends_given c.args.self.now.agent.now c.args.one.now c.args.other.now c.end_of-one.result c.end_of-other.result c.end_of-one.ensures c.end_of-other.ensures c.pair_of.result c.pair_of.ensures
+    ends_given c.args.self.now.agent.now c.args.one.now c.args.other.now c.end_of-one.result c.end_of-other.result c.end_of-one.ensures c.end_of-other.ensures c.both.result c.both.ensures.parts
 
 pub end_of_seq-ends-requires : goal.end_of_seq-ends-requires
 end_of_seq-ends-requires t c =

@@ -161,7 +161,7 @@ fronts_of_both-fronts_of-others-requires t c =
 
 pub fronts_of_both-returns : goal.fronts_of_both-returns
 fronts_of_both-returns t c =
-    both_given c.args.self.now.agent.now c.args.one.now c.args.other.now c.fronts_of-ones.result c.fronts_of-others.result c.fronts_of-ones.ensures c.fronts_of-others.ensures c.pair_of.result c.pair_of.ensures
+    both_given c.args.self.now.agent.now c.args.one.now c.args.other.now c.fronts_of-ones.result c.fronts_of-others.result c.fronts_of-ones.ensures c.fronts_of-others.ensures c.both.result c.both.ensures.parts
 
 pub fronts_of_seq-fronts_of_both-requires : goal.fronts_of_seq-fronts_of_both-requires
 fronts_of_seq-fronts_of_both-requires t c =

@@ -1,7 +1,7 @@
-use Rattle.std.proofs.Common.{◌≡◌, ◌+◌, ◌*◌, ◌<◌, Option, None, false, inl, inr, refl, sym, ap, ◌∙◌, rules, arith}
+use Rattle.std.proofs.Common.{◌≡◌, ◌+◌, ◌*◌, ◌<◌, Option, None, [], false, inl, inr, refl, sym, ap, ◌∙◌, rules, arith}
 use Rattle.golog_tree.specs.declared.cond.Truth.TheVariants.{Yes, No, Unknown}
 use Rattle.golog_tree.specs.declared.prog.Prog.{Prog}
-use Rattle.golog_tree.specs.declared.prog.Prog.TheOpen.{Choice, Star, If, While, Conc, Cstar, Call, Search, Follow}
+use Rattle.golog_tree.specs.declared.prog.Prog.TheOpen.{Choice, Star, If, While, Conc, Cstar, Call}
 use Rattle.golog_tree.specs.declared.prog.Prog.TheVariants as prog
 use Rattle.golog_tree.specs.declared.prog.Prog.TheViews.{out-Prog}
 use Rattle.golog_semantics.specs.declared.search.Move.{Move}
@@ -12,10 +12,10 @@ use Rattle.golog_semantics.specs.Guarded.{front}
 use Rattle.golog_semantics.specs.Program.{body_of}
 use Rattle.golog_semantics.proofs.Unfolded.{final-skips}
 use Rattle.golog_ways.specs.FirstMove.{first_move, moved_in}
-use Rattle.golog_ways.proofs.Lackings.{lacks_as, part_lacks, parts_lack, stops_as, stops_above, stops_from, memory_stops, must_stops, seq_one, seq_other, pick_lacks, prio_high, prio_low, lacks_higher}
+use Rattle.golog_ways.proofs.Lackings.{lacks_as, part_lacks, parts_lack, stops_as, stops_above, stops_from, memory_stops, search_lacks, seq_one, seq_other, pick_lacks, prio_high, prio_low, lacks_higher}
 use Rattle.golog_ways.proofs.BlockParts.{search_begins}
 use Rattle.golog_ways.proofs.Closing.{skipped, choice_parts, conc_parts, prio_parts, seq_parts, star_part, cstar_part, if_parts, while_parts, pick_part, call_part, call_few, down, part_as, whole}
-use Rattle.golog_ways.proofs.MoveSteps.{first_as, move_as, nil_first, search_first, follow_first, seq_first, seq_second, seq_neither, choice_first, choice_second, conc_first, conc_second, prio_first, prio_kept, prio_second, if_first, star_first, cstar_first, while_first, while_none, call_first, pick_from, pick_here, pick_next, pick_none}
+use Rattle.golog_ways.proofs.MoveSteps.{first_as, move_as, nil_first, search_first, seq_first, seq_second, seq_neither, choice_first, choice_second, conc_first, conc_second, prio_first, prio_kept, prio_second, if_first, star_first, cstar_first, while_first, while_none, call_first, pick_from, pick_here, pick_next, pick_none}
 use Rattle.golog_ways.proofs.Moved.{one_same, two_same, closed_as}
 use Rattle.golog_ways.proofs.here.Within.+moving.Goals as goal
 
@@ -110,7 +110,7 @@ first_move-first_move-requires-in-Cstar g t c κs within =
 
 pub first_move-returns-in_ok-found-in-Cstar-clause-first : goal.first_move-returns-in_ok-found-in-Cstar-clause-first
 first_move-returns-in_ok-found-in-Cstar-clause-first g t c =
-    move_as c.beside.result (moved_in (λ l. tidy_conc l c.args.prog.now) c.in_ok-found-in-Cstar.found) (first_move _ _ _ c.args.prog.now) (ap (λ (w : Option Move). moved_in (λ l. tidy_conc l c.args.prog.now) w) c.in_ok-found-in-Cstar.ensures.first ∙ sym (cstar_first _ _ _ c.args.self.now.here.fit.guarded _ _ (one_same prog.Cstar c.in-Cstar.is c.get-in-Cstar.ensures))) c.beside.ensures.left
+    move_as c.first_beside.result (moved_in (λ l. tidy_conc l c.args.prog.now) c.in_ok-found-in-Cstar.found) (first_move _ _ _ c.args.prog.now) (ap (λ (w : Option Move). moved_in (λ l. tidy_conc l c.args.prog.now) w) c.in_ok-found-in-Cstar.ensures.first ∙ sym (cstar_first _ _ _ c.args.self.now.here.fit.guarded _ _ (one_same prog.Cstar c.in-Cstar.is c.get-in-Cstar.ensures))) c.first_beside.ensures.left
 
 pub first_move-truth-requires : goal.first_move-truth-requires
 first_move-truth-requires g t c =
@@ -160,11 +160,11 @@ first_of_conc-first_move-requires-in-None g t c κs within =
 
 pub first_of_conc-returns-in-Some-clause-first : goal.first_of_conc-returns-in-Some-clause-first
 first_of_conc-returns-in-Some-clause-first g t c =
-    move_as c.beside.result _ (first_move _ _ _ (prog.Conc c.args.one.now c.args.other.now)) (sym (conc_first _ _ _ c.args.self.now.here.fit.guarded c.args.one.now c.args.other.now c.in-Some.found (sym c.in-Some.is ∙ c.in_ok-found.ensures.first))) c.beside.ensures.left
+    move_as c.first_beside.result _ (first_move _ _ _ (prog.Conc c.args.one.now c.args.other.now)) (sym (conc_first _ _ _ c.args.self.now.here.fit.guarded c.args.one.now c.args.other.now c.in-Some.found (sym c.in-Some.is ∙ c.in_ok-found.ensures.first))) c.first_beside.ensures.left
 
 pub first_of_conc-returns-in_ok-found-in-None-clause-first : goal.first_of_conc-returns-in_ok-found-in-None-clause-first
 first_of_conc-returns-in_ok-found-in-None-clause-first g t c =
-    move_as c.next_to.result (moved_in (λ l. tidy_conc c.args.one.now l) c.in_ok-found-in-None.found) (first_move _ _ _ (prog.Conc c.args.one.now c.args.other.now)) (ap (λ (w : Option Move). moved_in (λ l. tidy_conc c.args.one.now l) w) c.in_ok-found-in-None.ensures.first ∙ sym (conc_second _ _ _ c.args.self.now.here.fit.guarded c.args.one.now c.args.other.now (sym c.in-None.is ∙ c.in_ok-found.ensures.first))) c.next_to.ensures.left
+    move_as c.second_beside.result (moved_in (λ l. tidy_conc c.args.one.now l) c.in_ok-found-in-None.found) (first_move _ _ _ (prog.Conc c.args.one.now c.args.other.now)) (ap (λ (w : Option Move). moved_in (λ l. tidy_conc c.args.one.now l) w) c.in_ok-found-in-None.ensures.first ∙ sym (conc_second _ _ _ c.args.self.now.here.fit.guarded c.args.one.now c.args.other.now (sym c.in-None.is ∙ c.in_ok-found.ensures.first))) c.second_beside.ensures.left
 
 pub first_of_prio-first_move-requires : goal.first_of_prio-first_move-requires
 first_of_prio-first_move-requires g t c κs within =
@@ -289,21 +289,20 @@ pub first_of_call-returns-clause-first : goal.first_of_call-returns-clause-first
 first_of_call-returns-clause-first g t c =
     move_as c.first_of.result (first_move _ _ _ c.in_ok-body.body) (first_move _ _ _ (prog.Call c.args.item c.args.args.now)) (ap (first_move _ _ _) c.in_ok-body.ensures ∙ sym (call_first _ _ _ c.args.self.now.here.fit.guarded c.args.item c.args.args.now)) c.first_of.ensures.first
 
-pub first_move-first-requires-clause-closed : goal.first_move-first-requires-clause-closed
-first_move-first-requires-clause-closed g t c =
+pub first_move-first_of_block-requires-clause-closed : goal.first_move-first_of_block-requires-clause-closed
+first_move-first_of_block-requires-clause-closed g t c =
     let a = c.get-in-Search.result.now in
     search_begins c.args.self.now.here.agent.now c.args.prog.now a c.in-Search.depth c.in-Search.fuel _ refl c.requires.closed (one_same (prog.Search c.in-Search.depth c.in-Search.fuel) c.in-Search.is c.get-in-Search.ensures)
 
 pub first_move-returns-in-Search-clause-first : goal.first_move-returns-in-Search-clause-first
 first_move-returns-in-Search-clause-first g t c =
     let a = c.get-in-Search.result.now in
-    move_as c.first.result _ (first_move _ _ _ c.args.prog.now) (sym (ap (first_move _ _ _) (one_same (prog.Search c.in-Search.depth c.in-Search.fuel) c.in-Search.is c.get-in-Search.ensures) ∙ search_first _ _ _ c.args.self.now.here.fit.guarded c.in-Search.depth c.in-Search.fuel a)) c.first.ensures.first
+    move_as c.first_of_block.result _ (first_move _ _ _ c.args.prog.now) (search_first _ _ _ c.args.self.now.here.fit.guarded c.in-Search.depth c.in-Search.fuel a ∙ sym (ap (first_move _ _ _) (one_same (prog.Search c.in-Search.depth c.in-Search.fuel) c.in-Search.is c.get-in-Search.ensures))) c.first_of_block.ensures.first
 
 pub first_move-returns-in-Follow-clause-first : goal.first_move-returns-in-Follow-clause-first
 first_move-returns-in-Follow-clause-first g t c =
     let a = c.get-in-Follow.result.now in
-    let rest = c.as_slice-in-Follow.result.now in
-    move_as c.first-in-Follow.result _ (first_move _ _ _ c.args.prog.now) (sym (ap (first_move _ _ _) ((one_same (λ (z : Prog). prog.Follow c.in-Follow.depth c.in-Follow.fuel z c.in-Follow.rest) c.in-Follow.is c.get-in-Follow.ensures) ∙ ap (prog.Follow c.in-Follow.depth c.in-Follow.fuel a) (sym c.as_slice-in-Follow.ensures)) ∙ follow_first _ _ _ c.args.self.now.here.fit.guarded c.in-Follow.depth c.in-Follow.fuel a rest)) c.first-in-Follow.ensures.first
+    first_as _ _ _ c.first_of_block-in-Follow.result ((one_same (λ (z : Prog). prog.Follow c.in-Follow.depth c.in-Follow.fuel z c.in-Follow.rest) c.in-Follow.is c.get-in-Follow.ensures) ∙ ap (prog.Follow c.in-Follow.depth c.in-Follow.fuel a) (sym c.as_slice-in-Follow.ensures)) c.first_of_block-in-Follow.ensures.first
 
 pub first_move-returns-in-Act-clause-first : goal.first_move-returns-in-Act-clause-first
 first_move-returns-in-Act-clause-first g t c =
@@ -349,7 +348,7 @@ first_of_conc-returns-in_err-found-clause-fuel g t c =
 
 pub first_of_conc-returns-in-Some-clause-fuel : goal.first_of_conc-returns-in-Some-clause-fuel
 first_of_conc-returns-in-Some-clause-fuel g t c =
-    memory_stops _ _ false c.beside.result (prog.Conc c.args.one.now c.args.other.now) c.beside.ensures.memory
+    memory_stops _ _ false c.first_beside.result (prog.Conc c.args.one.now c.args.other.now) c.first_beside.ensures.memory
 
 pub first_of_conc-returns-in_err-found-in-None-clause-fuel : goal.first_of_conc-returns-in_err-found-in-None-clause-fuel
 first_of_conc-returns-in_err-found-in-None-clause-fuel g t c =
@@ -358,7 +357,7 @@ first_of_conc-returns-in_err-found-in-None-clause-fuel g t c =
 
 pub first_of_conc-returns-in_ok-found-in-None-clause-fuel : goal.first_of_conc-returns-in_ok-found-in-None-clause-fuel
 first_of_conc-returns-in_ok-found-in-None-clause-fuel g t c =
-    memory_stops _ _ false c.next_to.result (prog.Conc c.args.one.now c.args.other.now) c.next_to.ensures.memory
+    memory_stops _ _ false c.second_beside.result (prog.Conc c.args.one.now c.args.other.now) c.second_beside.ensures.memory
 
 pub first_of_prio-returns-in_err-found-clause-fuel : goal.first_of_prio-returns-in_err-found-clause-fuel
 first_of_prio-returns-in_err-found-clause-fuel g t c =
@@ -422,7 +421,7 @@ first_move-returns-in_err-found-in-Cstar-clause-fuel g t c =
 
 pub first_move-returns-in_ok-found-in-Cstar-clause-fuel : goal.first_move-returns-in_ok-found-in-Cstar-clause-fuel
 first_move-returns-in_ok-found-in-Cstar-clause-fuel g t c =
-    memory_stops _ _ false c.beside.result c.args.prog.now c.beside.ensures.memory
+    memory_stops _ _ false c.first_beside.result c.args.prog.now c.first_beside.ensures.memory
 
 pub first_move-returns-in_err-found-in-While-clause-fuel : goal.first_move-returns-in_err-found-in-While-clause-fuel
 first_move-returns-in_err-found-in-While-clause-fuel g t c =
@@ -437,10 +436,11 @@ first_move-returns-in_ok-found-in-While-clause-fuel g t c =
 pub first_move-returns-in-Search-clause-fuel : goal.first_move-returns-in-Search-clause-fuel
 first_move-returns-in-Search-clause-fuel g t c =
     let a = c.get-in-Search.result.now in
-    must_stops _ _ false c.first.result c.args.prog.now (Search c.in-Search.depth c.in-Search.fuel a) (ap out-Prog (one_same (prog.Search c.in-Search.depth c.in-Search.fuel) c.in-Search.is c.get-in-Search.ensures) ∙ prog.outs-Search c.in-Search.depth c.in-Search.fuel a) _ false (λ f. refl) c.first.ensures.fuel
+    stops_as _ _ false c.first_of_block.result (prog.Follow c.in-Search.depth c.in-Search.fuel a []) c.args.prog.now (search_lacks _ _ false c.args.prog.now a c.in-Search.depth c.in-Search.fuel (one_same (prog.Search c.in-Search.depth c.in-Search.fuel) c.in-Search.is c.get-in-Search.ensures)) c.first_of_block.ensures.fuel
 
 pub first_move-returns-in-Follow-clause-fuel : goal.first_move-returns-in-Follow-clause-fuel
 first_move-returns-in-Follow-clause-fuel g t c =
     let a = c.get-in-Follow.result.now in
     let rest = c.as_slice-in-Follow.result.now in
-    must_stops _ _ false c.first-in-Follow.result c.args.prog.now (Follow c.in-Follow.depth c.in-Follow.fuel a rest) (ap out-Prog ((one_same (λ (z : Prog). prog.Follow c.in-Follow.depth c.in-Follow.fuel z c.in-Follow.rest) c.in-Follow.is c.get-in-Follow.ensures) ∙ ap (prog.Follow c.in-Follow.depth c.in-Follow.fuel a) (sym c.as_slice-in-Follow.ensures)) ∙ prog.outs-Follow c.in-Follow.depth c.in-Follow.fuel a rest) _ false (λ f. refl) c.first-in-Follow.ensures.fuel
+    let block = prog.Follow c.in-Follow.depth c.in-Follow.fuel a rest in
+    stops_as _ _ false c.first_of_block-in-Follow.result block c.args.prog.now (lacks_as _ _ false block c.args.prog.now (sym ((one_same (λ (z : Prog). prog.Follow c.in-Follow.depth c.in-Follow.fuel z c.in-Follow.rest) c.in-Follow.is c.get-in-Follow.ensures) ∙ ap (prog.Follow c.in-Follow.depth c.in-Follow.fuel a) (sym c.as_slice-in-Follow.ensures)))) c.first_of_block-in-Follow.ensures.fuel

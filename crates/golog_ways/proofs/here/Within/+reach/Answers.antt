@@ -1,6 +1,6 @@
-use Rattle.std.proofs.Common.{◌+◌, ◌*◌, ◌<◌, max, true, inl, inr, refl, ap, ◌∙◌, rules, arith}
+use Rattle.std.proofs.Common.{◌+◌, ◌*◌, ◌<◌, [], max, true, inl, inr, refl, sym, ap, ◌∙◌, rules, arith}
 use Rattle.golog_tree.specs.declared.prog.Prog.{Prog}
-use Rattle.golog_tree.specs.declared.prog.Prog.TheOpen.{Choice, Star, If, While, Conc, Cstar, Call, Search, Follow}
+use Rattle.golog_tree.specs.declared.prog.Prog.TheOpen.{Choice, Star, If, While, Conc, Cstar, Call}
 use Rattle.golog_tree.specs.declared.prog.Prog.TheVariants as prog
 use Rattle.golog_tree.specs.declared.prog.Prog.TheViews.{out-Prog}
 use Rattle.golog_tree.specs.Ground.{sort_size}
@@ -9,9 +9,9 @@ use Rattle.golog_semantics.specs.Program.{put_arg, body_of}
 use Rattle.golog_ways.specs.Lacking.{Lacks}
 use Rattle.golog_ways.proofs.BlockParts.{search_begins}
 use Rattle.golog_ways.proofs.Closing.{skipped, choice_parts, conc_parts, prio_parts, seq_parts, star_part, cstar_part, test_fits, if_parts, while_parts, pick_part, call_part, call_few, both_down, down, part_as, whole}
-use Rattle.golog_ways.proofs.Lackings.{lacks_as, part_lacks, parts_lack, stops_as, stops_at_either, stops_first, stops_from, stops_or, block_stops, seq_one, seq_other, pick_lacks, prio_high, prio_low}
+use Rattle.golog_ways.proofs.Lackings.{lacks_as, part_lacks, parts_lack, stops_as, stops_at_either, stops_first, stops_from, stops_or, search_lacks, seq_one, seq_other, pick_lacks, prio_high, prio_low}
 use Rattle.golog_ways.proofs.Moved.{one_same, two_same, closed_as}
-use Rattle.golog_ways.proofs.ReachSteps.{reach_as, same_gives, nil_reach, act_reach, test_reach, seq_gives, seq_reach_first, seq_settled, choice_gives, conc_gives, either_gives, prio_reach, prio_kept, star_gives, cstar_gives, search_gives, follow_gives, or_settled, or_more, skips, if_gives, while_gives, call_gives, some_none, some_more, pick_reach, pick_settled}
+use Rattle.golog_ways.proofs.ReachSteps.{reach_as, same_gives, nil_reach, act_reach, test_reach, seq_gives, seq_reach_first, seq_settled, choice_gives, conc_gives, either_gives, prio_reach, prio_kept, star_gives, cstar_gives, search_gives, or_settled, or_more, skips, if_gives, while_gives, call_gives, some_none, some_more, pick_reach, pick_settled}
 use Rattle.golog_ways.proofs.here.Within.+reach.Goals as goal
 
 pub reach_of-precondition-requires : goal.reach_of-precondition-requires
@@ -133,19 +133,19 @@ pub reach_of-returns-in-Call-clause-reach : goal.reach_of-returns-in-Call-clause
 reach_of-returns-in-Call-clause-reach g t c =
     same_gives _ _ _ c.reach_of_call.result _ _ (one_same (prog.Call c.in-Call.item) c.in-Call.is c.as_slice-in-Call.ensures) c.reach_of_call.ensures.reach
 
-pub reach_of-reach-requires-clause-closed : goal.reach_of-reach-requires-clause-closed
-reach_of-reach-requires-clause-closed g t c =
+pub reach_of-reach_of_block-requires-clause-closed : goal.reach_of-reach_of_block-requires-clause-closed
+reach_of-reach_of_block-requires-clause-closed g t c =
     let a = c.get-in-Search.result.now in
     search_begins c.args.self.now.here.agent.now c.args.prog.now a c.in-Search.depth c.in-Search.fuel _ refl c.requires.closed (one_same (prog.Search c.in-Search.depth c.in-Search.fuel) c.in-Search.is c.get-in-Search.ensures)
 
 pub reach_of-returns-in-Search-clause-reach : goal.reach_of-returns-in-Search-clause-reach
 reach_of-returns-in-Search-clause-reach g t c =
-    search_gives _ _ _ c.args.self.now.here.fit.guarded c.reach.result _ _ _ _ (one_same (prog.Search c.in-Search.depth c.in-Search.fuel) c.in-Search.is c.get-in-Search.ensures) c.reach.ensures.reach
+    search_gives _ _ _ c.args.self.now.here.fit.guarded c.reach_of_block.result _ _ _ _ (one_same (prog.Search c.in-Search.depth c.in-Search.fuel) c.in-Search.is c.get-in-Search.ensures) c.reach_of_block.ensures.reach
 
 pub reach_of-returns-in-Follow-clause-reach : goal.reach_of-returns-in-Follow-clause-reach
 reach_of-returns-in-Follow-clause-reach g t c =
     let a = c.get-in-Follow.result.now in
-    follow_gives _ _ _ c.args.self.now.here.fit.guarded c.reach-in-Follow.result _ _ _ _ _ (one_same (prog.Follow c.in-Follow.depth c.in-Follow.fuel a) (one_same (λ (z : Prog). prog.Follow c.in-Follow.depth c.in-Follow.fuel z c.in-Follow.rest) c.in-Follow.is c.get-in-Follow.ensures) c.as_slice-in-Follow.ensures) c.reach-in-Follow.ensures.reach
+    same_gives _ _ _ c.reach_of_block-in-Follow.result _ _ (one_same (prog.Follow c.in-Follow.depth c.in-Follow.fuel a) (one_same (λ (z : Prog). prog.Follow c.in-Follow.depth c.in-Follow.fuel z c.in-Follow.rest) c.in-Follow.is c.get-in-Follow.ensures) c.as_slice-in-Follow.ensures) c.reach_of_block-in-Follow.ensures.reach
 
 pub reach_of_pick-loop-constant-init : goal.reach_of_pick-loop-constant-init
 reach_of_pick-loop-constant-init g t c =
@@ -177,13 +177,14 @@ reach_of-returns-in-Cstar-clause-fuel g t c =
 pub reach_of-returns-in-Search-clause-fuel : goal.reach_of-returns-in-Search-clause-fuel
 reach_of-returns-in-Search-clause-fuel g t c =
     let a = c.get-in-Search.result.now in
-    block_stops _ _ true c.reach.result c.args.prog.now (Search c.in-Search.depth c.in-Search.fuel a) (ap out-Prog (one_same (prog.Search c.in-Search.depth c.in-Search.fuel) c.in-Search.is c.get-in-Search.ensures) ∙ prog.outs-Search c.in-Search.depth c.in-Search.fuel a) _ (λ f. refl) c.reach.ensures.fuel
+    stops_as _ _ true c.reach_of_block.result (prog.Follow c.in-Search.depth c.in-Search.fuel a []) c.args.prog.now (search_lacks _ _ true c.args.prog.now a c.in-Search.depth c.in-Search.fuel (one_same (prog.Search c.in-Search.depth c.in-Search.fuel) c.in-Search.is c.get-in-Search.ensures)) c.reach_of_block.ensures.fuel
 
 pub reach_of-returns-in-Follow-clause-fuel : goal.reach_of-returns-in-Follow-clause-fuel
 reach_of-returns-in-Follow-clause-fuel g t c =
     let a = c.get-in-Follow.result.now in
     let rest = c.as_slice-in-Follow.result.now in
-    block_stops _ _ true c.reach-in-Follow.result c.args.prog.now (Follow c.in-Follow.depth c.in-Follow.fuel a rest) (ap out-Prog (one_same (prog.Follow c.in-Follow.depth c.in-Follow.fuel a) (one_same (λ (z : Prog). prog.Follow c.in-Follow.depth c.in-Follow.fuel z c.in-Follow.rest) c.in-Follow.is c.get-in-Follow.ensures) c.as_slice-in-Follow.ensures) ∙ prog.outs-Follow c.in-Follow.depth c.in-Follow.fuel a rest) _ (λ f. refl) c.reach-in-Follow.ensures.fuel
+    let block = prog.Follow c.in-Follow.depth c.in-Follow.fuel a rest in
+    stops_as _ _ true c.reach_of_block-in-Follow.result block c.args.prog.now (lacks_as _ _ true block c.args.prog.now (sym (one_same (prog.Follow c.in-Follow.depth c.in-Follow.fuel a) (one_same (λ (z : Prog). prog.Follow c.in-Follow.depth c.in-Follow.fuel z c.in-Follow.rest) c.in-Follow.is c.get-in-Follow.ensures) c.as_slice-in-Follow.ensures))) c.reach_of_block-in-Follow.ensures.fuel
 
 pub reach_of_call-returns-clause-fuel : goal.reach_of_call-returns-clause-fuel
 reach_of_call-returns-clause-fuel g t c =

@@ -1,9 +1,0 @@
-use Rattle.std.proofs.Common.{sym, subst}
-use Rattle.golog_semantics.specs.SortLaws.{AreInSorts}
-use Rattle.golog_semantics.proofs.CausesKeep.{steps_stay_in_sorts}
-use Rattle.golog_find.proofs.level.Level.wants.Goals as goal
-
-pub is_final-ends-requires-clause-sorts : goal.is_final-ends-requires-clause-sorts
-is_final-ends-requires-clause-sorts c =
-    let agent = c.args.agent.now in
-    subst (AreInSorts agent) (sym c.in_ok-next.ensures) (steps_stay_in_sorts agent c.requires.agent c.args.state.now c.args.label c.requires.searched.sorts)

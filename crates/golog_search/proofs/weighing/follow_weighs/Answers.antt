@@ -1,6 +1,0 @@
-use Rattle.std.proofs.lemmas.List.Elements.{All-nil}
-use Rattle.golog_search.specs.Told.{IsTold}
-use Rattle.golog_search.proofs.weighing.follow_weighs.Goals as goal
-
-pub is_kept-requires-clause-told : goal.is_kept-requires-clause-told
-is_kept-requires-clause-told c = All-nil (IsTold c.args.agent.now c.args.state.now)

@@ -1,0 +1,11 @@
+//! The search blocks that a walk over programs comes to.
+use golog_tree::{Prog, Way};
+
+/// A search block that follows the rest of a run. One that has not begun follows nothing.
+#[derive(Clone, Copy)]
+pub struct Following<'a> {
+    pub depth: u32,
+    pub fuel: u32,
+    pub body: &'a Prog,
+    pub rest: &'a [Way],
+}
