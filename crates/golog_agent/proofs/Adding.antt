@@ -100,7 +100,7 @@ module _ (agent : Agent) where
   step_by-adds journal [] = adds_none journal
   step_by-adds journal (m ∷ ms) =
       either-adds journal (may_step agent journal (values_after agent journal) (left_after agent journal) m.label)
-      (journal ++ entry_for agent m.label ∷ []) journal (_, refl) (adds_none journal)
+      (journal ++ entry_for m.label ∷ []) journal (_, refl) (adds_none journal)
 
   pub lead_adds : (journal : Journal) → Adds journal (lead agent journal)
   lead_adds journal =

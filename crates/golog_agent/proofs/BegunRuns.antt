@@ -28,6 +28,7 @@ use Rattle.golog_semantics.proofs.NoFaults.{no-fault-so_far, so_far-no-fault}
 use Rattle.golog_semantics.proofs.Pushed.{at_each-push}
 use Rattle.golog_agent.specs.Keeping.{KeepsRules, begun_by}
 use Rattle.golog_agent.specs.Run.{is_step_entry}
+use Rattle.golog_agent.proofs.StepEntries.{each-step}
 
 -- ---- a run at its place
 
@@ -126,13 +127,7 @@ module _ (agent : Agent) where
 
   -- which counts
   pub step-counts : (e : Entry) → is_step_entry e ≡ true → is_counted e ≡ true
-  step-counts (Do a) h = refl
-  step-counts Test h = refl
-  step-counts (Exo p a) h = absurd (cc)
-  step-counts (Sense p at f v) h = absurd (cc)
-  step-counts (Rest p t) h = absurd (cc)
-  step-counts (Close p r t) h = absurd (cc)
-  step-counts (End a) h = absurd (cc)
+  step-counts = each-step (λ e. is_counted e ≡ true) (λ action. refl) refl
 
   pub begun-none : (j : Journal) (e : Entry) → is_step_entry e ≡ false → begun_by agent j e ≡ None
   begun-none j (Do a) h = absurd (cc)

@@ -33,8 +33,8 @@ use Rattle.golog_journal.specs.Leading.{is_of_program}
 use Rattle.golog_journal.proofs.Lawful.{lawful-last, lawful-parts}
 use Rattle.golog_agent.specs.Keeping.{IsUnderWay, KeepsRules, begun_by}
 use Rattle.golog_agent.specs.Planned.{IsNextStep}
-use Rattle.golog_agent.specs.UnderWay.{entry_for}
-use Rattle.golog_agent.specs.Turns.{MayAnswer}
+use Rattle.golog_semantics.specs.Inline.{entry_for}
+use Rattle.golog_agent.specs.Turns.{LacksFuel, MayAnswer}
 use Rattle.golog_agent.proofs.StepsKept.{no_fault}
 use Rattle.golog_agent.proofs.Fueling.{never-fuel}
 
@@ -107,36 +107,30 @@ module _ (agent : Agent) (journal : Journal) where
   unfolding answer_after
   by-answer a same e = ap (λ o. same_answer o a) e ∙ same
 
-  may-end : (a : Answer) → MayAnswer agent journal a → may_end agent journal V P a ≡ true
-  may-end answer.Memory h = refl
-  may-end answer.Fuel (inl e) = absurd (cc)
-  may-end answer.Fuel (inr (inl f)) =
+  -- the answer after all entries before may be that of the end
+  told-ends : (a : Answer) → answer_after agent journal ≡ Some a → may_end agent journal V P a ≡ true
+  told-ends answer.Memory e = refl
+  told-ends answer.Fuel e = absurd (never-fuel agent journal e)
+  told-ends answer.Done e = by-answer answer.Done refl e
+  told-ends answer.Stuck e = by-answer answer.Stuck refl e
+  told-ends answer.Unknown e = by-answer answer.Unknown refl e
+  told-ends answer.Depth e = by-answer answer.Depth refl e
+  told-ends answer.Unanswered e = by-answer answer.Unanswered refl e
+  told-ends answer.Full e = by-answer answer.Full refl e
+  told-ends answer.Deep e = by-answer answer.Deep refl e
+
+  -- and so may fuel, where it is lacking
+  fuel-ends : (a : Answer) → LacksFuel agent journal a → may_end agent journal V P answer.Fuel ≡ true
+  fuel-ends a f =
       and_from (not (is_full journal) && not (is_unanswered agent journal) && is_settled agent journal) (heavy agent V P)
       (and_from (not (is_full journal) && not (is_unanswered agent journal)) (is_settled agent journal)
       (and_from (not (is_full journal)) (not (is_unanswered agent journal)) (ap not f.not_full) (ap not f.answered)) f.settled)
       f.weighs
-  may-end answer.Fuel (inr (inr e)) = absurd (never-fuel agent journal e)
-  may-end answer.Done (inl e) = absurd (cc)
-  may-end answer.Done (inr (inl f)) = absurd (let e = f.is in cc)
-  may-end answer.Done (inr (inr e)) = by-answer answer.Done refl e
-  may-end answer.Stuck (inl e) = absurd (cc)
-  may-end answer.Stuck (inr (inl f)) = absurd (let e = f.is in cc)
-  may-end answer.Stuck (inr (inr e)) = by-answer answer.Stuck refl e
-  may-end answer.Unknown (inl e) = absurd (cc)
-  may-end answer.Unknown (inr (inl f)) = absurd (let e = f.is in cc)
-  may-end answer.Unknown (inr (inr e)) = by-answer answer.Unknown refl e
-  may-end answer.Depth (inl e) = absurd (cc)
-  may-end answer.Depth (inr (inl f)) = absurd (let e = f.is in cc)
-  may-end answer.Depth (inr (inr e)) = by-answer answer.Depth refl e
-  may-end answer.Unanswered (inl e) = absurd (cc)
-  may-end answer.Unanswered (inr (inl f)) = absurd (let e = f.is in cc)
-  may-end answer.Unanswered (inr (inr e)) = by-answer answer.Unanswered refl e
-  may-end answer.Full (inl e) = absurd (cc)
-  may-end answer.Full (inr (inl f)) = absurd (let e = f.is in cc)
-  may-end answer.Full (inr (inr e)) = by-answer answer.Full refl e
-  may-end answer.Deep (inl e) = absurd (cc)
-  may-end answer.Deep (inr (inl f)) = absurd (let e = f.is in cc)
-  may-end answer.Deep (inr (inr e)) = by-answer answer.Deep refl e
+
+  may-end : (a : Answer) → MayAnswer agent journal a → may_end agent journal V P a ≡ true
+  may-end a (inl e) = subst (λ b. may_end agent journal V P b ≡ true) (sym e) refl
+  may-end a (inr (inl f)) = subst (λ b. may_end agent journal V P b ≡ true) (sym f.is) (fuel-ends a f)
+  may-end a (inr (inr e)) = told-ends a e
 
   pub end-online : (a : Answer) → has_end journal ≡ false → MayAnswer agent journal a → KeepsRules agent journal (End a)
   end-online a h may = no_fault agent journal (End a) (after-so h (End a)) refl refl refl refl (may-end a may) refl

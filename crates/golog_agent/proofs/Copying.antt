@@ -1,27 +1,20 @@
 -- Copying what a board has added.
-use Rattle.std.proofs.Common.{◌≡◌, ℕ, zero, suc, ◌+◌, ◌-◌, ◌≤◌, ◌<◌, Bool, true, false, Some, List, [], ◌∷◌, ◌++◌, length, length-append, take, drop, get_or, refl, sym, ap, ◌∙◌, subst, arith, append_assoc}
-use Rattle.std.specs.Prelude.{nat_lt, slice_get}
+use Rattle.std.proofs.Common.{◌≡◌, ℕ, zero, suc, ◌+◌, ◌-◌, ◌≤◌, ◌<◌, Bool, true, false, List, [], ◌∷◌, ◌++◌, length, length-append, take, drop, refl, sym, ap, ◌∙◌, subst, arith, append_assoc}
+use Rattle.std.specs.Prelude.{nat_lt}
 use Rattle.std.specs.List.{list_any}
 use Rattle.std.proofs.lemmas.Bool.{or_parts, or_from, ltb-true, ltb-false}
-use Rattle.std.proofs.lemmas.List.{append-nil, get_or-drop, get_or-take, take-append-drop, length-take-le}
-use Rattle.std.proofs.lemmas.Option.{slice_get-get_or}
+use Rattle.std.proofs.lemmas.List.{append-nil, take-append-drop, length-take-le}
 use Rattle.golog_tree.specs.declared.agent.Agent.{Agent}
 use Rattle.golog_semantics.specs.declared.journal.Entry.{Entry}
 use Rattle.golog_semantics.specs.Journal.{Journal}
 use Rattle.golog_journal.specs.declared.board.Batch.{Batch}
-use Rattle.golog_journal.specs.Boards.{AgentJournal, IsBoardList}
+use Rattle.golog_journal.specs.Boards.{IsBoardList}
 use Rattle.golog_journal.specs.Copies.{CopyIs, MoreIs}
 use Rattle.golog_journal.specs.Growing.{Called, Sight}
 use Rattle.golog_journal.specs.Leading.{is_of_program}
-use Rattle.golog_journal.proofs.Lawful.{lawful-front}
+use Rattle.golog_device.proofs.Asked.{lawful-prefix}
 use Rattle.golog_agent.specs.Turns.{Course, Follows, IsCurrent, IsOver}
 use Rattle.golog_agent.proofs.Boarding.{called-follows, called-seen, compose, no-change, still-over}
-
--- the front of a board's list is one
-pub lawful-prefix : (agent : Agent) (front rest : Journal) → IsBoardList agent (front ++ rest) → IsBoardList agent front
-lawful-prefix agent front [] h = subst (IsBoardList agent) (append-nil front) h
-lawful-prefix agent front (e ∷ rest) h =
-    lawful-front agent front e (lawful-prefix agent (front ++ e ∷ []) rest (subst (IsBoardList agent) (sym (append_assoc front (e ∷ []) rest)) h))
 
 drop-front : {A : Type 0} (front rest : List A) → drop (length front) (front ++ rest) ≡ rest
 drop-front [] rest = refl

@@ -20,7 +20,7 @@ use Rattle.golog_journal.specs.Boards.{IsBoardList}
 use Rattle.golog_journal.specs.Taken.{IsReady}
 use Rattle.golog_device.specs.Dealing.{scripted, DealtIf, DealtNow}
 use Rattle.golog_device.specs.Slots.{Standing, Both, EachSlot, ChangesIf}
-use Rattle.golog_device.proofs.Standings.{EachSlot-then, EachSlot-same}
+use Rattle.golog_device.proofs.Standings.{EachSlot-then}
 use Rattle.golog_agent.specs.Rounds.{AreReady, HasServed, HasRun, is_refusal, TellLeft, FollowsRounds, RunsToEnd}
 use Rattle.golog_agent.specs.Moments.{Moment, taken_by, progress, MayGoOn, StaysDealt, DealsOn, AreScripted, IsStage, RoundIs, RoundMade, Starved, RoundsAre, RoundsMade}
 use Rattle.golog_agent.proofs.Adding.{one_round_more}
@@ -28,6 +28,7 @@ use Rattle.golog_agent.proofs.CommandsFew.{taken_within}
 use Rattle.golog_agent.proofs.EndLast.{closes_follow}
 use Rattle.golog_agent.proofs.Following.{follows_whole_at, follows_starved_at}
 use Rattle.golog_agent.proofs.Over.{IsOverAll, over_online}
+use Rattle.golog_agent.proofs.Serving.{deals-same}
 
 -- nothing was taken at first
 pub zeros : (n device : ℕ) → taken_by (replicate n 0) device ≡ 0
@@ -43,16 +44,6 @@ on-first agent journal n ready = record {
 }
 
 module _ (agent : Agent) where
-  deals-same : (m : Moment) → DealsOn agent m m
-  deals-same m = EachSlot-same _ m.standings same
-    where
-      by : (b : Bool) (j : ℕ) (s : Standing) → ChangesIf b (StaysDealt agent m m j) s s
-      by true j s = record { dealt = λ script far. far; shut = λ closed. refl }
-      by false j s = refl
-
-      same : (j : ℕ) (s : Standing) → ChangesIf (nat_lt j (length agent.devices)) (StaysDealt agent m m j) s s
-      same j s = by (nat_lt j (length agent.devices)) j s
-
   -- no round yet
   pub rounds-none : (m : Moment) → MayGoOn agent m.journal m.taken → RoundsMade agent m m
   rounds-none m on = record {
@@ -60,7 +51,7 @@ module _ (agent : Agent) where
     grows = sym (append-nil m.journal);
     unrefused = refl;
     on = on;
-    deals = deals-same m;
+    deals = deals-same agent m;
     count = 0;
     goes = omega arith;
     scripted = λ ds are. inl (record { entries = refl; devices = are });

@@ -13,7 +13,7 @@ use Rattle.golog_tree.specs.Nest.{nest}
 use Rattle.golog_semantics.specs.declared.Mode.TheVariants.{Must, May, Near}
 use Rattle.golog_semantics.specs.declared.search.Move.{Move}
 use Rattle.golog_semantics.specs.declared.journal.Entry.{Entry}
-use Rattle.golog_semantics.specs.declared.journal.Entry.TheVariants.{Do, Test, Exo, Sense, Rest, Close, End}
+use Rattle.golog_semantics.specs.declared.journal.Entry.TheVariants.{End}
 use Rattle.golog_semantics.specs.declared.journal.Answer.{Answer}
 use Rattle.golog_semantics.specs.declared.journal.Answer.TheVariants as answer
 use Rattle.golog_semantics.specs.Ways.{is_empty}
@@ -34,10 +34,11 @@ use Rattle.golog_agent.specs.Keeping.{KeepsRules}
 use Rattle.golog_agent.specs.Run.{is_step_entry}
 use Rattle.golog_agent.specs.Short.{EndsShort}
 use Rattle.golog_agent.specs.Waiting.{has_no_step, waits}
-use Rattle.golog_agent.specs.Turns.{CommitsEnd, CommitsStep, EndStood, Follows, MayAnswer, StillWaits, TurnIs}
-use Rattle.golog_agent.proofs.StepsKept.{keeps_its_step, step-unended}
+use Rattle.golog_agent.specs.Turns.{CommitsEnd, CommitsStep, EndStood, MayAnswer, StillWaits, TurnIs}
+use Rattle.golog_agent.proofs.StepEntries.{each-step}
+use Rattle.golog_agent.proofs.StepsKept.{keeps_its_step, not_or, step-unended}
 use Rattle.golog_agent.proofs.BegunRuns.{keeps-rules}
-use Rattle.golog_agent.proofs.Turning.{alone-grows}
+use Rattle.golog_agent.proofs.Turning.{alone-grows, alone-stays}
 
 -- ---- the answer where a step may be taken
 
@@ -138,23 +139,19 @@ module _ (agent : Agent) (journal : Journal) where
       ap (λ b. if b then journal else option_map_or (λ a. journal ++ End a ∷ []) (answer_after agent journal) (step_by agent journal M)) h
       ∙ ap (λ k. option_map_or (λ a. journal ++ End a ∷ []) k (step_by agent journal M)) e
 
-  step-taken : (l : Label) → may_step agent journal V P l ≡ true → (t : Takes l) → step_by agent journal M ≡ journal ++ entry_for agent l ∷ []
+  step-taken : (l : Label) → may_step agent journal V P l ≡ true → (t : Takes l) → step_by agent journal M ≡ journal ++ entry_for l ∷ []
   step-taken l h t =
       ap (step_by agent journal) t.begins.is
-      ∙ ap (λ k. if may_step agent journal V P k then journal ++ entry_for agent k ∷ [] else journal) (sym t.begins.label)
-      ∙ ap (λ b. if b then journal ++ entry_for agent l ∷ [] else journal) h
+      ∙ ap (λ k. if may_step agent journal V P k then journal ++ entry_for k ∷ [] else journal) (sym t.begins.label)
+      ∙ ap (λ b. if b then journal ++ entry_for l ∷ [] else journal) h
 
-  label-leads : (l : Label) → has_end journal ≡ false → may_step agent journal V P l ≡ true → lead agent journal ≡ journal ++ entry_for agent l ∷ []
+  label-leads : (l : Label) → has_end journal ≡ false → may_step agent journal V P l ≡ true → lead agent journal ≡ journal ++ entry_for l ∷ []
   label-leads l goes h = lead-goes None goes (no-answer l (takes-so l h)) ∙ step-taken l h (takes-so l h)
 
   step-kept : (e : Entry) → is_step_entry e ≡ true → has_end journal ≡ false → keeps_step agent journal V P e ≡ true → lead agent journal ≡ journal ++ e ∷ []
-  step-kept (Do a) is goes h = label-leads (Doing a) goes h
-  step-kept Test is goes h = label-leads Quiet goes h
-  step-kept (Exo p a) is goes h = absurd (cc)
-  step-kept (Sense p at f v) is goes h = absurd (cc)
-  step-kept (Rest p t) is goes h = absurd (cc)
-  step-kept (Close p r t) is goes h = absurd (cc)
-  step-kept (End a) is goes h = absurd (cc)
+  step-kept =
+      each-step (λ e. has_end journal ≡ false → keeps_step agent journal V P e ≡ true → lead agent journal ≡ journal ++ e ∷ [])
+      (λ action. label-leads (Doing action)) (label-leads Quiet)
 
   -- a step that keeps the rules is the one that is taken
   step-leads : (e : Entry) → is_step_entry e ≡ true → KeepsRules agent journal e → lead agent journal ≡ journal ++ e ∷ []
@@ -167,12 +164,8 @@ module _ (agent : Agent) (journal : Journal) where
   not-taken : (ms : List Move) → (not (is_settled agent journal) || is_empty ms) ≡ true → step_by agent journal ms ≡ journal
   not-taken [] h = refl
   not-taken (m ∷ ms) h =
-      ap (λ b. if b then journal ++ entry_for agent m.label ∷ [] else journal)
-      (ap (λ b. b && not (final agent V Must P) && nat_lt (count journal) limit && is_first agent journal m.label M) (unsettled (is_settled agent journal) h))
-    where
-      unsettled : (b : Bool) → (not b || false) ≡ true → b ≡ false
-      unsettled true k = absurd (cc)
-      unsettled false k = refl
+      ap (λ b. if b then journal ++ entry_for m.label ∷ [] else journal)
+      (ap (λ b. b && not (final agent V Must P) && nat_lt (count journal) limit && is_first agent journal m.label M) (not_or (is_settled agent journal) h))
 
   -- a program that waits adds nothing
   waiting-leads : has_end journal ≡ false → waits agent journal ≡ true → lead agent journal ≡ journal
@@ -185,9 +178,6 @@ module _ (agent : Agent) (journal : Journal) where
 -- ---- where no one else adds entries
 
 module _ (old new : Sight) (alone : old.alone ≡ true) where
-  adds-none : Follows old new [] → new.seen ≡ old.seen
-  adds-none f = alone-grows old new [] f alone ∙ append-nil old.seen
-
   answered-here : (agent : Agent) (a : Answer) (others : Journal) → agent ≡ old.agent → others ≡ [] → MayAnswer old.agent (old.seen ++ others) a → MayAnswer agent old.seen a
   answered-here agent a others same none may =
       subst (λ g. MayAnswer g old.seen a) (sym same)
@@ -207,12 +197,12 @@ module _ (old new : Sight) (alone : old.alone ≡ true) where
 
     by-waiting : StillWaits old new → new.seen ≡ lead agent old.seen
     by-waiting t =
-        let none = adds-none t.follows in
+        let none = alone-stays old new t.follows alone in
         let w = ap (λ g. waits g old.seen) (same ∙ sym t.follows.same_agent) ∙ ap (waits new.agent) (sym none) ∙ t.is_waiting in
         none ∙ sym (waiting-leads agent old.seen (ap has_end (sym none) ∙ t.goes_on) w)
 
     by-ended : (a : Answer) → EndStood old new ⊎ CommitsEnd a old new → (new.seen ≡ lead agent old.seen) ⊎ EndsShort old.seen new.seen
-    by-ended a (inl e) = inl (adds-none e.follows ∙ sym (lead-ended agent old.seen e.ended))
+    by-ended a (inl e) = inl (alone-stays old new e.follows alone ∙ sym (lead-ended agent old.seen e.ended))
     by-ended a (inr e) =
         by-end agent a e.goes_on (answered-here agent a e.follows.others same (e.follows.are_others.none alone) e.answered)
         (alone-grows old new (End a ∷ []) e.follows alone)
@@ -228,7 +218,7 @@ leads-alone agent old new stepped same alone turn online = by-turn old new alone
 pub adds-one : AddsOneAlone
 adds-one old new alone = record {
   step = λ t. record { entry = t.entry; is_step = t.is_step; one = alone-grows old new (t.entry ∷ []) t.follows alone };
-  waiting = λ t. adds-none old new alone t.follows;
-  stood = λ t. adds-none old new alone t.follows;
+  waiting = λ t. alone-stays old new t.follows alone;
+  stood = λ t. alone-stays old new t.follows alone;
   ended = λ a t. alone-grows old new (End a ∷ []) t.follows alone;
 }

@@ -1,3 +1,4 @@
+mod StepEntries
 mod BegunRuns
 mod StepsKept
 mod Awaiting

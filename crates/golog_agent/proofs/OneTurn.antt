@@ -1,5 +1,5 @@
 -- What one turn of a device makes of a board's list to which no one else adds entries, and of the device.
-use Rattle.std.proofs.Common.{◌≡◌, ◌≢◌, ℕ, ◌+◌, ◌≤◌, Bool, true, false, ◌==◌, if◌then◌else◌, Option, Some, None, [], ◌∷◌, ◌++◌, length, length-append, refl, sym, ap, ◌∙◌, subst, inl, inr, arith}
+use Rattle.std.proofs.Common.{◌≡◌, ◌≢◌, ℕ, ◌+◌, ◌<◌, ◌≤◌, ◌⊎◌, Bool, true, false, ◌==◌, if◌then◌else◌, Option, Some, None, [], ◌∷◌, ◌++◌, length, length-append, refl, sym, ap, ◌∙◌, subst, inl, inr, arith}
 use Rattle.std.specs.Prelude.{slice_get}
 use Rattle.std.specs.Option.{option_map_or}
 use Rattle.std.proofs.lemmas.Bool.{and_from, or_from, eq-eqb}
@@ -30,7 +30,7 @@ use Rattle.golog_device.proofs.DealtTurn.{few-of, all-taken}
 use Rattle.golog_device.proofs.Asked.{done-by}
 use Rattle.golog_device.proofs.Commanded.{answer-plain, idle-plain, not-refused}
 use Rattle.golog_agent.specs.Rounds.{is_refusal}
-use Rattle.golog_agent.specs.Moments.{RestsAt, TurnMade}
+use Rattle.golog_agent.specs.Moments.{LeavesAll, RestsAt, TurnMade}
 
 -- a device has no fewer commands behind more entries
 pub few-more : (agent : Agent) (device n : ℕ) (journal others : Journal) → n ≤ length (commands agent device journal)
@@ -161,46 +161,41 @@ module _ (agent : Agent) (device : ℕ) where
     still : new ≡ mid → new.seen ≡ old.seen
     still stays = ap (λ (s : Sight). s.seen) stays ∙ same
 
-    -- a command was taken, and nothing posted
-    with-command : count ≡ taken + 1 → taken + 1 ≤ length (commands agent device mid.seen) → new ≡ mid → TurnMade agent device old.seen taken new.seen count
-    with-command more few stays =
+    -- nothing was posted
+    with-none : (n : ℕ) → count ≡ n → n ≤ length (commands agent device mid.seen) → new ≡ mid
+        → (length old.seen + taken < length new.seen + count) ⊎ LeavesAll agent device old.seen taken new.seen count
+        → TurnMade agent device old.seen taken new.seen count
+    with-none n is_n few stays goes =
         let here = still stays in
-        let long : length new.seen ≡ length old.seen = ap (λ j. length j) here in
         record {
           since = [];
           grows = here ∙ sym (append-nil old.seen);
           own = refl;
           unrefused = refl;
           few =
-              subst (λ k. k ≤ length (commands agent device new.seen)) (sym more)
-              (subst (λ j. taken + 1 ≤ length (commands agent device j)) (sym here) (few-old (taken + 1) few));
+              subst (λ k. k ≤ length (commands agent device new.seen)) (sym is_n)
+              (subst (λ j. n ≤ length (commands agent device j)) (sym here) (few-old n few));
           ready = later;
-          goes = inl (omega (arith, long, more));
+          goes = goes;
         }
+
+    -- a command was taken, and nothing posted
+    with-command : count ≡ taken + 1 → taken + 1 ≤ length (commands agent device mid.seen) → new ≡ mid → TurnMade agent device old.seen taken new.seen count
+    with-command more few stays =
+        let long : length new.seen ≡ length old.seen = ap (λ j. length j) (still stays) in
+        with-none (taken + 1) more few stays (inl (omega (arith, long, more)))
 
     -- it rests
     with-nothing : count ≡ taken → new ≡ mid → has_end mid.seen ≡ false → is_resting agent mid.seen device taken ≡ true
         → slice_get (commands agent device mid.seen) taken ≡ None → TurnMade agent device old.seen taken new.seen count
     with-nothing as_many stays goes_on rests next =
-        let here = still stays in
-        let all = all-taken agent mid.seen device taken there.driven next in
-        record {
-          since = [];
-          grows = here ∙ sym (append-nil old.seen);
-          own = refl;
-          unrefused = refl;
-          few =
-              subst (λ k. k ≤ length (commands agent device new.seen)) (sym as_many)
-              (subst (λ j. taken ≤ length (commands agent device j)) (sym here) (few-old taken few-mid));
-          ready = later;
-          goes =
-              inr (record {
-                same = here;
-                same_taken = as_many;
-                rests =
-                    subst (λ j. RestsAt agent j device) same at;
-              });
-        }
+        with-none taken as_many few-mid stays
+        (inr (record {
+          same = still stays;
+          same_taken = as_many;
+          rests =
+              subst (λ j. RestsAt agent j device) same at;
+        }))
       where
         at : RestsAt agent mid.seen device
         at = record {

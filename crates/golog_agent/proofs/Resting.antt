@@ -1,10 +1,10 @@
 -- A device at rest has no result outstanding: its Rest told that the results of all its commands had come.
-use Rattle.std.proofs.Common.{◌≡◌, ℕ, zero, suc, ◌+◌, ◌≤◌, Bool, true, false, not, ◌&&◌, ◌==◌, if◌then◌else◌, Option, Some, None, List, [], ◌∷◌, ◌++◌, length, length-append, take, refl, sym, ap, ◌∙◌, subst, arith, append_assoc}
+use Rattle.std.proofs.Common.{◌≡◌, ℕ, ◌+◌, ◌≤◌, Bool, true, false, not, ◌&&◌, ◌==◌, if◌then◌else◌, Option, Some, None, List, [], ◌∷◌, ◌++◌, length, length-append, take, refl, sym, ap, ◌∙◌, subst, arith, append_assoc}
 use Rattle.std.specs.Prelude.{filter, nat_le}
 use Rattle.std.specs.List.{list_any, list_all}
 use Rattle.std.specs.Option.{option_map_or}
 use Rattle.std.proofs.lemmas.Bool.{and_parts, or_parts, or_from, not-true, leb-true, eqb-true}
-use Rattle.std.proofs.lemmas.List.{append-nil, take-append-le}
+use Rattle.std.proofs.lemmas.List.{append-nil, take-append-le, take_all}
 use Rattle.golog_tree.specs.declared.agent.Agent.{Agent}
 use Rattle.golog_semantics.specs.declared.journal.Entry.{Entry}
 use Rattle.golog_semantics.specs.declared.journal.Entry.TheVariants.{Do, Test, Exo, Sense, Rest, Close, End}
@@ -16,18 +16,7 @@ use Rattle.golog_semantics.proofs.Pushed.{fold-push}
 use Rattle.golog_semantics.proofs.Grown.{commands_grow, posted-push, commands-push}
 use Rattle.golog_journal.specs.Boards.{is_lawful, IsBoardList}
 use Rattle.golog_journal.proofs.Lawful.{Lawful, lawful-parts}
-
-take-whole : {A : Type 0} (n : ℕ) (xs : List A) → n ≡ length xs → take n xs ≡ xs
-take-whole zero [] e = refl
-take-whole (suc n) [] e = absurd (omega (arith, e))
-take-whole zero (x ∷ xs) e = absurd (omega (arith, e))
-take-whole (suc n) (x ∷ xs) e = ap (λ l. x ∷ l) (take-whole n xs (omega (arith, e)))
-
-filter-none : {A : Type 0} (p : A → Bool) (xs : List A) → list_any p xs ≡ false → filter p xs ≡ []
-filter-none p [] h = refl
-filter-none p (x ∷ xs) h =
-    let parts = or_parts (p x) (list_any p xs) h in
-    ap (λ b. if b then x ∷ filter p xs else filter p xs) parts.0 ∙ filter-none p xs parts.1
+use Rattle.golog_journal.proofs.Staying.{filter-none}
 
 module _ (agent : Agent) (device : ℕ) where
   -- the first so many commands are there, and their results have come
@@ -118,7 +107,10 @@ module _ (agent : Agent) (device : ℕ) where
       → outstanding_commands agent device journal ≡ []
   by-last journal (Some (Rest p taken)) a h =
       filter-none (is_outstanding agent journal) (commands agent device journal)
-      (ap (list_any (is_outstanding agent journal)) (sym (take-whole taken (commands agent device journal) (eqb-true taken (length (commands agent device journal)) h))) ∙ a.come)
+      (ap (list_any (is_outstanding agent journal)) (sym (take_all taken (commands agent device journal) whole)) ∙ a.come)
+    where
+      whole : length (commands agent device journal) ≤ taken
+      whole = let e = eqb-true taken (length (commands agent device journal)) h in omega (arith, e)
   by-last journal None a h = absurd (cc)
   by-last journal (Some (Do x)) a h = absurd (cc)
   by-last journal (Some Test) a h = absurd (cc)

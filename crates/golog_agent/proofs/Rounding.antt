@@ -8,7 +8,7 @@ use Rattle.std.proofs.lemmas.List.Folds.{list_any-append}
 use Rattle.std.proofs.Math.ListN.{drop_of_length-le}
 use Rattle.golog_tree.specs.declared.agent.Agent.{Agent}
 use Rattle.golog_semantics.specs.declared.journal.Entry.{Entry}
-use Rattle.golog_semantics.specs.declared.journal.Entry.TheVariants.{Do, Test, Exo, Sense, Rest, Close, End}
+use Rattle.golog_semantics.specs.declared.journal.Entry.TheVariants.{End}
 use Rattle.golog_semantics.specs.declared.journal.Answer.{Answer}
 use Rattle.golog_semantics.specs.Journal.{Journal, devices, is_posted_by, is_open, is_at_rest, is_quiet, has_end}
 use Rattle.golog_semantics.specs.Inline.{Scripted, lead, after_lead, turns_from}
@@ -31,6 +31,8 @@ use Rattle.golog_agent.specs.Turns.{Follows, EndStood, CommitsEnd, TurnIs}
 use Rattle.golog_agent.specs.Rounds.{is_refusal}
 use Rattle.golog_agent.specs.Short.{EndsShort}
 use Rattle.golog_agent.specs.Moments.{Moment, taken_by, progress, told_at, MayGoOn, RestsAt, StaysDealt, DealsOn, AreScripted, IsStage, turned, LeaveAll, TurnsMade, RoundIs, RoundMade}
+use Rattle.golog_agent.proofs.StepEntries.{each-step}
+use Rattle.golog_agent.proofs.Turning.{alone-grows, alone-stays}
 use Rattle.golog_agent.proofs.Over.{over_is, whole_is}
 use Rattle.golog_agent.proofs.OneTurn.{few-more}
 use Rattle.golog_agent.proofs.Serving.{open-same}
@@ -89,56 +91,36 @@ module _ (agent : Agent) where
     pub goes : (length old < length new) ⊎ ((new ≡ old) × ((has_end old ≡ true) ⊎ (waits agent old ≡ true)))
 
   module _ (old new : Sight) (own : old.agent ≡ agent) (alone : old.alone ≡ true) where
-    adds : (committed : Journal) → Follows old new committed → new.seen ≡ old.seen ++ committed
-    adds committed follows =
-        follows.grows ∙ ap (λ o. (old.seen ++ o) ++ committed) ((follows.are_others).none alone)
-        ∙ ap (λ j. j ++ committed) (append-nil old.seen)
-
-    none-adds : Follows old new [] → new.seen ≡ old.seen
-    none-adds follows = adds [] follows ∙ append-nil old.seen
-
     with-none : (has_end old.seen ≡ true) ⊎ (waits agent old.seen ≡ true) → Follows old new [] → ProgramMade old.seen new.seen
     with-none why follows = record {
       since = [];
-      grows = adds [] follows;
+      grows = alone-grows old new [] follows alone;
       foreign = λ device. refl;
       unrefused = refl;
-      goes = inr (none-adds follows, why);
+      goes = inr (alone-stays old new follows alone, why);
     }
 
     with-one : (e : Entry) → ((device : ℕ) → is_posted_by device e ≡ false) → is_refusal e ≡ false → Follows old new (e ∷ []) → ProgramMade old.seen new.seen
     with-one e foreign plain follows = record {
       since = e ∷ [];
-      grows = adds (e ∷ []) follows;
+      grows = alone-grows old new (e ∷ []) follows alone;
       foreign = λ device. or_from _ _ (foreign device) refl;
       unrefused = or_from _ _ plain refl;
       goes =
-          inl (let l : length new.seen ≡ length old.seen + 1 = ap (λ j. length j) (adds (e ∷ []) follows) ∙ length-append old.seen (e ∷ []) in
+          inl (let l : length new.seen ≡ length old.seen + 1 = ap (λ j. length j) (alone-grows old new (e ∷ []) follows alone) ∙ length-append old.seen (e ∷ []) in
           omega (arith, l));
     }
 
     step-foreign : (e : Entry) → is_step_entry e ≡ true → (device : ℕ) → is_posted_by device e ≡ false
-    step-foreign (Do action) is device = refl
-    step-foreign Test is device = refl
-    step-foreign (Exo p a) is device = absurd (cc)
-    step-foreign (Sense p at f v) is device = absurd (cc)
-    step-foreign (Rest p t) is device = absurd (cc)
-    step-foreign (Close p r t) is device = absurd (cc)
-    step-foreign (End a) is device = absurd (cc)
+    step-foreign = each-step (λ e. (device : ℕ) → is_posted_by device e ≡ false) (λ action device. refl) (λ device. refl)
 
     step-plain : (e : Entry) → is_step_entry e ≡ true → is_refusal e ≡ false
-    step-plain (Do action) is = refl
-    step-plain Test is = refl
-    step-plain (Exo p a) is = absurd (cc)
-    step-plain (Sense p at f v) is = absurd (cc)
-    step-plain (Rest p t) is = absurd (cc)
-    step-plain (Close p r t) is = absurd (cc)
-    step-plain (End a) is = absurd (cc)
+    step-plain = each-step (λ e. is_refusal e ≡ false) (λ action. refl) refl
 
     pub program-made : (result : Stepped) → TurnIs old new result → ProgramMade old.seen new.seen
     program-made Step turn = with-one turn.entry (step-foreign turn.entry turn.is_step) (step-plain turn.entry turn.is_step) turn.follows
     program-made Waiting turn =
-        with-none (inr (ap (λ a. waits a old.seen) (sym ((turn.follows).same_agent ∙ own)) ∙ ap (waits new.agent) (sym (none-adds turn.follows)) ∙ turn.is_waiting))
+        with-none (inr (ap (λ a. waits a old.seen) (sym ((turn.follows).same_agent ∙ own)) ∙ ap (waits new.agent) (sym (alone-stays old new turn.follows alone)) ∙ turn.is_waiting))
         turn.follows
     program-made (Ended answer) turn = by turn.how
       where

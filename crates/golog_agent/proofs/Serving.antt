@@ -360,6 +360,17 @@ module _ (agent : Agent) where
           (ready_stays agent mid.journal made.since j (taken_by mid.taken j) list foreign
           (on.ready j below (sym (open-same agent mid.journal made.since j foreign) ∙ ap (is_open j) (sym made.grows) ∙ open_still))))
 
+  -- nothing was done to a device
+  pub deals-same : (m : Moment) → DealsOn agent m m
+  deals-same m = EachSlot-same _ m.standings same
+    where
+      by : (b : Bool) (j : ℕ) (s : Standing) → ChangesIf b (StaysDealt agent m m j) s s
+      by true j s = record { dealt = λ script far. far; shut = λ closed. refl }
+      by false j s = refl
+
+      same : (j : ℕ) (s : Standing) → ChangesIf (nat_lt j (length agent.devices)) (StaysDealt agent m m j) s s
+      same j s = by (nat_lt j (length agent.devices)) j s
+
   -- no device had a turn yet
   pub turns-none : (m : Moment) → MayGoOn agent m.journal m.taken → TurnsMade agent 0 m m
   turns-none m on = record {
@@ -368,17 +379,10 @@ module _ (agent : Agent) where
     own = refl;
     unrefused = refl;
     on = on;
-    deals = EachSlot-same _ m.standings (λ j s. same j s);
+    deals = deals-same m;
     scripted = λ ds are. record { entries = refl; devices = are };
     goes = inr (record { same = refl; same_taken = refl; rest = λ device below. absurd (omega (arith, below)) });
   }
-    where
-      same : (j : ℕ) (s : Standing) → ChangesIf (nat_lt j (length agent.devices)) (StaysDealt agent m m j) s s
-      same j s = by (nat_lt j (length agent.devices))
-        where
-          by : (b : Bool) → ChangesIf b (StaysDealt agent m m j) s s
-          by true = record { dealt = λ script far. far; shut = λ closed. refl }
-          by false = refl
 
   pub open-still : (k : ℕ) (old mid : Moment) → TurnsMade agent k old mid → is_open k mid.journal ≡ is_open k old.journal
   open-still k old mid made =

@@ -23,7 +23,8 @@ use Rattle.golog_agent.specs.Keeping.{IsUnderWay, KeepsRules, begun_by}
 use Rattle.golog_agent.specs.Planned.{IsNextStep, PlanIs}
 use Rattle.golog_agent.specs.Run.{is_step_entry}
 use Rattle.golog_agent.specs.Turns.{AttemptIs, CommitGives, Course, IsCommitted, IsCurrent, MayAnswer}
-use Rattle.golog_agent.specs.UnderWay.{entry_for, left_of}
+use Rattle.golog_semantics.specs.Inline.{entry_for}
+use Rattle.golog_agent.specs.UnderWay.{left_of}
 use Rattle.golog_agent.specs.Waiting.{waits}
 use Rattle.golog_agent.proofs.Boarding.{no-change}
 use Rattle.golog_agent.proofs.Committing.{step-left, step-online, step-own, step-run}

@@ -7,7 +7,6 @@ use Rattle.golog_tree.specs.declared.prog.Label.{Label}
 use Rattle.golog_tree.specs.declared.prog.Label.TheVariants.{Quiet, Do as Doing}
 use Rattle.golog_semantics.specs.declared.Mode.TheVariants.{Must}
 use Rattle.golog_semantics.specs.declared.search.Move.{Move}
-use Rattle.golog_semantics.specs.declared.journal.Entry.TheVariants.{Do, Test, Exo, Sense, Rest, Close, End}
 use Rattle.golog_semantics.specs.declared.journal.PlacedRun.{PlacedRun}
 use Rattle.golog_semantics.specs.declared.journal.Why.{Why}
 use Rattle.golog_semantics.specs.Ways.{is_empty}
@@ -24,6 +23,7 @@ use Rattle.golog_semantics.specs.Online.{fault_among, is_first, may_step, keeps_
 use Rattle.golog_agent.specs.Keeping.{KeepsRules}
 use Rattle.golog_agent.specs.Run.{is_step_entry}
 use Rattle.golog_agent.specs.Waiting.{has_no_step, waits}
+use Rattle.golog_agent.proofs.StepEntries.{each-step}
 use Rattle.golog_agent.proofs.BegunRuns.{run-kept}
 
 -- none fails exactly where each is kept
@@ -40,6 +40,11 @@ step_kept n true true true false e f g h i k = absurd (cc)
 step_kept n true true false d e f g h i k = absurd (cc)
 step_kept n true false c d e f g h i k = absurd (cc)
 step_kept n false b c d e f g h i k = absurd (cc)
+
+-- what holds for no other reason tells that it is false
+pub not_or : (b : Bool) → (not b || false) ≡ true → b ≡ false
+not_or true h = absurd (cc)
+not_or false h = refl
 
 module _ (agent : Agent) (journal : Journal) (e : Entry) where
   abbrev runs : List PlacedRun
@@ -75,10 +80,6 @@ module _ (agent : Agent) (journal : Journal) (e : Entry) where
       ∷ (why.Text, keeps_text agent journal runs None e)
       ∷ []) h
 
-  not_or : (b : Bool) → (not b || false) ≡ true → b ≡ false
-  not_or true h = absurd (cc)
-  not_or false h = refl
-
   by_label : (l : Label) → may_step agent journal (values_after agent journal) (left_after agent journal) l ≡ true → waits agent journal ≡ true → ⊥
   unfolding waits
   by_label l h w =
@@ -96,25 +97,11 @@ module _ (agent : Agent) (journal : Journal) (e : Entry) where
 
   -- a program that takes a step does not wait there, and has not ended
   pub stepping-ends-waits : is_step_entry e ≡ true → KeepsRules agent journal e → waits agent journal ≡ true → ⊥
-  stepping-ends-waits is h w = by_entry e is (keeps_its_step h)
-    where
-      by_entry : (x : Entry) → is_step_entry x ≡ true → keeps_step agent journal (values_after agent journal) (left_after agent journal) x ≡ true → ⊥
-      by_entry (Do a) is k = by_label (Doing a) k w
-      by_entry Test is k = by_label Quiet k w
-      by_entry (Exo p a) is k = absurd (cc)
-      by_entry (Sense p at f v) is k = absurd (cc)
-      by_entry (Rest p t) is k = absurd (cc)
-      by_entry (Close p r t) is k = absurd (cc)
-      by_entry (End a) is k = absurd (cc)
+  stepping-ends-waits is h w =
+      each-step (λ x. keeps_step agent journal (values_after agent journal) (left_after agent journal) x ≡ true → ⊥)
+      (λ action k. by_label (Doing action) k w) (λ k. by_label Quiet k w) e is (keeps_its_step h)
 
   pub step-unended : is_step_entry e ≡ true → KeepsRules agent journal e → has_end journal ≡ false
-  step-unended is h = by_entry e is (keeps_its_after h)
-    where
-      by_entry : (x : Entry) → is_step_entry x ≡ true → (not (has_end journal) || is_close x) ≡ true → has_end journal ≡ false
-      by_entry (Do a) is k = not_or (has_end journal) k
-      by_entry Test is k = not_or (has_end journal) k
-      by_entry (Exo p a) is k = absurd (cc)
-      by_entry (Sense p at f v) is k = absurd (cc)
-      by_entry (Rest p t) is k = absurd (cc)
-      by_entry (Close p r t) is k = absurd (cc)
-      by_entry (End a) is k = absurd (cc)
+  step-unended is h =
+      each-step (λ x. (not (has_end journal) || is_close x) ≡ true → has_end journal ≡ false) (λ action. not_or (has_end journal))
+      (not_or (has_end journal)) e is (keeps_its_after h)

@@ -13,7 +13,7 @@ use Rattle.golog_agent.specs.Keeping.{KeepsRules, begun_by}
 use Rattle.golog_agent.specs.Run.{is_step_entry}
 use Rattle.golog_agent.specs.Turns.{Course}
 use Rattle.golog_agent.proofs.Committing.{device-left, device-online}
-use Rattle.golog_agent.proofs.Copying.{lawful-prefix}
+use Rattle.golog_device.proofs.Asked.{lawful-prefix}
 use Rattle.golog_agent.proofs.BegunRuns.{begun-none}
 use Rattle.golog_agent.proofs.Growth.{seen_as}
 

@@ -7,7 +7,7 @@ use Rattle.std.proofs.lemmas.List.{append-nil}
 use Rattle.std.proofs.lemmas.List.Folds.{list_any-append, list_all-append}
 use Rattle.golog_tree.specs.declared.agent.Agent.{Agent}
 use Rattle.golog_semantics.specs.declared.journal.Entry.{Entry}
-use Rattle.golog_semantics.specs.declared.journal.Entry.TheVariants.{Do, Test, Exo, Sense, Rest, Close, End}
+use Rattle.golog_semantics.specs.declared.journal.Entry.TheVariants.{End}
 use Rattle.golog_semantics.specs.declared.journal.Answer.{Answer}
 use Rattle.golog_semantics.specs.Journal.{Journal, has_end, is_end}
 use Rattle.golog_semantics.specs.Answer.{answer_after}
@@ -24,6 +24,7 @@ use Rattle.golog_agent.specs.Turns.{AttemptIs, CommitsEnd, Course, EndStood, Fol
 use Rattle.golog_semantics.specs.Online.{IsOnlineSoFar}
 use Rattle.golog_semantics.specs.InlineText.{report_of}
 use Rattle.golog_semantics.proofs.Among.{among-contains, any-among}
+use Rattle.golog_agent.proofs.StepEntries.{each-step}
 use Rattle.golog_agent.proofs.StepsKept.{step-unended, stepping-ends-waits}
 use Rattle.golog_agent.proofs.BegunRuns.{keeps-rules}
 use Rattle.golog_agent.proofs.Boarding.{compose, end-as-before, no-change, others-come, over-whole, seen-so}
@@ -131,22 +132,10 @@ module _ (first : Course) (before : Sight) (course later : Course) (old new : Si
 -- ---- what a lead does
 
 step-comes : (sight : Sight) (e : Entry) → is_step_entry e ≡ true → may_come sight e ≡ true
-step-comes sight (Do a) h = refl
-step-comes sight Test h = refl
-step-comes sight (Exo p a) h = absurd (cc)
-step-comes sight (Sense p at f v) h = absurd (cc)
-step-comes sight (Rest p t) h = absurd (cc)
-step-comes sight (Close p r t) h = absurd (cc)
-step-comes sight (End a) h = absurd (cc)
+step-comes sight = each-step (λ e. may_come sight e ≡ true) (λ action. refl) refl
 
 step-goes-on : (e : Entry) → is_step_entry e ≡ true → is_end e ≡ false
-step-goes-on (Do a) h = refl
-step-goes-on Test h = refl
-step-goes-on (Exo p a) h = refl
-step-goes-on (Sense p at f v) h = refl
-step-goes-on (Rest p t) h = refl
-step-goes-on (Close p r t) h = refl
-step-goes-on (End a) h = absurd (cc)
+step-goes-on = each-step (λ e. is_end e ≡ false) (λ action. refl) refl
 
 or-true : (b : Bool) → (b || true) ≡ true
 or-true true = refl
@@ -181,6 +170,9 @@ module _ (old new : Sight) where
   pub alone-grows : (committed : Journal) (f : Follows old new committed) → old.alone ≡ true → new.seen ≡ old.seen ++ committed
   alone-grows committed f h = f.grows ∙ ap (λ others. (old.seen ++ others) ++ committed) (f.are_others.none h) ∙ ap (λ seen. seen ++ committed) (append-nil old.seen)
 
+  pub alone-stays : Follows old new [] → old.alone ≡ true → new.seen ≡ old.seen
+  alone-stays f h = alone-grows [] f h ∙ append-nil old.seen
+
   -- whether the program has ended then
   module _ (held : old.holds program ≡ true) where
     pub ended-so : (answer : Answer) → HasEnded answer old new → has_end new.seen ≡ true
@@ -197,16 +189,13 @@ module _ (old new : Sight) where
         let more = ap (λ seen. length seen) (sym same ∙ alone-grows (e ∷ []) f alone) ∙ length-append old.seen (e ∷ []) in
         absurd (omega (arith, more))
 
-    commits-nothing : (f : Follows old new []) → new.seen ≡ old.seen
-    commits-nothing f = alone-grows [] f alone ∙ append-nil old.seen
-
     module _ (agent : Agent) (same : agent ≡ old.agent) where
       contrary : (b : Bool) → b ≡ true → b ≡ false → ⊥
       contrary b h k = absurd (let j = sym h ∙ k in cc)
 
       waits-as : (t : StillWaits old new) → waits agent old.seen ≡ true
       waits-as t =
-          ap (λ g. waits g old.seen) (same ∙ sym t.follows.same_agent) ∙ ap (waits new.agent) (sym (commits-nothing t.follows)) ∙ t.is_waiting
+          ap (λ g. waits g old.seen) (same ∙ sym t.follows.same_agent) ∙ ap (waits new.agent) (sym (alone-stays t.follows alone)) ∙ t.is_waiting
 
       goes-on : (s : Stepped) → TurnIs old new s → waits agent old.seen ≡ false → new.seen ≢ old.seen
       goes-on Step t w = longer t.entry t.follows
@@ -223,11 +212,11 @@ module _ (old new : Sight) where
       rests-so : (s : Stepped) → TurnIs old new s → IsOnlineSoFar agent (report_of agent new.seen) → waits agent old.seen ≡ true → AddsEndAtMost old.seen new.seen
       rests-so Step t online w =
           absurd (no-step t.entry t.is_step (subst (λ seen. IsOnlineSoFar agent (report_of agent seen)) (alone-grows (t.entry ∷ []) t.follows alone) online) w)
-      rests-so Waiting t online w = inl (commits-nothing t.follows)
+      rests-so Waiting t online w = inl (alone-stays t.follows alone)
       rests-so (Ended answer) t online w = go t.how
         where
           go : EndStood old new ⊎ CommitsEnd answer old new → AddsEndAtMost old.seen new.seen
-          go (inl e) = inl (commits-nothing e.follows)
+          go (inl e) = inl (alone-stays e.follows alone)
           go (inr e) = inr (answer, alone-grows (End answer ∷ []) e.follows alone)
 
   pub takes-turn : (mind : Mind) (s : Stepped) → mind.agent ≡ old.agent → mind.waits ≡ waits mind.agent → TurnIs old new s → IsOnlineSoFar mind.agent (report_of mind.agent new.seen) → TakesTurn mind old new

@@ -158,9 +158,8 @@ impl<'a> Decider<'a> {
         requires { IsAhead self.old.agent self.old.values self.old.left true decided.now }
         ensures { self.new ≡ self.old }
     {
-        match standing(decided) {
-            Some(ahead) => self.keep(alloc, ahead),
-            None => {}
+        if let Some(ahead) = standing(decided) {
+            self.keep(alloc, ahead);
         }
     }
 

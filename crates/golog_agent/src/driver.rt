@@ -13,7 +13,8 @@ ghost use Rattle.golog_agent.specs.Keeping.{begun_by, KeepsRules};
 ghost use Rattle.golog_agent.specs.Planned.{IsNextStep};
 ghost use Rattle.golog_agent.specs.Recording.{Records};
 ghost use Rattle.golog_agent.specs.Run.{is_step_entry};
-ghost use Rattle.golog_agent.specs.UnderWay.{entry_for, left_of, step_run};
+ghost use Rattle.golog_semantics.specs.Inline.{entry_for};
+ghost use Rattle.golog_agent.specs.UnderWay.{left_of, step_run};
 ghost use Rattle.golog_agent.specs.Turns.{AttemptIs, CommitGives, Follows, IsCurrent, IsOver, MayAnswer, TurnIs};
 
 use crate::plan::Plan;
@@ -213,13 +214,7 @@ impl<'a, R: Record> Driver<'a, R> {
         }
     }
 
-    /// Copies what is new, decides at the whole list, and commits what it decided, at that length: where
-    /// others added entries meanwhile, it copies and decides again. `Step` exactly where it committed an
-    /// action or a test; `Waiting` exactly where it committed nothing and no end stands, and then the
-    /// program waits for a device at all that was seen; `Ended` exactly where the end stands, with its
-    /// answer. The end is the answer after all entries before it, or `Memory` for want of memory, or `Fuel`
-    /// where the program is heavy and the fuel of a search block was wanted. Its copy is then all that was
-    /// seen, and an online execution so far.
+    /// What `Runner::turn` does. The entries that it copied or committed are recorded then.
     pub(crate) fn turn<B: Board>(&mut self, board: &mut B) -> Stepped
         requires agent { self.old.core.agent ≡ (B.sight board.old).agent }
         requires held { (B.sight board.old).holds program ≡ true }

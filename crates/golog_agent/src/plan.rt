@@ -1,9 +1,8 @@
 //! What the program is to do next.
 ghost use Rattle.std.specs.Prelude.{◌≡◌};
-ghost use Rattle.golog_search.specs.Laws.{blocked_answer};
 ghost use Rattle.golog_agent.specs.Deciding.{plan_by};
 
-use golog_search::{Blocked, Decision};
+use golog_search::Decision;
 use golog_semantics::{Answer, Move};
 
 /// What the program is to do next.
@@ -27,17 +26,6 @@ pub(crate) fn planned(decision: Decision) -> Plan
         Decision::Deep => Plan::End(Answer::Deep),
         Decision::Fuel => Plan::End(Answer::Fuel),
         Decision::Step(step) => Plan::Step(step),
-        Decision::Blocked(blocked) => Plan::End(answer_of(blocked)),
-    }
-}
-
-/// The answer of a blocked program.
-fn answer_of(blocked: Blocked) -> Answer
-    ensures { result ≡ blocked_answer blocked }
-{
-    match blocked {
-        Blocked::Unknown => Answer::Unknown,
-        Blocked::Depth => Answer::Depth,
-        Blocked::Stuck => Answer::Stuck,
+        Decision::Blocked(blocked) => Plan::End(blocked.answer()),
     }
 }

@@ -13,11 +13,8 @@ ghost use Rattle.golog_agent.specs.Rounds.{AreReady, RunsToEnd};
 
 use crate::OnlineLead;
 use golog_device::{Device, one_turn};
-use golog_journal::Board;
+use golog_journal::{Board, DEVICES};
 use golog_tree::Agent;
-
-/// The most devices.
-const DEVICES: usize = 16;
 
 /// Runs the program of an agent over a board to which no one else adds entries, until the program has ended
 /// and each device is closed: in each round each open device in order has one turn, and then the program

@@ -4,13 +4,11 @@ ghost use Rattle.golog_semantics.specs.Journal.{limit};
 ghost use Rattle.golog_semantics.specs.InlineText.{placed_run};
 
 use golog_base::{List, NoMemory};
+use golog_journal::LIMIT;
 use golog_semantics::PlacedRun;
 use golog_tree::Label;
 use std::alloc::Global;
 use std::marker::Model;
-
-/// The most runs of a journal, as each begins with an entry that counts.
-const MOST: usize = 65_536;
 
 /// The runs. Contracts see them as their list.
 #[derive(Drop)]
@@ -35,7 +33,7 @@ impl Runs {
     pub(crate) fn new(alloc: Global) -> Result<Runs, NoMemory>
         ensures { IfOk result (λ runs. runs ≡ []) }
     {
-        let runs = Vec::with_capacity(alloc, MOST)?;
+        let runs = Vec::with_capacity(alloc, LIMIT as usize)?;
         Ok(Runs { runs })
     }
 
@@ -52,7 +50,7 @@ impl Runs {
     fn push(&mut self, run: PlacedRun)
         ensures { length self.old < limit → self.new ≡ self.old ++ run ∷ [] }
     {
-        if self.runs.len() < MOST {
+        if self.runs.len() < LIMIT as usize {
             self.runs.push_reserved(run);
         }
     }

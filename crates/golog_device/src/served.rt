@@ -1,8 +1,8 @@
 // The texts that a device served.
-ghost use Rattle.std.specs.Prelude.{◌≡◌, ◌≤◌, ◌+◌, ◌++◌, length, vec_len, vec_capacity};
+ghost use Rattle.std.specs.Prelude.{◌≡◌, ◌≤◌, ◌+◌, vec_len, vec_capacity};
 ghost use Rattle.golog_device.specs.Kept.{marked};
 
-use golog_base::NoMemory;
+use golog_base::{NoMemory, put_reserved};
 use std::alloc::Global;
 
 /// The most bytes of the served texts that a device keeps, one more for each text.
@@ -85,16 +85,5 @@ impl ServedTexts {
         self.bytes.clear();
         self.marks.clear();
         self.cut = false;
-    }
-}
-
-// Adds the bytes where their room is reserved, which takes no memory.
-fn put_reserved(buffer: &mut Vec<u8>, bytes: &[u8])
-    requires { vec_len buffer.old + length bytes.now ≤ vec_capacity buffer.old }
-    ensures added { buffer.new.items ≡ buffer.old.items ++ bytes.now }
-    ensures capacity { vec_capacity buffer.new ≡ vec_capacity buffer.old }
-{
-    for byte in bytes {
-        buffer.push_reserved(*byte);
     }
 }

@@ -1,6 +1,5 @@
 //! One turn of an open device.
-ghost use Rattle.std.specs.Prelude.{◌≡◌, ◌≢◌, ◌↔◌, ◌<◌, ◌≤◌, ◌+◌, ℕ, true, false, Some, None, length, option_map, option_and_then, find, ◌==◌, slice_get};
-ghost use Rattle.std.specs.Option.{option_copied};
+ghost use Rattle.std.specs.Prelude.{◌≡◌, ◌≢◌, ◌↔◌, ◌<◌, ◌≤◌, ◌+◌, ℕ, true, false, Some, None, length, option_map, option_and_then, slice_get};
 ghost use Rattle.golog_tree.specs.Ground.{ground_count, action_args};
 ghost use Rattle.golog_semantics.specs.WellFormed.{WellFormed};
 ghost use Rattle.golog_semantics.specs.Values.{fluent_sort};
@@ -16,8 +15,8 @@ ghost use Rattle.golog_device.specs.Dealing.{DealtSoFar, DealtAfter, ScriptedTur
 
 use crate::{Device, Idle, Served};
 use golog_ground::{action_text, read_action, read_constant};
-use golog_journal::{Board, Item, Next, Posted};
-use golog_tree::{Agent, SenseItem, action_of};
+use golog_journal::{Board, Item, Next, Posted, sense_for};
+use golog_tree::{Agent, action_of};
 
 /// What a turn did.
 #[derive(Clone, Copy, Debug, PartialEq, Eq)]
@@ -180,13 +179,6 @@ fn sort_sensed(agent: &Agent, action: u32) -> Option<u32>
         Some(sense) => Some(agent.fluents.as_slice()[sense.fluent as usize].sort),
         None => None,
     }
-}
-
-// What an action's result tells, by the first item for it.
-fn sense_for(senses: &[SenseItem], action: u32) -> Option<&SenseItem>
-    ensures { option_copied result ≡ find (λ item. item.action == action) senses.now }
-{
-    senses.iter().find(|sense| sense.action == action)
 }
 
 // Without a command the device posts what it has.

@@ -1,11 +1,12 @@
 -- The faults of a report from a place on, and what a replay answers by them.
-use Rattle.std.proofs.Common.{◌≡◌, ℕ, zero, suc, ◌+◌, ◌<◌, ◌≤◌, Bool, true, false, ◌&&◌, List, [], ◌∷◌, ◌++◌, take, drop, length, get_or, Option, Some, None, Result, Ok, Err, refl, sym, ap, ◌∙◌, subst, arith, add-one}
-use Rattle.std.specs.Prelude.{Contains, IfOk, codes, decimal, slice_get, if◌then◌else◌}
+use Rattle.std.proofs.Common.{◌≡◌, ℕ, zero, suc, ◌+◌, ◌<◌, ◌≤◌, Bool, true, false, List, [], ◌∷◌, ◌++◌, take, drop, length, get_or, Option, Some, None, Result, Ok, Err, refl, sym, ap, ◌∙◌, subst, arith, add-one}
+use Rattle.std.specs.Prelude.{Contains, IfOk, codes, decimal, nat_le, slice_get, if◌then◌else◌}
 use Rattle.std.specs.List.{list_all}
 use Rattle.std.specs.Option.{option_or}
 use Rattle.std.proofs.Math.Seq.{drop-cons, take-suc}
-use Rattle.std.proofs.lemmas.Bool.{and_parts}
+use Rattle.std.proofs.lemmas.Bool.{and_parts, leb-true}
 use Rattle.std.proofs.lemmas.List.{append_assoc, append-nil, drop_all, length-take-le}
+use Rattle.std.proofs.lemmas.List.Elements.{All-filter}
 use Rattle.golog_tree.specs.declared.agent.Agent.{Agent}
 use Rattle.golog_tree.specs.declared.prog.Label.{Label}
 use Rattle.golog_semantics.specs.declared.journal.Answer.{Answer}
@@ -17,11 +18,14 @@ use Rattle.golog_semantics.specs.declared.journal.Why.{Why}
 use Rattle.golog_semantics.specs.declared.journal.Why.TheVariants as why
 use Rattle.golog_semantics.specs.Journal.{Journal}
 use Rattle.golog_semantics.specs.Progress.{left_after, values_after}
-use Rattle.golog_semantics.specs.Reports.{IsReport, fits_entry}
+use Rattle.golog_semantics.specs.Reports.{IsReport, entry_limit, fits_entry}
 use Rattle.golog_semantics.specs.Text.{Text, at_each, body_text, run_at}
 use Rattle.golog_semantics.specs.Online.{Fault, fault_among, fault_at, fault_of, first_fault, first_some, is_whole, keeps_after, keeps_answer, keeps_close, keeps_place, keeps_poster, keeps_run, keeps_step, keeps_taken, same_line, too_short}
-use Rattle.golog_text.proofs.RunsBehind.{from_place, same_run}
-use Rattle.golog_replay.specs.Courses.{TakenIs}
+use Rattle.golog_text.specs.Named.{AreFrom, AreLabels, AreNamed, IsNamed}
+use Rattle.golog_text.proofs.RunsBehind.{from_grows, from_place, same_run}
+use Rattle.golog_text.proofs.Things.{entries_named, runs_named}
+use Rattle.golog_replay.specs.declared.course.Course.{Course}
+use Rattle.golog_replay.specs.Courses.{Follows, TakenIs}
 use Rattle.golog_replay.specs.Verdicts.{VerdictIs, lines_in}
 use Rattle.golog_replay.specs.declared.verdict.Verdict.TheVariants.{Online, Not}
 
@@ -142,6 +146,59 @@ module _ (agent : Agent) (lines : List Text) (report : Report) where
 
     pub lines-on : (here later : List Text) → here ≡ drop place lines → later ≡ drop 1 here → later ≡ drop (place + 1) lines
     lines-on here later h k = k ∙ ap (drop 1) h ∙ drop-more place lines
+
+-- at an entry of those that the report lends
+module _ (agent : Agent) (report : Report) (is : IsReport agent report) (items : List Entry) (same : items ≡ report.entries) (place : ℕ) (low : place < length items) where
+  inside : place < length report.entries
+  inside = subst (λ es. place < length es) same low
+
+  pub lent-fits : (d : Entry) → fits_entry agent (take place items) (get_or items place d) ≡ true
+  lent-fits d = subst (λ es. fits_entry agent (take place es) (get_or es place d) ≡ true) (sym same) (fits-there agent report is place d inside)
+
+  pub lent-named : (d : Entry) → IsNamed agent (get_or items place d)
+  lent-named d = subst (λ es. IsNamed agent (get_or es place d)) (sym same) (entries_named agent report is place d inside)
+
+  pub lent-short : length (take place items) < entry_limit
+  lent-short =
+      let most = leb-true (length report.entries) entry_limit is.in_bounds in
+      let many = length-take-le place items (omega (arith, low)) in
+      omega (arith, inside, most, many)
+
+  module _ (runs : List PlacedRun) (are : runs ≡ from_place place report.runs) where
+    pub lent-in-order : AreFrom (length (take place items)) runs
+    lent-in-order =
+        subst (λ n. AreFrom n runs) (sym (length-take-le place items (omega (arith, low))))
+        (subst (AreFrom place) (sym are) (from_grows place 0 report.runs is.in_order))
+
+    pub lent-runs-named : AreNamed agent runs
+    lent-runs-named =
+        subst (AreNamed agent) (sym are)
+        (All-filter (λ r. nat_le place r.place) (λ r. AreLabels agent r.labels) report.runs (runs_named agent report is))
+
+    module _ (lines here later : List Text) (to_come : here ≡ drop place lines) (course : Course) (d : Entry) (broken : Option Why)
+        (taken : TakenIs agent (take place items) runs here (get_or items place d) later course broken)
+        (so_far : first_fault agent (Some lines) report ≡ faults_from agent lines report place) where
+      taken-there : (what : Option Why) → broken ≡ what → TakenIs agent (take place report.entries) runs here (get_or report.entries place d) later course what
+      taken-there what so =
+          subst (λ es. TakenIs agent (take place es) runs here (get_or es place d) later course what) same
+          (subst (TakenIs agent (take place items) runs here (get_or items place d) later course) so taken)
+
+      pub lent-broken : (w : Why) → broken ≡ Some w → first_fault agent (Some lines) report ≡ Some (record { place = place; why = w })
+      lent-broken w so = broken-here agent lines report place d inside runs here are to_come w (taken-there (Some w) so) so_far
+
+      pub record GoesOn : Type 0 where
+        pub follows : Follows agent (take (place + 1) report.entries) course
+        pub faults : first_fault agent (Some lines) report ≡ faults_from agent lines report (place + 1)
+        pub behind : later ≡ drop (place + 1) lines
+
+      pub lent-kept : broken ≡ None → GoesOn
+      lent-kept so =
+          let kept = taken-there None so in
+          record {
+            follows = subst (λ es. Follows agent es course) (sym (then-more agent lines report place d inside)) kept.2;
+            faults = kept-here agent lines report place d inside runs here are to_come kept.0 so_far;
+            behind = lines-on agent lines report place d inside here later to_come kept.1;
+          }
 
 module _ (agent : Agent) (bytes : Text) (report : Report) where
   abbrev lines : List Text

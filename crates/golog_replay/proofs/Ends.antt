@@ -14,33 +14,44 @@ use Rattle.golog_semantics.specs.Heavy.{heavy}
 use Rattle.golog_semantics.specs.Journal.{Journal, is_full, is_quiet, is_settled}
 use Rattle.golog_semantics.specs.Answer.{answer_at, first_that_fits, is_deep, is_unanswered}
 use Rattle.golog_semantics.specs.Online.{may_end, same_answer}
+use Rattle.golog_semantics.specs.Progress.{left_after, values_after}
 use Rattle.golog_search.specs.declared.decision.Decision.{Decision}
 use Rattle.golog_search.specs.Decided.{decision}
 use Rattle.golog_search.specs.Laws.{answer_of}
 use Rattle.golog_search.proofs.Answering.{decided_answered}
 use Rattle.golog_replay.proofs.Steps.{and-false}
 
-module _ (agent : Agent) (journal : Journal) (values : List ℕ) (p : Prog) where
+module _ (agent : Agent) (journal : Journal) where
+  abbrev values : List ℕ
+  values = values_after agent journal
+
+  abbrev p : Prog
+  p = left_after agent journal
+
+  -- whether the program may end with an answer
+  abbrev pub ends_with : Answer → Bool
+  ends_with a = may_end agent journal values p a
+
   abbrev fuel : Bool → Bool → Bool → Bool → Bool
   fuel full unanswered settled weighs = not full && not unanswered && settled && weighs
 
   abbrev H : Bool
   H = heavy agent values p
 
-  pub fuel-full : is_full journal ≡ true → may_end agent journal values p answer.Fuel ≡ false
+  pub fuel-full : is_full journal ≡ true → ends_with answer.Fuel ≡ false
   fuel-full h = ap (λ b. fuel b (is_unanswered agent journal) (is_settled agent journal) H) h
 
-  pub fuel-unanswered : is_unanswered agent journal ≡ true → may_end agent journal values p answer.Fuel ≡ false
+  pub fuel-unanswered : is_unanswered agent journal ≡ true → ends_with answer.Fuel ≡ false
   fuel-unanswered h =
       ap (λ b. fuel (is_full journal) b (is_settled agent journal) H) h
       ∙ ap (λ b. b && is_settled agent journal && H) (and-false (not (is_full journal)))
 
-  pub fuel-awaited : is_settled agent journal ≡ false → may_end agent journal values p answer.Fuel ≡ false
+  pub fuel-awaited : is_settled agent journal ≡ false → ends_with answer.Fuel ≡ false
   fuel-awaited h =
       ap (λ b. fuel (is_full journal) (is_unanswered agent journal) b H) h
       ∙ ap (λ b. b && H) (and-false (not (is_full journal) && not (is_unanswered agent journal)))
 
-  pub fuel-heavy : is_full journal ≡ false → is_unanswered agent journal ≡ false → is_settled agent journal ≡ true → may_end agent journal values p answer.Fuel ≡ H
+  pub fuel-heavy : is_full journal ≡ false → is_unanswered agent journal ≡ false → is_settled agent journal ≡ true → ends_with answer.Fuel ≡ H
   fuel-heavy f u s =
       ap (λ b. fuel b (is_unanswered agent journal) (is_settled agent journal) H) f
       ∙ ap (λ b. fuel false b (is_settled agent journal) H) u
@@ -72,22 +83,21 @@ module _ (agent : Agent) (journal : Journal) (values : List ℕ) (p : Prog) wher
       ap (λ b. cases b (is_unanswered agent journal) (is_settled agent journal)) f
       ∙ ap (λ b. cases false b (is_settled agent journal)) u ∙ ap (λ b. cases false false b) s
 
--- any other answer is that of the program
-pub other-answer : (agent : Agent) (journal : Journal) (values : List ℕ) (p : Prog) (a : Answer) → (a ≡ answer.Memory → ⊥) → (a ≡ answer.Fuel → ⊥)
-    → may_end agent journal values p a ≡ same_answer (answer_at agent journal values p) a
-other-answer agent journal values p Memory memory fuel = absurd (memory refl)
-other-answer agent journal values p Fuel memory fuel = absurd (fuel refl)
-other-answer agent journal values p Done memory fuel = refl
-other-answer agent journal values p Stuck memory fuel = refl
-other-answer agent journal values p Unknown memory fuel = refl
-other-answer agent journal values p Depth memory fuel = refl
-other-answer agent journal values p Unanswered memory fuel = refl
-other-answer agent journal values p Full memory fuel = refl
-other-answer agent journal values p Deep memory fuel = refl
+  -- any other answer is that of the program
+  pub other-answer : (a : Answer) → (a ≡ answer.Memory → ⊥) → (a ≡ answer.Fuel → ⊥) → ends_with a ≡ same_answer (answer_at agent journal values p) a
+  other-answer Memory not-memory not-fuel = absurd (not-memory refl)
+  other-answer Fuel not-memory not-fuel = absurd (not-fuel refl)
+  other-answer Done not-memory not-fuel = refl
+  other-answer Stuck not-memory not-fuel = refl
+  other-answer Unknown not-memory not-fuel = refl
+  other-answer Depth not-memory not-fuel = refl
+  other-answer Unanswered not-memory not-fuel = refl
+  other-answer Full not-memory not-fuel = refl
+  other-answer Deep not-memory not-fuel = refl
 
--- in the words of what the program does next
-pub answer-decided : (agent : Agent) (journal : Journal) (values : List ℕ) (p : Prog) → is_full journal ≡ false → is_unanswered agent journal ≡ false → is_settled agent journal ≡ true
-    → (quiet : Bool) (d : Decision) (found : Option Answer) → found ≡ answer_of quiet d → quiet ≡ is_quiet agent journal → d ≡ decision agent values p
-    → found ≡ answer_at agent journal values p
-answer-decided agent journal values p f u s quiet d found is q e =
-    is ∙ (λ i. answer_of (q i) (e i)) ∙ sym (decided_answered agent journal values p f u s)
+  -- in the words of what the program does next
+  pub answer-decided : is_full journal ≡ false → is_unanswered agent journal ≡ false → is_settled agent journal ≡ true
+      → (quiet : Bool) (d : Decision) (found : Option Answer) → found ≡ answer_of quiet d → quiet ≡ is_quiet agent journal → d ≡ decision agent values p
+      → found ≡ answer_at agent journal values p
+  answer-decided f u s quiet d found is q e =
+      is ∙ (λ i. answer_of (q i) (e i)) ∙ sym (decided_answered agent journal values p f u s)

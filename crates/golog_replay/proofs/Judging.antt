@@ -1,5 +1,5 @@
 -- What is found of an entry, by the rules that it keeps.
-use Rattle.std.proofs.Common.{◌≡◌, ℕ, Bool, true, false, List, [], ◌∷◌, ◌++◌, length, Option, Some, None, sym, ap, ◌∙◌}
+use Rattle.std.proofs.Common.{◌≡◌, ℕ, Bool, true, false, List, length, Some, None, ap, ◌∙◌}
 use Rattle.golog_tree.specs.declared.agent.Agent.{Agent}
 use Rattle.golog_tree.specs.declared.prog.Prog.{Prog}
 use Rattle.golog_semantics.specs.declared.search.Move.{Move}
@@ -9,12 +9,12 @@ use Rattle.golog_semantics.specs.declared.journal.Why.TheVariants as why
 use Rattle.golog_semantics.specs.Journal.{Journal}
 use Rattle.golog_semantics.specs.Progress.{left_after, values_after}
 use Rattle.golog_semantics.specs.Same.{same_run}
-use Rattle.golog_semantics.specs.Text.{Text, run_at, line_text}
-use Rattle.golog_semantics.specs.Online.{run_begun, fault_at, keeps_answer, keeps_close, keeps_step, label_of, same_line}
+use Rattle.golog_semantics.specs.Text.{Text, run_at}
+use Rattle.golog_semantics.specs.Online.{run_begun, keeps_answer, keeps_close, keeps_step, label_of}
 use Rattle.golog_replay.specs.declared.judged.Judged.TheVariants.{Broken, Kept}
-use Rattle.golog_replay.specs.Courses.{BreaksFirst, IsStep, JudgedIs, KeepsEarly}
-use Rattle.golog_replay.proofs.Faults.{breaks-answer, breaks-close, breaks-none, breaks-run, breaks-step, breaks-text}
-use Rattle.golog_replay.proofs.Steps.{answer-other, begins, begins-none, close-other, no-step-keeps, other-leaves, step-leaves}
+use Rattle.golog_replay.specs.Courses.{IsStep, JudgedIs, KeepsEarly}
+use Rattle.golog_replay.proofs.Faults.{breaks-answer, breaks-close, breaks-run, breaks-step}
+use Rattle.golog_replay.proofs.Steps.{at-step, begins, begins-none, no-step-keeps, other-leaves, step-leaves}
 
 module _ (agent : Agent) (journal : Journal) (runs : List PlacedRun) (e : Entry) (early : KeepsEarly agent journal e) where
   abbrev V : List ℕ
@@ -24,9 +24,9 @@ module _ (agent : Agent) (journal : Journal) (runs : List PlacedRun) (e : Entry)
   P = left_after agent journal
 
   -- a step
-  module _ (step : Move) (is : IsStep agent journal V P e step) where
+  module _ (step : Move) (is : IsStep agent journal e step) where
     run-is : (b : Bool) → same_run (run_at runs (length journal)) step.run ≡ b → same_run (run_at runs (length journal)) (run_begun agent journal V P e) ≡ b
-    run-is b h = ap (same_run (run_at runs (length journal))) (begins agent journal V P e step is) ∙ h
+    run-is b h = ap (same_run (run_at runs (length journal))) (begins agent journal e step is) ∙ h
 
     pub step-keeps : same_run (run_at runs (length journal)) step.run ≡ true → JudgedIs agent journal runs e (Kept (Some step.left))
     step-keeps h = (
@@ -37,8 +37,8 @@ module _ (agent : Agent) (journal : Journal) (runs : List PlacedRun) (e : Entry)
         taken = early.taken;
         step = is.kept;
         run = run-is true h;
-        answer = answer-other agent journal V P e is.label is.is_step;
-        close = close-other agent journal V P e is.label is.is_step;
+        answer = (at-step agent journal e is.label is.is_step).0;
+        close = (at-step agent journal e is.label is.is_step).1;
       },
       step-leaves agent journal e step is,
     )
@@ -52,10 +52,10 @@ module _ (agent : Agent) (journal : Journal) (runs : List PlacedRun) (e : Entry)
   -- an entry that is no step
   module _ (none : label_of e ≡ None) where
     no-run : (b : Bool) → same_run (run_at runs (length journal)) None ≡ b → same_run (run_at runs (length journal)) (run_begun agent journal V P e) ≡ b
-    no-run b h = ap (same_run (run_at runs (length journal))) (begins-none agent journal V P e none) ∙ h
+    no-run b h = ap (same_run (run_at runs (length journal))) (begins-none agent journal e none) ∙ h
 
     steps-so : keeps_step agent journal V P e ≡ true
-    steps-so = no-step-keeps agent journal V P e none
+    steps-so = no-step-keeps agent journal e none
 
     pub other-run : same_run (run_at runs (length journal)) None ≡ false → JudgedIs agent journal runs e (Broken why.Run)
     other-run h = λ lines. breaks-run agent journal e lines runs early steps-so (no-run false h)

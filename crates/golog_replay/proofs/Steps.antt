@@ -1,6 +1,6 @@
 -- Whether an entry is the first certain step, by what the program does next.
-use Rattle.std.proofs.Common.{◌≡◌, ℕ, ◌≤◌, ◌<◌, Bool, true, false, not, ◌&&◌, if◌then◌else◌, List, [], ◌∷◌, ◌++◌, Option, Some, None, ◌⊎◌, inl, inr, refl, sym, ap, ◌∙◌, arith}
-use Rattle.std.specs.Prelude.{nat_le, nat_lt, unwrap_or}
+use Rattle.std.proofs.Common.{◌≡◌, ℕ, ◌≤◌, ◌<◌, Bool, true, false, not, ◌&&◌, if◌then◌else◌, List, [], ◌∷◌, ◌++◌, Some, None, ◌⊎◌, inl, inr, refl, sym, ap, ◌∙◌}
+use Rattle.std.specs.Prelude.{nat_le, nat_lt}
 use Rattle.std.specs.Option.{option_map_or}
 use Rattle.std.proofs.lemmas.Bool.{and_parts, cases_lt, lt-ltb, le-leb, le-ltb, lt-leb}
 use Rattle.golog_tree.specs.declared.agent.Agent.{Agent}
@@ -15,17 +15,17 @@ use Rattle.golog_semantics.specs.declared.journal.Entry.TheVariants.{Do, Test, E
 use Rattle.golog_semantics.specs.Blocks.{moves}
 use Rattle.golog_semantics.specs.Journal.{Journal, count, is_full, is_settled, limit}
 use Rattle.golog_semantics.specs.Progress.{left_after, left_at, left_by, values_after}
-use Rattle.golog_semantics.specs.Same.{same_label, same_run}
+use Rattle.golog_semantics.specs.Same.{same_label}
 use Rattle.golog_semantics.specs.Search.{final, nest_limit}
-use Rattle.golog_semantics.specs.Online.{run_begun, is_first, keeps_answer, keeps_close, keeps_run, keeps_step, label_of, may_step, run_of}
+use Rattle.golog_semantics.specs.Online.{run_begun, is_first, keeps_answer, keeps_close, keeps_step, label_of, may_step, run_of}
 use Rattle.golog_semantics.specs.ProgFits.{fits}
 use Rattle.golog_semantics.specs.WellFormed.{WellFormed}
 use Rattle.golog_semantics.proofs.LeftFits.{left_after-fits}
 use Rattle.golog_semantics.proofs.Pushed.{left_after-push}
 use Rattle.golog_search.specs.declared.decision.Blocked.{Blocked}
 use Rattle.golog_search.specs.declared.decision.Decision.{Decision}
-use Rattle.golog_search.specs.declared.decision.Decision.TheVariants.{Final, Step, Blocked as Blocking, Fuel, Deep}
-use Rattle.golog_search.specs.Decided.{decision, stepping, blocked, along}
+use Rattle.golog_search.specs.declared.decision.Decision.TheVariants.{Final, Step, Deep}
+use Rattle.golog_search.specs.Decided.{decision, along}
 use Rattle.golog_replay.specs.Courses.{IsStep}
 
 pub and-false : (b : Bool) → (b && false) ≡ false
@@ -33,9 +33,12 @@ and-false true = refl
 and-false false = refl
 
 -- nothing to go on with where a result is awaited or the journal is full
-module _ (agent : Agent) (journal : Journal) (values : List ℕ) (p : Prog) where
-  abbrev V : List ℕ
-  V = values
+module _ (agent : Agent) (journal : Journal) where
+  abbrev values : List ℕ
+  values = values_after agent journal
+
+  abbrev p : Prog
+  p = left_after agent journal
 
   abbrev fits-in : Bool → Bool → Bool → List Move → Label → Bool
   fits-in settled ends room steps label = settled && not ends && room && is_first agent journal label steps
@@ -123,7 +126,7 @@ module _ (agent : Agent) (journal : Journal) (values : List ℕ) (p : Prog) wher
         ∙ ap (λ b. is_settled agent journal && not (final agent values Must p) && nat_lt (count journal) limit && b) (by-label false h)
         ∙ and-false (is_settled agent journal && not (final agent values Must p) && nat_lt (count journal) limit)
 
-    pub steps-so : same_label label step.label ≡ true → is_settled agent journal ≡ true → is_full journal ≡ false → IsStep agent journal values p e step
+    pub steps-so : same_label label step.label ≡ true → is_settled agent journal ≡ true → is_full journal ≡ false → IsStep agent journal e step
     steps-so h settled full = record {
       label = label;
       is_step = is;
@@ -137,27 +140,20 @@ module _ (agent : Agent) (journal : Journal) (values : List ℕ) (p : Prog) wher
       first = its.first;
     }
 
--- what is so of a step, and of what is none
-module _ (agent : Agent) (journal : Journal) (values : List ℕ) (p : Prog) where
-  pub answer-other : (e : Entry) (label : Label) → label_of e ≡ Some label → keeps_answer agent journal values p e ≡ true
-  answer-other (Do action) label h = refl
-  answer-other Test label h = refl
-  answer-other (Exo poster action) label h = absurd (cc)
-  answer-other (Sense poster place fluent value) label h = absurd (cc)
-  answer-other (Rest poster taken) label h = absurd (cc)
-  answer-other (Close poster reason taken) label h = absurd (cc)
-  answer-other (End answer) label h = absurd (cc)
+  -- what is so of a step, and of what is none
 
-  pub close-other : (e : Entry) (label : Label) → label_of e ≡ Some label → keeps_close agent journal e ≡ true
-  close-other (Do action) label h = refl
-  close-other Test label h = refl
-  close-other (Exo poster action) label h = absurd (cc)
-  close-other (Sense poster place fluent value) label h = absurd (cc)
-  close-other (Rest poster taken) label h = absurd (cc)
-  close-other (Close poster reason taken) label h = absurd (cc)
-  close-other (End answer) label h = absurd (cc)
+  pub at-step : (e : Entry) (label : Label) → label_of e ≡ Some label
+      → (keeps_answer agent journal values p e ≡ true) × (keeps_close agent journal e ≡ true)
+      × (left_at agent values p e ≡ left_by agent p (moves agent values Must p))
+  at-step (Do action) label h = (refl, refl, refl)
+  at-step Test label h = (refl, refl, refl)
+  at-step (Exo poster action) label h = absurd (cc)
+  at-step (Sense poster place fluent value) label h = absurd (cc)
+  at-step (Rest poster taken) label h = absurd (cc)
+  at-step (Close poster reason taken) label h = absurd (cc)
+  at-step (End answer) label h = absurd (cc)
 
-  pub begins : (e : Entry) (step : Move) → IsStep agent journal values p e step → run_begun agent journal values p e ≡ step.run
+  pub begins : (e : Entry) (step : Move) → IsStep agent journal e step → run_begun agent journal values p e ≡ step.run
   begins e step is =
       ap (λ o. option_map_or (λ label. run_of agent journal (moves agent values Must p)) o None) is.is_step ∙ ap (run_of agent journal) is.first
 
@@ -166,15 +162,6 @@ module _ (agent : Agent) (journal : Journal) (values : List ℕ) (p : Prog) wher
 
   pub no-step-keeps : (e : Entry) → label_of e ≡ None → keeps_step agent journal values p e ≡ true
   no-step-keeps e h = ap (λ o. option_map_or (may_step agent journal values p) o true) h
-
-  left-at-step : (e : Entry) (label : Label) → label_of e ≡ Some label → left_at agent values p e ≡ left_by agent p (moves agent values Must p)
-  left-at-step (Do action) label h = refl
-  left-at-step Test label h = refl
-  left-at-step (Exo poster action) label h = absurd (cc)
-  left-at-step (Sense poster place fluent value) label h = absurd (cc)
-  left-at-step (Rest poster taken) label h = absurd (cc)
-  left-at-step (Close poster reason taken) label h = absurd (cc)
-  left-at-step (End answer) label h = absurd (cc)
 
   left-at-other : (e : Entry) → label_of e ≡ None → left_at agent values p e ≡ p
   left-at-other (Do action) h = absurd (cc)
@@ -185,23 +172,18 @@ module _ (agent : Agent) (journal : Journal) (values : List ℕ) (p : Prog) wher
   left-at-other (Close poster reason taken) h = refl
   left-at-other (End answer) h = refl
 
-module _ (agent : Agent) (journal : Journal) (e : Entry) where
-  pub step-leaves : (step : Move) → IsStep agent journal (values_after agent journal) (left_after agent journal) e step → left_after agent (journal ++ e ∷ []) ≡ step.left
-  step-leaves step is =
-      left_after-push agent journal e
-      ∙ left-at-step agent journal (values_after agent journal) (left_after agent journal) e is.label is.is_step
-      ∙ ap (left_by agent (left_after agent journal)) is.first
+  pub step-leaves : (e : Entry) (step : Move) → IsStep agent journal e step → left_after agent (journal ++ e ∷ []) ≡ step.left
+  step-leaves e step is =
+      left_after-push agent journal e ∙ (at-step e is.label is.is_step).2 ∙ ap (left_by agent p) is.first
 
-  pub other-leaves : label_of e ≡ None → left_after agent (journal ++ e ∷ []) ≡ left_after agent journal
-  other-leaves h =
-      left_after-push agent journal e ∙ left-at-other agent journal (values_after agent journal) (left_after agent journal) e h
+  pub other-leaves : (e : Entry) → label_of e ≡ None → left_after agent (journal ++ e ∷ []) ≡ p
+  other-leaves e h = left_after-push agent journal e ∙ left-at-other e h
 
--- an action is done only where no result is to come
-pub step-settled : (agent : Agent) (journal : Journal) (values : List ℕ) (p : Prog) (e : Entry) → keeps_step agent journal values p e ≡ true
-    → (action : ℕ) → e ≡ Do action → is_settled agent journal ≡ true
-step-settled agent journal values p e keeps action is =
-    let h : may_step agent journal values p (Doing action) ≡ true = ap (keeps_step agent journal values p) (sym is) ∙ keeps in
-    (and_parts (is_settled agent journal) _ (and_parts _ _ (and_parts _ _ h).0).0).0
+  -- an action is done only where no result is to come
+  pub step-settled : (e : Entry) → keeps_step agent journal values p e ≡ true → (action : ℕ) → e ≡ Do action → is_settled agent journal ≡ true
+  step-settled e keeps action is =
+      let h : may_step agent journal values p (Doing action) ≡ true = ap (keeps_step agent journal values p) (sym is) ∙ keeps in
+      (and_parts (is_settled agent journal) _ (and_parts _ _ (and_parts _ _ h).0).0).0
 
 -- the program left fits
 pub left-fits : (agent : Agent) (journal : Journal) (p : Prog) → WellFormed agent → p ≡ left_after agent journal → fits agent p ≡ true

@@ -1,7 +1,6 @@
 -- The course of a journal that is gone along, and what is found of its next entry.
-use Rattle.std.specs.Prelude.{◌≡◌, Bool, true, false, IsTrue, Option, Some, None, List, [], ◌∷◌, ◌++◌, length, unwrap_or, slice_get, drop}
+use Rattle.std.specs.Prelude.{◌≡◌, true, false, Option, Some, None, List, [], ◌∷◌, ◌++◌, length, unwrap_or, slice_get, drop}
 use Rattle.golog_tree.specs.declared.agent.Agent.{Agent}
-use Rattle.golog_tree.specs.declared.prog.Prog.{Prog}
 use Rattle.golog_tree.specs.declared.prog.Label.{Label}
 use Rattle.golog_semantics.specs.declared.Mode.TheVariants.{Must}
 use Rattle.golog_semantics.specs.declared.search.Move.{Move}
@@ -13,7 +12,6 @@ use Rattle.golog_semantics.specs.Journal.{Journal}
 use Rattle.golog_semantics.specs.Progress.{left_after, values_after}
 use Rattle.golog_semantics.specs.SortLaws.{AreInSorts}
 use Rattle.golog_semantics.specs.Text.{Text}
-use Rattle.golog_semantics.specs.Truth.{Values}
 use Rattle.golog_semantics.specs.WellFormed.{WellFormed}
 use Rattle.golog_semantics.specs.Online.{Keeps, fault_at, keeps_after, keeps_place, keeps_poster, keeps_step, keeps_taken, label_of}
 use Rattle.golog_replay.specs.declared.course.Course.{Course}
@@ -33,18 +31,18 @@ module _ (agent : Agent) (journal : Journal) where
     pub left_so : c.left ≡ left_after agent journal
 
   -- the step that an entry is, if it keeps the rule of steps
-  pub record IsStep (values : Values) (p : Prog) (e : Entry) (step : Move) : Type 0 where
+  pub record IsStep (e : Entry) (step : Move) : Type 0 where
     pub label : Label
     pub is_step : label_of e ≡ Some label
-    pub kept : keeps_step agent journal values p e ≡ true
+    pub kept : keeps_step agent journal (values_after agent journal) (left_after agent journal) e ≡ true
     pub later : List Move
-    pub first : moves agent values Must p ≡ step ∷ later
+    pub first : moves agent (values_after agent journal) Must (left_after agent journal) ≡ step ∷ later
 
   -- whether an entry is a step, and which
-  abbrev pub SteppingIs : Values → Prog → Entry → Stepping → Type 0
-  SteppingIs values p e NoStep = label_of e ≡ None
-  SteppingIs values p e Breaks = keeps_step agent journal values p e ≡ false
-  SteppingIs values p e (Steps step) = IsStep values p e step
+  abbrev pub SteppingIs : Entry → Stepping → Type 0
+  SteppingIs e NoStep = label_of e ≡ None
+  SteppingIs e Breaks = keeps_step agent journal (values_after agent journal) (left_after agent journal) e ≡ false
+  SteppingIs e (Steps step) = IsStep e step
 
   -- the entry keeps the rules of what devices post
   pub record KeepsEarly (e : Entry) : Type 0 where

@@ -4,12 +4,12 @@ ghost use Rattle.std.specs.Prelude.{◌≡◌, ◌<◌, [], ◌∷◌, ◌++◌,
 ghost use Rattle.std.specs.Option.{option_copied};
 ghost use Rattle.std.specs.Cmp.Lexicographic.{pointwise};
 ghost use Rattle.golog_search.specs.Decided.{decision};
-ghost use Rattle.golog_search.specs.Laws.{answer_of as answer_by, blocked_answer};
+ghost use Rattle.golog_search.specs.Laws.{answer_of as answer_by};
 ghost use Rattle.golog_semantics.specs.Answer.{answer_at};
 ghost use Rattle.golog_semantics.specs.Journal.{is_full, is_settled};
 ghost use Rattle.golog_semantics.specs.Online.{keeps_answer as keeps_answer_in, keeps_place, keeps_step, label_of as label_in, may_end as may_end_in, same_answer};
 ghost use Rattle.golog_semantics.specs.Progress.{left_after, values_after};
-ghost use Rattle.golog_semantics.specs.Reports.{fits_entry};
+ghost use Rattle.golog_semantics.specs.Reports.{entry_limit, fits_entry};
 ghost use Rattle.golog_semantics.specs.Same.{same_label, same_run};
 ghost use Rattle.golog_semantics.specs.Text.{run_at};
 ghost use Rattle.golog_semantics.specs.WellFormed.{WellFormed};
@@ -17,10 +17,12 @@ ghost use Rattle.golog_text.specs.Named.{AreFrom, IsNamed};
 ghost use Rattle.golog_replay.specs.Courses.{BreaksFirst, Follows, IsStep, JudgedIs, KeepsEarly, SteppingIs};
 
 use crate::judged::{Judged, Stepping};
+use crate::placed::PlacedEntry;
 use crate::standing::Standing;
 use golog_base::{List, NoMemory};
+use golog_memo::is_same_label;
 use golog_progress::{State, start};
-use golog_search::{Blocked, Decision, decide_unbounded, heavy};
+use golog_search::{Decision, decide_unbounded, heavy};
 use golog_semantics::{Answer, Entry, Move, PlacedRun, Why};
 use golog_text::run_here;
 use golog_tree::{Agent, Label, Prog, copy_prog};
@@ -47,22 +49,6 @@ fn label_of(entry: Entry) -> Option<Label>
         | Entry::Rest { .. }
         | Entry::Close { .. }
         | Entry::End { .. } => None,
-    }
-}
-
-/// Whether two labels are the same.
-fn is_same_label(one: Label, other: Label) -> bool
-    ensures { result ≡ same_label one other }
-{
-    match one {
-        Label::Quiet => match other {
-            Label::Quiet => true,
-            Label::Do(_) => false,
-        },
-        Label::Do(action) => match other {
-            Label::Quiet => false,
-            Label::Do(other) => action == other,
-        },
     }
 }
 
@@ -107,17 +93,6 @@ fn keeps_run(runs: &[PlacedRun], place: usize, begun: &Option<List<Label>>) -> b
     is_same_run(run_here(runs, place), begun)
 }
 
-/// The answer of a program that is blocked.
-fn blocked_answer(blocked: Blocked) -> Answer
-    ensures { result ≡ blocked_answer blocked }
-{
-    match blocked {
-        Blocked::Unknown => Answer::Unknown,
-        Blocked::Depth => Answer::Depth,
-        Blocked::Stuck => Answer::Stuck,
-    }
-}
-
 /// The answer of a program that does this next, where no result is to come.
 fn answer_of(quiet: bool, decision: &Decision) -> Option<Answer>
     ensures { result ≡ answer_by quiet decision.now }
@@ -127,7 +102,7 @@ fn answer_of(quiet: bool, decision: &Decision) -> Option<Answer>
         Decision::Step(_) => None,
         Decision::Blocked(blocked) => {
             if quiet {
-                Some(blocked_answer(*blocked))
+                Some((*blocked).answer())
             } else {
                 None
             }
@@ -153,7 +128,7 @@ fn steps_by(agent: &Agent, before: &[Entry], entry: Entry, label: Label, step: M
     requires room { is_full before.now ≡ false }
     requires settled { is_settled agent.now before.now ≡ true }
     requires decided { Decision.Step step ≡ decision agent.now (values_after agent.now before.now) (left_after agent.now before.now) }
-    ensures { SteppingIs agent.now before.now (values_after agent.now before.now) (left_after agent.now before.now) entry result }
+    ensures { SteppingIs agent.now before.now entry result }
 {
     if is_same_label(label, step.label) {
         return Stepping::Steps(step);
@@ -163,19 +138,13 @@ fn steps_by(agent: &Agent, before: &[Entry], entry: Entry, label: Label, step: M
 }
 
 /// A step that the program may take keeps the rules where its run is printed.
-fn judge_run(
-    agent: &Agent,
-    before: &[Entry],
-    runs: &[PlacedRun],
-    entry: Entry,
-    step: Move,
-) -> Judged
-    requires early { KeepsEarly agent.now before.now entry }
-    requires step { IsStep agent.now before.now (values_after agent.now before.now) (left_after agent.now before.now) entry step }
-    requires in_order { AreFrom (length before.now) runs.now }
-    ensures { JudgedIs agent.now before.now runs.now entry result }
+fn judge_run(agent: &Agent, here: &PlacedEntry<'_>, step: Move) -> Judged
+    requires early { KeepsEarly agent.now here.now.before.now here.now.next }
+    requires step { IsStep agent.now here.now.before.now here.now.next step }
+    requires in_order { AreFrom (length here.now.before.now) here.now.runs.now }
+    ensures { JudgedIs agent.now here.now.before.now here.now.runs.now here.now.next result }
 {
-    let kept = keeps_run(runs, before.len(), &step.run);
+    let kept = keeps_run(here.runs, here.before.len(), &step.run);
     let Move { left, run, .. } = step;
     drop(run);
     if kept {
@@ -229,7 +198,7 @@ impl Course {
     ) -> Result<Stepping, NoMemory>
         requires follows { Follows agent.now before.now self.now }
         requires label { label_in entry ≡ Some label }
-        ensures { IfOk result (SteppingIs agent.now before.now (values_after agent.now before.now) (left_after agent.now before.now) entry) }
+        ensures { IfOk result (SteppingIs agent.now before.now entry) }
     {
         if self.standing.is_full(agent, before) {
             return Ok(Stepping::Breaks);
@@ -253,7 +222,7 @@ impl Course {
         entry: Entry,
     ) -> Result<Stepping, NoMemory>
         requires { Follows agent.now before.now self.now }
-        ensures { IfOk result (SteppingIs agent.now before.now (values_after agent.now before.now) (left_after agent.now before.now) entry) }
+        ensures { IfOk result (SteppingIs agent.now before.now entry) }
     {
         match label_of(entry) {
             Some(label) => self.step_of(alloc, agent, before, entry, label),
@@ -377,25 +346,23 @@ impl Course {
         &self,
         alloc: Global,
         agent: &Agent,
-        before: &[Entry],
-        runs: &[PlacedRun],
-        entry: Entry,
+        here: &PlacedEntry<'_>,
     ) -> Result<Judged, NoMemory>
-        requires follows { Follows agent.now before.now self.now }
-        requires fits { IsTrue (fits_entry agent.now before.now entry) }
-        requires early { KeepsEarly agent.now before.now entry }
-        requires no_step { label_in entry ≡ None }
-        requires in_order { AreFrom (length before.now) runs.now }
-        ensures { IfOk result (JudgedIs agent.now before.now runs.now entry) }
+        requires follows { Follows agent.now here.now.before.now self.now }
+        requires fits { IsTrue (fits_entry agent.now here.now.before.now here.now.next) }
+        requires early { KeepsEarly agent.now here.now.before.now here.now.next }
+        requires no_step { label_in here.now.next ≡ None }
+        requires in_order { AreFrom (length here.now.before.now) here.now.runs.now }
+        ensures { IfOk result (JudgedIs agent.now here.now.before.now here.now.runs.now here.now.next) }
     {
-        if !keeps_run(runs, before.len(), &None) {
+        if !keeps_run(here.runs, here.before.len(), &None) {
             return Ok(Judged::Broken(Why::Run));
         }
-        let answers = self.keeps_answer(alloc, agent, before, entry)?;
+        let answers = self.keeps_answer(alloc, agent, here.before, here.next)?;
         if !answers {
             return Ok(Judged::Broken(Why::Answer));
         }
-        if !self.standing.keeps_close(agent, before, entry) {
+        if !self.standing.keeps_close(agent, here.before, here.next) {
             return Ok(Judged::Broken(Why::Close));
         }
         Ok(Judged::Kept(None))
@@ -406,42 +373,37 @@ impl Course {
         &self,
         alloc: Global,
         agent: &Agent,
-        before: &[Entry],
-        runs: &[PlacedRun],
-        entry: Entry,
+        here: &PlacedEntry<'_>,
     ) -> Result<Judged, NoMemory>
-        requires follows { Follows agent.now before.now self.now }
-        requires fits { IsTrue (fits_entry agent.now before.now entry) }
-        requires early { KeepsEarly agent.now before.now entry }
-        requires in_order { AreFrom (length before.now) runs.now }
-        ensures { IfOk result (JudgedIs agent.now before.now runs.now entry) }
+        requires follows { Follows agent.now here.now.before.now self.now }
+        requires fits { IsTrue (fits_entry agent.now here.now.before.now here.now.next) }
+        requires early { KeepsEarly agent.now here.now.before.now here.now.next }
+        requires in_order { AreFrom (length here.now.before.now) here.now.runs.now }
+        ensures { IfOk result (JudgedIs agent.now here.now.before.now here.now.runs.now here.now.next) }
     {
-        let stepping = self.stepping(alloc, agent, before, entry)?;
+        let stepping = self.stepping(alloc, agent, here.before, here.next)?;
         match stepping {
             Stepping::Breaks => Ok(Judged::Broken(Why::Step)),
-            Stepping::NoStep => self.judge_other(alloc, agent, before, runs, entry),
-            Stepping::Steps(step) => Ok(judge_run(agent, before, runs, entry, step)),
+            Stepping::NoStep => self.judge_other(alloc, agent, here),
+            Stepping::Steps(step) => Ok(judge_run(agent, here, step)),
         }
     }
 
-    /// What is found of the next entry, by all rules but that of its text. The runs are those from its place
-    /// on.
+    /// What is found of the next entry, by all rules but that of its text.
     pub(crate) fn judge(
         &self,
         alloc: Global,
         agent: &Agent,
-        before: &[Entry],
-        runs: &[PlacedRun],
-        entry: Entry,
+        here: &PlacedEntry<'_>,
     ) -> Result<Judged, NoMemory>
-        requires follows { Follows agent.now before.now self.now }
-        requires fits { IsTrue (fits_entry agent.now before.now entry) }
-        requires in_order { AreFrom (length before.now) runs.now }
-        ensures { IfOk result (JudgedIs agent.now before.now runs.now entry) }
+        requires follows { Follows agent.now here.now.before.now self.now }
+        requires fits { IsTrue (fits_entry agent.now here.now.before.now here.now.next) }
+        requires in_order { AreFrom (length here.now.before.now) here.now.runs.now }
+        ensures { IfOk result (JudgedIs agent.now here.now.before.now here.now.runs.now here.now.next) }
     {
-        match self.breaks_early(agent, before, entry) {
+        match self.breaks_early(agent, here.before, here.next) {
             Some(why) => Ok(Judged::Broken(why)),
-            None => self.judge_late(alloc, agent, before, runs, entry),
+            None => self.judge_late(alloc, agent, here),
         }
     }
 
@@ -458,7 +420,7 @@ impl Course {
         requires place { IsTrue (keeps_place agent.now before.now entry) }
         requires step { IsTrue (keeps_step agent.now before.now (values_after agent.now before.now) (left_after agent.now before.now) entry) }
         requires named { IsNamed agent.now entry }
-        requires short { length before.now < 1048576 }
+        requires short { length before.now < entry_limit }
         requires left { left_after agent.now (before.now ++ entry ∷ []) ≡ unwrap_or left (left_after agent.now before.now) }
         ensures { Follows agent.now (before.now ++ entry ∷ []) self.new }
     {

@@ -5,6 +5,7 @@ mod course;
 mod judged;
 mod laws;
 mod lines;
+mod placed;
 mod replaying;
 mod standing;
 mod tracked;

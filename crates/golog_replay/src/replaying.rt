@@ -3,7 +3,7 @@ ghost use Rattle.golog_semantics.specs.declared.journal.PlacedRun.{PlacedRun as 
 ghost use Rattle.golog_semantics.specs.OneMore.{with_runs};
 ghost use Rattle.golog_semantics.specs.Online.{first_fault, same_line};
 ghost use Rattle.golog_semantics.specs.Progress.{values_after};
-ghost use Rattle.golog_semantics.specs.Reports.{IsReport, fits_entry};
+ghost use Rattle.golog_semantics.specs.Reports.{IsReport, entry_limit, fits_entry};
 ghost use Rattle.golog_semantics.specs.Same.{same_values};
 ghost use Rattle.golog_semantics.specs.SortLaws.{AreInSorts};
 ghost use Rattle.golog_semantics.specs.Text.{Text, line_text};
@@ -15,36 +15,35 @@ ghost use Rattle.golog_replay.specs.Verdicts.{VerdictIs, lines_in};
 use crate::course::Course;
 use crate::judged::Judged;
 use crate::lines::Lines;
+use crate::placed::PlacedEntry;
 use crate::verdict::Verdict;
 use golog_base::NoMemory;
 use golog_progress::State;
-use golog_semantics::{Entry, PlacedRun, Report, Why};
+use golog_semantics::{Entry, Report, Why};
 use golog_text::{Line, run_here, runs_behind};
 use golog_tree::{Agent, Prog};
 use std::alloc::Global;
 
-/// Whether the line is the text of an entry, which is written for that in place of what was there. The runs are
-/// those from its place on.
+/// Whether the line is the text of an entry, which is written for that in place of what was there.
 fn is_text(
     line: &[u8],
     text: &mut Line,
     agent: &Agent,
     state: &State,
-    runs: &[PlacedRun],
-    before: &[Entry],
-    entry: Entry,
+    here: &PlacedEntry<'_>,
 ) -> Result<bool, NoMemory>
     requires formed { WellFormed agent.now }
-    requires values { state.now ≡ values_after agent.now before.now }
+    requires values { state.now ≡ values_after agent.now here.now.before.now }
     requires sorts { AreInSorts agent.now state.now }
-    requires in_order { AreFrom (length before.now) runs.now }
-    requires runs { AreNamed agent.now runs.now }
-    requires entry { IsNamed agent.now entry }
-    requires short { length before.now < 1048576 }
-    ensures { IfOk result (λ b. b ≡ same_values line.now (line_text agent.now runs.now before.now entry)) }
+    requires in_order { AreFrom (length here.now.before.now) here.now.runs.now }
+    requires runs { AreNamed agent.now here.now.runs.now }
+    requires entry { IsNamed agent.now here.now.next }
+    requires short { length here.now.before.now < entry_limit }
+    ensures { IfOk result (λ b. b ≡ same_values line.now
+        (line_text agent.now here.now.runs.now here.now.before.now here.now.next)) }
 {
-    let run = run_here(runs, before.len());
-    let filled = text.try_fill(agent, before.len() as u32, entry, state, run)?;
+    let run = run_here(here.runs, here.before.len());
+    let filled = text.try_fill(agent, here.before.len() as u32, here.next, state, run)?;
     match filled.split_last() {
         Some((_, own)) => Ok(line == own),
         None => Ok(false),
@@ -57,22 +56,21 @@ fn is_spelled(
     text: &mut Line,
     agent: &Agent,
     state: &State,
-    runs: &[PlacedRun],
-    before: &[Entry],
-    entry: Entry,
+    here: &PlacedEntry<'_>,
 ) -> Result<bool, NoMemory>
     requires formed { WellFormed agent.now }
-    requires values { state.now ≡ values_after agent.now before.now }
+    requires values { state.now ≡ values_after agent.now here.now.before.now }
     requires sorts { AreInSorts agent.now state.now }
-    requires in_order { AreFrom (length before.now) runs.now }
-    requires runs { AreNamed agent.now runs.now }
-    requires entry { IsNamed agent.now entry }
-    requires short { length before.now < 1048576 }
+    requires in_order { AreFrom (length here.now.before.now) here.now.runs.now }
+    requires runs { AreNamed agent.now here.now.runs.now }
+    requires entry { IsNamed agent.now here.now.next }
+    requires short { length here.now.before.now < entry_limit }
     ensures lines { IfOk result (λ _. lines.new ≡ drop 1 lines.old) }
-    ensures same { IfOk result (λ b. b ≡ same_line (slice_get lines.old 0) (line_text agent.now runs.now before.now entry)) }
+    ensures same { IfOk result (λ b. b ≡ same_line (slice_get lines.old 0)
+        (line_text agent.now here.now.runs.now here.now.before.now here.now.next)) }
 {
     match lines.next() {
-        Some(line) => is_text(line, text, agent, state, runs, before, entry),
+        Some(line) => is_text(line, text, agent, state, here),
         None => Ok(false),
     }
 }
@@ -84,23 +82,22 @@ fn take_kept(
     lines: &mut Lines<'_>,
     text: &mut Line,
     agent: &Agent,
-    runs: &[PlacedRun],
-    before: &[Entry],
-    entry: Entry,
+    here: &PlacedEntry<'_>,
     left: Option<Prog>,
 ) -> Result<Option<Why>, NoMemory>
-    requires follows { Follows agent.now before.now course.old }
-    requires fits { IsTrue (fits_entry agent.now before.now entry) }
-    requires in_order { AreFrom (length before.now) runs.now }
-    requires runs { AreNamed agent.now runs.now }
-    requires entry { IsNamed agent.now entry }
-    requires short { length before.now < 1048576 }
-    requires kept { JudgedIs agent.now before.now runs.now entry (Judged.Kept left) }
-    ensures { IfOk result (TakenIs agent.now before.now runs.now lines.old entry lines.new course.new) }
+    requires follows { Follows agent.now here.now.before.now course.old }
+    requires fits { IsTrue (fits_entry agent.now here.now.before.now here.now.next) }
+    requires in_order { AreFrom (length here.now.before.now) here.now.runs.now }
+    requires runs { AreNamed agent.now here.now.runs.now }
+    requires entry { IsNamed agent.now here.now.next }
+    requires short { length here.now.before.now < entry_limit }
+    requires kept { JudgedIs agent.now here.now.before.now here.now.runs.now here.now.next (Judged.Kept left) }
+    ensures { IfOk result (TakenIs agent.now here.now.before.now here.now.runs.now lines.old here.now.next
+        lines.new course.new) }
 {
-    match is_spelled(lines, text, agent, &course.state, runs, before, entry) {
+    match is_spelled(lines, text, agent, &course.state, here) {
         Ok(true) => {
-            course.advance(agent, before, entry, left);
+            course.advance(agent, here.before, here.next, left);
             Ok(None)
         }
         Ok(false) => {
@@ -114,37 +111,36 @@ fn take_kept(
     }
 }
 
-/// Judges the next entry and takes it, if it keeps the rules; else the first that it breaks. The runs are
-/// those from its place on, and the lines those to come.
+/// Judges the next entry and takes it, if it keeps the rules; else the first that it breaks. The lines are those to
+/// come.
 fn take(
     course: &mut Course,
     lines: &mut Lines<'_>,
     text: &mut Line,
     alloc: Global,
     agent: &Agent,
-    runs: &[PlacedRun],
-    before: &[Entry],
-    entry: Entry,
+    here: &PlacedEntry<'_>,
 ) -> Result<Option<Why>, NoMemory>
-    requires follows { Follows agent.now before.now course.old }
-    requires fits { IsTrue (fits_entry agent.now before.now entry) }
-    requires in_order { AreFrom (length before.now) runs.now }
-    requires runs { AreNamed agent.now runs.now }
-    requires entry { IsNamed agent.now entry }
-    requires short { length before.now < 1048576 }
-    ensures { IfOk result (TakenIs agent.now before.now runs.now lines.old entry lines.new course.new) }
+    requires follows { Follows agent.now here.now.before.now course.old }
+    requires fits { IsTrue (fits_entry agent.now here.now.before.now here.now.next) }
+    requires in_order { AreFrom (length here.now.before.now) here.now.runs.now }
+    requires runs { AreNamed agent.now here.now.runs.now }
+    requires entry { IsNamed agent.now here.now.next }
+    requires short { length here.now.before.now < entry_limit }
+    ensures { IfOk result (TakenIs agent.now here.now.before.now here.now.runs.now lines.old here.now.next
+        lines.new course.new) }
 {
-    let judged = course.judge(alloc, agent, before, runs, entry)?;
+    let judged = course.judge(alloc, agent, here)?;
     match judged {
         Judged::Broken(why) => Ok(Some(why)),
-        Judged::Kept(left) => take_kept(course, lines, text, agent, runs, before, entry, left),
+        Judged::Kept(left) => take_kept(course, lines, text, agent, here, left),
     }
 }
 
 /// What is found of a report in which no entry breaks a rule.
 fn last_verdict(course: &Course, agent: &Agent, entries: &[Entry]) -> Verdict
     requires follows { Follows agent.now entries.now course.now }
-    requires short { length entries.now ≤ 1048576 }
+    requires short { length entries.now ≤ entry_limit }
     ensures { (bytes : Text) (runs : List AnyRun) → first_fault agent.now (Some (lines_in bytes)) (with_runs runs entries.now) ≡ None
         → VerdictIs agent.now bytes (with_runs runs entries.now) result }
 {
@@ -172,12 +168,18 @@ fn go_along(
     requires report { IsReport agent.now report.now }
     ensures { IfOk result (VerdictIs agent.now bytes.now report.now) }
 {
+    // The contract alone speaks of the bytes.
     let _bytes = bytes;
     let entries = report.entries.as_slice();
     let mut runs = report.runs.as_slice();
     for (place, entry) in entries.iter().enumerate() {
         let before = &entries[..place];
-        let broken = take(course, lines, text, alloc, agent, runs, before, *entry)?;
+        let here = PlacedEntry {
+            before,
+            next: *entry,
+            runs,
+        };
+        let broken = take(course, lines, text, alloc, agent, &here)?;
         if let Some(why) = broken {
             return Ok(Verdict::Not {
                 place: place as u32,

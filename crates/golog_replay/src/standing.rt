@@ -7,7 +7,7 @@ ghost use Rattle.golog_semantics.specs.Journal.{Journal, commands, has_end, is_f
 ghost use Rattle.golog_semantics.specs.Ways.{is_empty};
 ghost use Rattle.golog_semantics.specs.Answer.{is_unanswered as is_unanswered_in};
 ghost use Rattle.golog_semantics.specs.Online.{is_declared, is_whole as is_whole_in, keeps_after as keeps_after_in, keeps_close as keeps_close_in, keeps_place as keeps_place_in, keeps_poster as keeps_poster_in, keeps_taken as keeps_taken_in, may_close as may_close_in, may_have_taken as may_have_taken_in};
-ghost use Rattle.golog_semantics.specs.Reports.{fits_entry};
+ghost use Rattle.golog_semantics.specs.Reports.{entry_limit, fits_entry};
 ghost use Rattle.golog_semantics.specs.WellFormed.{WellFormed};
 ghost use Rattle.golog_journal.specs.Agents.{ServesDevices};
 ghost use Rattle.golog_replay.specs.Standings.{AreEarlier, AreTracked, AwaitsFrom, EndsBy, IsStanding, IsTracked, TellsOf, tells, untouched};
@@ -338,7 +338,7 @@ impl Standing {
         requires standing { IsStanding agent.now before.now self.now }
         requires place { IsTrue (keeps_place_in agent.now before.now entry) }
         requires settled { (action : ℕ) → entry ≡ Do action → IsTrue (is_settled_in agent.now before.now) }
-        requires short { length before.now < 1048576 }
+        requires short { length before.now < entry_limit }
         ensures { AwaitsFrom agent.now (before.now ++ entry ∷ []) result }
     {
         match entry {
@@ -362,7 +362,7 @@ impl Standing {
         requires fits { IsTrue (fits_entry agent.now before.now entry) }
         requires place { IsTrue (keeps_place_in agent.now before.now entry) }
         requires settled { (action : ℕ) → entry ≡ Do action → IsTrue (is_settled_in agent.now before.now) }
-        requires short { length before.now < 1048576 }
+        requires short { length before.now < entry_limit }
         ensures { IsStanding agent.now (before.now ++ entry ∷ []) self.new }
     {
         let awaited = self.awaited_after(agent, before, entry);
@@ -388,7 +388,7 @@ fn track_action(devices: &mut [Tracked], facts: &AgentFacts, before: &[Entry], a
     requires tracked { AreTracked facts.now before.now devices.old }
     requires serves { ServesDevices facts.now }
     requires results { AreEarlier before.now }
-    requires short { length before.now < 1048576 }
+    requires short { length before.now < entry_limit }
     ensures { AreTracked facts.now (before.now ++ Do action ∷ []) devices.new }
 {
     let Some(device) = facts.device_of(action) else {
@@ -424,7 +424,7 @@ fn track(devices: &mut [Tracked], facts: &AgentFacts, before: &[Entry], entry: E
     requires told { TellsOf facts.now before.now entry }
     requires fits { IsTrue (fits_entry facts.now before.now entry) }
     requires results { AreEarlier before.now }
-    requires short { length before.now < 1048576 }
+    requires short { length before.now < entry_limit }
     ensures { AreTracked facts.now (before.now ++ entry ∷ []) devices.new }
 {
     if let Entry::Do { action } = entry {

@@ -1,6 +1,7 @@
 ghost use Rattle.std.specs.Prelude.{◌≡◌, ◌<◌, ◌+◌, ◌&&◌, not, false, max, length, slice_index_or, slice_set};
 ghost use Rattle.std.specs.List.{list_all, list_any};
 ghost use Rattle.golog_semantics.specs.Journal.{is_close};
+ghost use Rattle.golog_semantics.specs.Reports.{entry_limit};
 ghost use Rattle.golog_journal.specs.Tallies.{rested_after};
 ghost use Rattle.golog_replay.specs.Standings.{is_quiet_by, told_by, untouched};
 
@@ -90,7 +91,7 @@ impl Tracked {
 
     /// What is kept of it after one more command.
     pub(crate) fn sent(self) -> Tracked
-        requires { self.commands < 1048576 }
+        requires { self.commands < entry_limit }
         ensures opened { result.is_open ≡ self.is_open }
         ensures silent { result.is_silent ≡ self.is_silent }
         ensures commands { result.commands ≡ self.commands + 1 }

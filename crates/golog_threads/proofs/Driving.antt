@@ -1,10 +1,9 @@
 -- Devices that have served, behind more entries, and beside each other.
-use Rattle.std.proofs.Common.{◌≡◌, ◌≢◌, ⊎_elim, ℕ, zero, suc, ◌+◌, ◌≤◌, ◌<◌, ◌==◌, ◌||◌, Bool, true, false, true≢false, List, [], ◌∷◌, ◌++◌, length, length-append, set, get_or, append-nil, append_assoc, refl, sym, ap, ◌∙◌, subst, arith}
+use Rattle.std.proofs.Common.{◌≡◌, ⊎_elim, ℕ, zero, suc, ◌+◌, ◌≤◌, ◌<◌, ◌||◌, Bool, true, false, List, [], ◌∷◌, ◌++◌, length, length-append, set, get_or, append-nil, append_assoc, refl, sym, ap, ◌∙◌, subst, arith}
 use Rattle.std.specs.Prelude.{Some, slice_get, slice_index_or}
 use Rattle.golog_journal.specs.Taken.{IsReady}
-use Rattle.std.proofs.lemmas.Bool.{eq-eqb}
+use Rattle.std.proofs.lemmas.Bool.{eq-eqb, or_right}
 use Rattle.std.proofs.lemmas.Option.{same_Some}
-use Rattle.std.proofs.lemmas.Bool.Decides.{nat_tests}
 use Rattle.golog_tree.specs.declared.agent.Agent.{Agent}
 use Rattle.golog_semantics.specs.declared.journal.Entry.TheVariants.{Close}
 use Rattle.golog_semantics.specs.Journal.{Journal, is_open}
@@ -15,6 +14,7 @@ use Rattle.golog_journal.specs.Growing.{party_of}
 use Rattle.golog_journal.proofs.Staying.{open-same}
 use Rattle.golog_device.specs.Dealing.{DealtIf}
 use Rattle.golog_turn.specs.Parties.{contains, without, parties_below, own, GoesOn, KeepsLonger}
+use Rattle.golog_turn.proofs.Parties.{contains-append, contains_below, contains_first, contains_other}
 use Rattle.golog_threads.specs.Driving.{HoldsFrom, GoesFrom, HasServed, HaveServed, MayDrive, HasDriven}
 use Rattle.golog_threads.proofs.Lists.{foreign, not-device}
 use Rattle.golog_threads.proofs.Refusals.{refused-later}
@@ -22,54 +22,23 @@ use Rattle.golog_threads.proofs.Turning.{goes-nowhere, goes-then}
 
 -- ---- parties in a row
 
-contains-other : (p q : ℕ) (ps : List ℕ) → q ≢ p → contains ps q ≡ true → contains (without p ps) q ≡ true
-contains-other p q [] ne has = absurd (true≢false (sym has))
-contains-other p q (x ∷ xs) ne has = step p q x xs (x == p) refl (x == q) refl ne has (contains-other p q xs ne)
-  where
-    step : (p q x : ℕ) (xs : List ℕ) (b : Bool) → (x == p) ≡ b → (c : Bool) → (x == q) ≡ c → q ≢ p → contains (x ∷ xs) q ≡ true → (contains xs q ≡ true → contains (without p xs) q ≡ true) → contains (without p (x ∷ xs)) q ≡ true
-    step p q x xs true is true at ne has rest = absurd (ne (grind (arith, nat_tests)))
-    step p q x xs true is false at ne has rest = rw is (rest (sym (rw at refl) ∙ has))
-    step p q x xs false is true at ne has rest = rw is (rw at refl)
-    step p q x xs false is false at ne has rest = rw is (rw at (rest (sym (rw at refl) ∙ has)))
-
-pub contains-append : (ps qs : List ℕ) (p : ℕ) → contains ps p ≡ true → contains (ps ++ qs) p ≡ true
-contains-append [] qs p has = absurd (true≢false (sym has))
-contains-append (x ∷ ps) qs p has = go (x == p) refl has (contains-append ps qs p)
-  where
-    go : (b : Bool) → (x == p) ≡ b → (b || contains ps p) ≡ true → (contains ps p ≡ true → contains (ps ++ qs) p ≡ true) → ((x == p) || contains (ps ++ qs) p) ≡ true
-    go true is h rest = ap (λ b. b || contains (ps ++ qs) p) is
-    go false is h rest = ap (λ b. b || contains (ps ++ qs) p) is ∙ rest h
-
 pub contains-behind : (ps qs : List ℕ) (p : ℕ) → contains qs p ≡ true → contains (ps ++ qs) p ≡ true
-contains-behind [] qs p has = has
-contains-behind (x ∷ ps) qs p has = last (x == p) (contains-behind ps qs p has)
-  where
-    last : (b : Bool) → {c : Bool} → c ≡ true → (b || c) ≡ true
-    last true h = refl
-    last false h = h
+contains-behind ps qs p has = contains-append ps qs p ∙ or_right (contains ps p) (contains qs p) has
 
 pub holds-rest : (first rest : ℕ) (ps : List ℕ) → HoldsFrom first (rest + 1) ps → HoldsFrom (first + 1) rest (without first ps)
 holds-rest first rest ps holds i less =
     let further : first + (1 + i) ≡ first + 1 + i = omega arith in
     let has = subst (λ (k : ℕ). contains ps k ≡ true) further (holds (1 + i) (omega arith)) in
-    contains-other first (first + 1 + i) ps (λ e. omega arith) has
+    contains_other first (first + 1 + i) ps (λ e. omega arith) has
 
 pub holds-first : (first rest : ℕ) (ps : List ℕ) → HoldsFrom first (rest + 1) ps → contains ps first ≡ true
 holds-first first rest ps holds = let same : first + 0 ≡ first = omega arith in subst (λ (k : ℕ). contains ps k ≡ true) same (holds 0 (omega arith))
 
-below-step : (n p : ℕ) → p < suc n → (b : Bool) → (n == p) ≡ b → (p < n → contains (parties_below n) p ≡ true) → contains (parties_below (suc n)) p ≡ true
-below-step n p less true is rest = rw is refl
-below-step n p less false is rest = let ne : n ≢ p = λ e. true≢false (sym (eq-eqb n p e) ∙ is) in rw is (rest (omega arith))
-
-contains-below : (n p : ℕ) → p < n → contains (parties_below n) p ≡ true
-contains-below zero p less = absurd (omega arith)
-contains-below (suc n) p less = below-step n p less (n == p) refl (contains-below n p)
-
 -- the parties of the devices, and that of the lead above them
 pub holds-all : (count : ℕ) (ps : List ℕ) → ps ≡ parties_below 17 → count ≤ 16 → HoldsFrom 0 count (without 16 ps)
 holds-all count ps are few i less =
-    let has : contains ps (0 + i) ≡ true = rw are (contains-below 17 (0 + i) (omega arith)) in
-    contains-other 16 (0 + i) ps (λ e. omega arith) has
+    let has : contains ps (0 + i) ≡ true = rw are (contains_below 17 (0 + i) (omega arith)) in
+    contains_other 16 (0 + i) ps (λ e. omega arith) has
 
 pub holds-lead : (ps : List ℕ) → ps ≡ parties_below 17 → contains ps 16 ≡ true
 holds-lead ps are = rw are refl
@@ -237,7 +206,7 @@ module _ {D : Type 0} (agent : Agent) (meaning : D → Meaning) (first : ℕ) wh
       held (suc i) less =
           let long = length-append ds es in
           let next : first + 1 + i ≡ first + suc i = omega arith in
-          contains-append qs ps (first + suc i) (subst (λ (k : ℕ). contains qs k ≡ true) next (b.holds i (omega (arith, one, long, less))))
+          contains_first qs ps (first + suc i) (subst (λ (k : ℕ). contains qs k ≡ true) next (b.holds i (omega (arith, one, long, less))))
 
 -- the same of a whole slice, of which the first and the others began at what one seat had seen
 pub driven-split : {D : Type 0} (agent : Agent) (meaning : D → Meaning) (first : ℕ) (old one two own others kept : Journal) (ps qs all : List ℕ) (whole ds ds' es es' : List D)

@@ -27,7 +27,8 @@ use Rattle.golog_threads.specs.declared.ops.Op.TheVariants.{Post, NextCommand, H
 use Rattle.golog_threads.specs.declared.ops.Reply.{Reply}
 use Rattle.golog_threads.specs.declared.ops.Reply.TheVariants.{OfPost, OfNext, OfMore, OfCopy, OfCommit}
 use Rattle.golog_threads.specs.Sharing.{Allows, Says, Answers}
-use Rattle.golog_threads.proofs.Lists.{foreign, not-device, not-program, no-end-more, end-stands, lawful-prefix, commands-stay}
+use Rattle.golog_device.proofs.Asked.{lawful-prefix}
+use Rattle.golog_threads.proofs.Lists.{foreign, not-device, not-program, no-end-more, end-stands, commands-stay}
 
 -- ---- what may be asked stays so while others add entries
 

@@ -127,6 +127,7 @@ fn split_first<A: Naming, G: Known>(
     ensures others { MayDrive (G.agent agent.now) (first + 1) rest
         (seen seat.new) (parties_of seat.new) hall.now.opens }
 {
+    // The contract alone speaks of these.
     let _count = rest;
     let _opens = &hall.opens;
     let _agent = agent.get();
@@ -216,7 +217,8 @@ fn drive<A: Naming + Send, N: AtLock + Send, G: Known, D: Device + Send, R: Thre
     seat
 }
 
-// The first device beside the others.
+// The first device beside the others. What both threads share is passed part by part: a struct of it would need a
+// proof of its own that threads may share it.
 #[cycle(drives)]
 fn drive_beside<
     A: Naming + Send,

@@ -1,12 +1,9 @@
 //! What the drivers and the lead share beside the lock.
-use golog_journal::{Commit, Entry};
+use golog_journal::{Commit, DEVICES, Entry};
 use golog_tree::Agent;
 use std::array;
 use std::sync::Wait;
 use std::sync::atomic::{AtomicU64, Ordering};
-
-/// The most devices.
-pub(crate) const DEVICES: usize = 16;
 
 /// Which devices were open when the run began, and bells, for whose ring one sleeps who has nothing to do: one of each
 /// device, rung by its commands and by the end, and one of the lead, rung by each post. Who waits has read the count of

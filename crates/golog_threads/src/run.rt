@@ -16,12 +16,12 @@ ghost use Rattle.golog_threads.specs.Running.{AreReady, MayRunSealed};
 
 use crate::board::SeatBoard;
 use crate::drive::{drive_rest, join_seats};
-use crate::hall::{DEVICES, Hall};
+use crate::hall::Hall;
 use crate::naming::{AtLock, Held, Known, Naming};
 use crate::shared::Shared;
 use golog_base::NoMemory;
 use golog_device::Device;
-use golog_journal::{Board, Journal, Lead, Led};
+use golog_journal::{Board, DEVICES, Journal, Lead, Led};
 use golog_tree::Agent;
 use golog_turn::{Rest, Seat, TurnLock};
 use std::alloc::Global;
@@ -145,7 +145,8 @@ fn gather_all<A: Naming, N: AtLock, L: Lead, R: Wait>(
     gather_at(lead, &mut board);
 }
 
-// The devices beside each other, and beside the lead.
+// The devices beside each other, and beside the lead. What both threads share is passed part by part: a struct of it
+// would need a proof of its own that threads may share it.
 fn run_beside<
     A: Naming + Send,
     N: AtLock + Send,

@@ -10,7 +10,8 @@ returns-in-Some-clause-lines c = ok-always c.is_text.result (sym (ap (drop 1) c.
 
 pub returns-in-Some-clause-same : goal.returns-in-Some-clause-same
 returns-in-Some-clause-same c =
-    let line = line_text c.args.agent.now c.args.runs.now c.args.before.now c.args.entry in
+    let here = c.args.here.now in
+    let line = line_text c.args.agent.now here.runs.now here.before.now here.next in
     subst (λ g. IfOk c.is_text.result (λ b. b ≡ same_line g line)) (sym (ap (λ ls. slice_get ls 0) c.in-Some.ensures)) c.is_text.ensures
 
 pub returns-in-None-clause-lines : goal.returns-in-None-clause-lines
@@ -18,5 +19,6 @@ returns-in-None-clause-lines c = c.in-None.ensures.1 ∙ sym (ap (drop 1) c.in-N
 
 pub returns-in-None-clause-same : goal.returns-in-None-clause-same
 returns-in-None-clause-same c =
-    let line = line_text c.args.agent.now c.args.runs.now c.args.before.now c.args.entry in
+    let here = c.args.here.now in
+    let line = line_text c.args.agent.now here.runs.now here.before.now here.next in
     ap (λ ls. same_line (slice_get ls 0) line) (sym c.in-None.ensures.0)

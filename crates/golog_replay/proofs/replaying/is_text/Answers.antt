@@ -10,13 +10,13 @@ use Rattle.golog_replay.proofs.replaying.is_text.Goals as goal
 pub try_fill-requires-clause-labels : goal.try_fill-requires-clause-labels
 try_fill-requires-clause-labels c =
     let agent = c.args.agent.now in
-    subst (λ run. IfSome run (AreLabels agent)) (sym c.run_here-run.ensures) (run_named agent c.args.runs.now c.requires.runs (length c.args.before.now))
+    subst (λ run. IfSome run (AreLabels agent)) (sym c.run_here-run.ensures) (run_named agent c.args.here.now.runs.now c.requires.runs (length c.args.here.now.before.now))
 
 pub returns-in-Some : goal.returns-in-Some
 returns-in-Some c =
-    let before = c.args.before.now in
-    let runs = c.args.runs.now in
-    let line = line_text c.args.agent.now runs before c.args.entry in
+    let before = c.args.here.now.before.now in
+    let runs = c.args.here.now.runs.now in
+    let line = line_text c.args.agent.now runs before c.args.here.now.next in
     let full : c.in_ok-filled.filled.now ≡ line ++ 10 ∷ [] =
     c.in_ok-filled.ensures.line before runs refl (sym c.requires.values) (sym c.run_here-run.ensures) in
     let same : c.in-Some.own.now ≡ line = (same_from_push c.in-Some.own.now line _ 10 (sym c.in-Some.ensures.cases.0 ∙ full)).0 in
@@ -24,9 +24,9 @@ returns-in-Some c =
 
 pub returns-in-None : goal.returns-in-None
 returns-in-None c =
-    let before = c.args.before.now in
-    let runs = c.args.runs.now in
-    let line = line_text c.args.agent.now runs before c.args.entry in
+    let before = c.args.here.now.before.now in
+    let runs = c.args.here.now.runs.now in
+    let line = line_text c.args.agent.now runs before c.args.here.now.next in
     let full : c.in_ok-filled.filled.now ≡ line ++ 10 ∷ [] =
     c.in_ok-filled.ensures.line before runs refl (sym c.requires.values) (sym c.run_here-run.ensures) in
     let long : length c.in_ok-filled.filled.now ≡ length line + 1 = ap length full ∙ length_push line 10 in

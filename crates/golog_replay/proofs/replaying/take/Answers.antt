@@ -4,8 +4,10 @@ use Rattle.golog_replay.proofs.replaying.take.Goals as goal
 
 pub returns-in-Broken : goal.returns-in-Broken
 returns-in-Broken c = λ lines same.
-    subst (JudgedIs c.args.agent.now c.args.before.now c.args.runs.now c.args.entry) c.in-Broken.is c.in_ok-judged.ensures (Some lines)
+    let here = c.args.here.now in
+    subst (JudgedIs c.args.agent.now here.before.now here.runs.now here.next) c.in-Broken.is c.in_ok-judged.ensures (Some lines)
 
 pub take_kept-requires-clause-kept : goal.take_kept-requires-clause-kept
 take_kept-requires-clause-kept c =
-    subst (JudgedIs c.args.agent.now c.args.before.now c.args.runs.now c.args.entry) c.in-Kept.is c.in_ok-judged.ensures
+    let here = c.args.here.now in
+    subst (JudgedIs c.args.agent.now here.before.now here.runs.now here.next) c.in-Kept.is c.in_ok-judged.ensures

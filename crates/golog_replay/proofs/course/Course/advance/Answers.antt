@@ -1,6 +1,6 @@
-use Rattle.std.proofs.Common.{[], ◌∷◌, ◌++◌, sym, ap, ◌∙◌}
+use Rattle.std.proofs.Common.{sym, ap, ◌∙◌}
 use Rattle.std.specs.Prelude.{unwrap_or}
-use Rattle.golog_semantics.specs.Progress.{after_entry, left_after, values_after}
+use Rattle.golog_semantics.specs.Progress.{after_entry}
 use Rattle.golog_semantics.proofs.Pushed.{values_after-push}
 use Rattle.golog_text.proofs.Things.{named_fits}
 use Rattle.golog_replay.proofs.Steps.{step-settled}
@@ -10,10 +10,7 @@ pub note-requires-clause-standing : goal.note-requires-clause-standing
 note-requires-clause-standing c = c.requires.follows.standing
 
 pub note-requires-clause-settled : goal.note-requires-clause-settled
-note-requires-clause-settled c =
-    let agent = c.args.agent.now in
-    let before = c.args.before.now in
-    step-settled agent before (values_after agent before) (left_after agent before) c.args.entry c.requires.step
+note-requires-clause-settled c = step-settled c.args.agent.now c.args.before.now c.args.entry c.requires.step
 
 pub roll-requires-clause-agent : goal.roll-requires-clause-agent
 roll-requires-clause-agent c = c.requires.follows.formed

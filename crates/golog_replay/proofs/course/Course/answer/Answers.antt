@@ -1,40 +1,24 @@
 use Rattle.std.proofs.Common.{sym, ◌∙◌}
-use Rattle.golog_semantics.specs.Progress.{left_after, values_after}
 use Rattle.golog_replay.proofs.Ends.{answer-awaited, answer-decided, answer-full, answer-unanswered}
 use Rattle.golog_replay.proofs.course.Course.answer.Goals as goal
 
 pub returns-then-is_full : goal.returns-then-is_full
-returns-then-is_full c =
-    let agent = c.args.agent.now in
-    let before = c.args.before.now in
-    let V = values_after agent before in
-    let P = left_after agent before in
-    sym (answer-full agent before V P (sym c.is_full.ensures ∙ c.if-is_full.true))
+returns-then-is_full c = sym (answer-full c.args.agent.now c.args.before.now (sym c.is_full.ensures ∙ c.if-is_full.true))
 
 pub returns-then-is_unanswered : goal.returns-then-is_unanswered
 returns-then-is_unanswered c =
-    let agent = c.args.agent.now in
-    let before = c.args.before.now in
-    let V = values_after agent before in
-    let P = left_after agent before in
-    sym (answer-unanswered agent before V P (sym c.is_full.ensures ∙ c.if-is_full.false) (sym c.is_unanswered.ensures ∙ c.if-is_unanswered.true))
+    sym
+    (answer-unanswered c.args.agent.now c.args.before.now (sym c.is_full.ensures ∙ c.if-is_full.false)
+    (sym c.is_unanswered.ensures ∙ c.if-is_unanswered.true))
 
 pub returns-then-not-is_settled : goal.returns-then-not-is_settled
 returns-then-not-is_settled c =
-    let agent = c.args.agent.now in
-    let before = c.args.before.now in
-    let V = values_after agent before in
-    let P = left_after agent before in
     sym
-    (answer-awaited agent before V P (sym c.is_full.ensures ∙ c.if-is_full.false) (sym c.is_unanswered.ensures ∙ c.if-is_unanswered.false)
-    (sym c.is_settled.ensures ∙ c.if-not-is_settled.true))
+    (answer-awaited c.args.agent.now c.args.before.now (sym c.is_full.ensures ∙ c.if-is_full.false)
+    (sym c.is_unanswered.ensures ∙ c.if-is_unanswered.false) (sym c.is_settled.ensures ∙ c.if-not-is_settled.true))
 
 pub returns : goal.returns
 returns c =
-    let agent = c.args.agent.now in
-    let before = c.args.before.now in
-    let V = values_after agent before in
-    let P = left_after agent before in
-    answer-decided agent before V P (sym c.is_full.ensures ∙ c.if-is_full.false) (sym c.is_unanswered.ensures ∙ c.if-is_unanswered.false)
-    (sym c.is_settled.ensures ∙ c.if-not-is_settled.false) c.is_quiet.result c.in_ok-decision.decision c.answer_of-answer.result c.answer_of-answer.ensures
-    c.is_quiet.ensures c.in_ok-decision.ensures
+    answer-decided c.args.agent.now c.args.before.now (sym c.is_full.ensures ∙ c.if-is_full.false)
+    (sym c.is_unanswered.ensures ∙ c.if-is_unanswered.false) (sym c.is_settled.ensures ∙ c.if-not-is_settled.false)
+    c.is_quiet.result c.in_ok-decision.decision c.answer_of-answer.result c.answer_of-answer.ensures c.is_quiet.ensures c.in_ok-decision.ensures

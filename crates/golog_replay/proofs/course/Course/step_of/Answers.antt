@@ -1,31 +1,20 @@
 use Rattle.std.proofs.Common.{sym, ◌∙◌}
-use Rattle.golog_semantics.specs.Progress.{left_after, values_after}
 use Rattle.golog_replay.proofs.Steps.{awaited-breaks, full-breaks, other-breaks}
 use Rattle.golog_replay.proofs.course.Course.step_of.Goals as goal
 
 pub returns-then-is_full : goal.returns-then-is_full
 returns-then-is_full c =
-    let agent = c.args.agent.now in
-    let before = c.args.before.now in
-    let V = values_after agent before in
-    let P = left_after agent before in
-    full-breaks agent before V P c.args.entry c.args.label c.requires.label (sym c.is_full.ensures ∙ c.if-is_full.true)
+    full-breaks c.args.agent.now c.args.before.now c.args.entry c.args.label c.requires.label (sym c.is_full.ensures ∙ c.if-is_full.true)
 
 pub returns-then-not-is_settled : goal.returns-then-not-is_settled
 returns-then-not-is_settled c =
-    let agent = c.args.agent.now in
-    let before = c.args.before.now in
-    let V = values_after agent before in
-    let P = left_after agent before in
-    awaited-breaks agent before V P c.args.entry c.args.label c.requires.label (sym c.is_settled.ensures ∙ c.if-not-is_settled.true)
+    awaited-breaks c.args.agent.now c.args.before.now c.args.entry c.args.label c.requires.label
+    (sym c.is_settled.ensures ∙ c.if-not-is_settled.true)
 
 pub returns-in_default : goal.returns-in_default
 returns-in_default c =
-    let agent = c.args.agent.now in
-    let before = c.args.before.now in
-    let V = values_after agent before in
-    let P = left_after agent before in
-    other-breaks agent before V P c.args.entry c.args.label c.in_ok-decision.decision c.requires.label c.in_ok-decision.ensures c.in_default.not-Step
+    other-breaks c.args.agent.now c.args.before.now c.args.entry c.args.label c.in_ok-decision.decision c.requires.label
+    c.in_ok-decision.ensures c.in_default.not-Step
 
 pub steps_by-requires-clause-room : goal.steps_by-requires-clause-room
 steps_by-requires-clause-room c = sym c.is_full.ensures ∙ c.if-is_full.false
