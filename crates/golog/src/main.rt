@@ -3,13 +3,12 @@
 #![tactic(auto)]
 
 use golog_base::{FileFiles, OutSink};
-use golog_main::{NO_MEMORY, golog, script_devices};
+use golog_main::{NO_MEMORY, golog, script_devices, words_of};
 use std::alloc::AllocError;
-use std::io::ErrorKind;
+use std::io;
 use std::process::ExitCode;
 use std::sync::Wait;
 use std::thread::{Builder, Threads};
-use std::{env, io};
 
 /// How many bytes of stack the work has. The longest agent file holds programs that nest about 262,000 deep
 /// before they are refused, and a recursion over them takes at most some hundred bytes for each level.
@@ -58,19 +57,4 @@ fn status<R: Threads + Wait + Sync>(threads: &R, rt: &HostRuntime) -> Result<u8,
         )),
         Err(_) => Err(AllocError),
     }
-}
-
-// The words after the program's name. Where one is not text there are none, which is no command either.
-fn words_of(rt: &HostRuntime) -> Result<Vec<String>, AllocError> {
-    let mut words = Vec::new(rt.alloc());
-    match env::args(rt) {
-        Ok(args) => {
-            for word in args.skip(1) {
-                words.push(word)?;
-            }
-        }
-        Err(error) if error.kind() == ErrorKind::OutOfMemory => return Err(AllocError),
-        Err(_) => {}
-    }
-    Ok(words)
 }

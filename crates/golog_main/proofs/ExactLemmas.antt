@@ -77,8 +77,8 @@ module _ {A : Type 0} (before after : Outside) (input : Input) (name : Text) (Re
   pub file-spells : (P : A → Outcome → Type 0) (bytes : Text) (x : A) → IsRead name bytes before after → Spells bytes x
       → OfFile before.held before.file_faults after.file_faults input name Refuses Spells P outcome → P x outcome
   file-spells P bytes x read spells (unread is u) = absurd (no_fault name bytes before after read u)
-  file-spells P bytes x read spells (refused text is has) =
-      let tells = read_has name bytes before after read (λ b. Tells input (Refuses b) text) has in
+  file-spells P bytes x read spells (refused text is reads) =
+      let tells = read_so name bytes before after read (λ b. Tells input (Refuses b) text) reads in
       absurd (excludes bytes x tells.code tells.at spells tells.refused)
   file-spells P bytes x read spells (holds y reads next) =
       subst (λ z. P z outcome) (one bytes x y spells (read_so name bytes before after read (λ b. Spells b y) reads)) next
@@ -87,13 +87,13 @@ module _ {A : Type 0} (before after : Outside) (input : Input) (name : Text) (Re
     no-file : (P : A → Outcome → Type 0) → OfFile before.held before.file_faults after.file_faults input name Refuses Spells P outcome
         → HasNone before.held name → Answers status 4 before after
     no-file P (unread is u) none = inl (shown ∙ ap outcome_status is)
-    no-file P (refused text is has) none = absurd (held_or_not before.held name (λ b. Tells input (Refuses b) text) none has)
+    no-file P (refused text is reads) none = absurd (held_or_not before.held name (λ told. told ≡ reads.bytes) none reads.has)
     no-file P (holds y reads next) none = absurd (held_or_not before.held name (λ told. told ≡ reads.bytes) none reads.has)
 
     file-refused : (P : A → Outcome → Type 0) → OfFile before.held before.file_faults after.file_faults input name Refuses Spells P outcome
         → (bytes : Text) (code at : ℕ) → IsRead name bytes before after → Refuses bytes code at → Answers status 3 before after
     file-refused P (unread is u) bytes code at read r = absurd (no_fault name bytes before after read u)
-    file-refused P (refused text is has) bytes code at read r = inl (shown ∙ ap outcome_status is)
+    file-refused P (refused text is reads) bytes code at read r = inl (shown ∙ ap outcome_status is)
     file-refused P (holds y reads next) bytes code at read r =
         absurd (excludes bytes y code at (read_so name bytes before after read (λ b. Spells b y) reads) r)
 

@@ -1,29 +1,24 @@
 -- What files have, and what they are refused for.
-use Rattle.std.proofs.Common.{◌≡◌, ℕ, ◌≤◌, List, Option, Some, None, inl, inr, arith}
+use Rattle.std.proofs.Common.{◌≡◌, ℕ, ◌≤◌, List, Option, Some, None, inl, inr, refl, sym, subst, arith}
 use Rattle.std.specs.Prelude.{IsSomeAnd}
 use Rattle.golog_base.specs.Faults.{Rose}
 use Rattle.golog_base.specs.Files.{FileHas, bytes_of}
 use Rattle.golog_base.specs.declared.mem_files.HeldFile.{HeldFile}
 use Rattle.golog_semantics.specs.Text.{Text}
-use Rattle.golog_main.specs.Inputs.{IsUnread}
+use Rattle.golog_main.specs.Inputs.{IsUnread, Reads}
 
--- what is so of the bytes read is so of those held
-pub read-held : (held : Option (List HeldFile)) (name bytes : Text) (P : Text → Type 0) → FileHas held name (λ told. told ≡ bytes) → P bytes → FileHas held name P
-read-held None name bytes P has p = has
-read-held (Some files) name bytes P has p = told (bytes_of files name) has
+-- what is so of the bytes held, and of these, is so of bytes of the file: of these, where files tell nothing
+pub held-reads : (held : Option (List HeldFile)) (name bytes : Text) (P : Text → Type 0) → P bytes → FileHas held name P → Reads held name P
+held-reads None name bytes P p has = record { bytes = bytes; has = has; so = p }
+held-reads (Some files) name bytes P p has = told (bytes_of files name) refl has
   where
-    told : (o : Option Text) → IsSomeAnd o (λ t. t ≡ bytes) → IsSomeAnd o P
-    told None h = h
-    told (Some t) h = rw h p
+    told : (o : Option Text) → bytes_of files name ≡ o → IsSomeAnd o P → Reads (Some files) name P
+    told None is h = absurd h
+    told (Some t) is h = record { bytes = t; has = subst (λ o. IsSomeAnd o (λ u. u ≡ t)) (sym is) refl; so = h }
 
--- what follows of what is held
-pub held-so : (held : Option (List HeldFile)) (name : Text) (P Q : Text → Type 0) → ((bytes : Text) → P bytes → Q bytes) → FileHas held name P → FileHas held name Q
-held-so None name P Q so has = has
-held-so (Some files) name P Q so has = told (bytes_of files name) has
-  where
-    told : (o : Option Text) → IsSomeAnd o P → IsSomeAnd o Q
-    told None h = h
-    told (Some t) h = so t h
+-- what follows of the bytes of a file
+pub reads-so : (held : Option (List HeldFile)) (name : Text) (P Q : Text → Type 0) → ((bytes : Text) → P bytes → Q bytes) → Reads held name P → Reads held name Q
+reads-so held name P Q so reads = record { bytes = reads.bytes; has = reads.has; so = so reads.bytes reads.so }
 
 -- a count that has risen since later has risen since earlier
 rose-since : (first before now : ℕ) → first ≤ before → Rose before now → Rose first now

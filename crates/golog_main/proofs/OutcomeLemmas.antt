@@ -1,6 +1,7 @@
 -- From what the inputs of a call hold, and what a run of these comes to, to what the call comes to.
-use Rattle.std.proofs.Common.{◌≡◌, Bool, ℕ, ◌<◌, ◌≤◌, List, [], Option, Some, None, Result, Ok, Err, IfOk, length, refl, sym, subst, inl, inr}
+use Rattle.std.proofs.Common.{◌≡◌, Bool, ℕ, ◌+◌, ◌<◌, ◌≤◌, List, [], Option, Some, None, Result, Ok, Err, IfOk, length, replicate, refl, sym, subst, inl, inr, arith}
 use Rattle.std.specs.Prelude.{IsSomeAnd}
+use Rattle.std.proofs.lemmas.List.{length-replicate}
 use Rattle.golog_base.specs.Files.{FileHas}
 use Rattle.golog_base.specs.declared.mem_files.HeldFile.{HeldFile}
 use Rattle.golog_tree.specs.declared.agent.Agent.{Agent}
@@ -23,7 +24,7 @@ use Rattle.golog_main.specs.declared.ready.Unready.{Unready}
 use Rattle.golog_main.specs.declared.ready.Unready.TheVariants.{Ended, Memory}
 use Rattle.golog_main.specs.Inputs.{Reads, ReadsAgent, ReadsScripts, SpellsScripts, RefusesScripts, too_long, SpellsBoth, SpellsJournal, RefusesJournal, journal_too_long, Tells, input_limit, refusal_text, IsUnread}
 use Rattle.golog_main.specs.Outcome.{ComesOf, unread, refused, holds, RunOf, OfFile, OfAgent, OfBoth, OfScripts, OfJournal, OfCondition, Comes, CondFails, FileFails, HoldsRun, IfEnded, IsTooLong, Never}
-use Rattle.golog_main.proofs.InputLemmas.{read-held, held-so, unread-since}
+use Rattle.golog_main.proofs.InputLemmas.{held-reads, reads-so, unread-since}
 
 -- ---- files that are refused or can't be read
 
@@ -37,6 +38,10 @@ pub ends-so : {E : Type 0} (r : Result Outcome E) (fault : Unready) (P Q : Outco
 ends-so (Ok outcome) fault P Q is so h = so outcome (subst (λ f. IfEnded f P) is h)
 ends-so (Err e) fault P Q is so h = tt
 
+-- a list of one byte more than a limit
+one-more : (limit : ℕ) → limit < length (replicate {A = ℕ} (limit + 1) 0)
+one-more limit = subst (λ k. limit < k) (sym (length-replicate {A = ℕ} (limit + 1) 0)) (omega arith)
+
 module _ (input : Input) (held : Option (List HeldFile)) (name : Text) (before after : ℕ) where
   -- a file with more bytes than the limit
   pub too-long : (limit : ℕ) (fault : Unready) → limit ≡ input_limit input → FileHas held name (λ told. limit < length told)
@@ -46,8 +51,9 @@ module _ (input : Input) (held : Option (List HeldFile)) (name : Text) (before a
       (λ o is. inr (
         refusal_text input 5 limit,
         is,
-        held-so held name (λ told. limit < length told) (λ told. Tells input (IsTooLong input told) (refusal_text input 5 limit))
-            (λ told long. record { code = 5; at = limit; refused = (subst (λ k. k < length told) so long, refl, so); is = refl }) has,
+        reads-so held name (λ told. limit < length told) (λ told. Tells input (IsTooLong input told) (refusal_text input 5 limit))
+            (λ told long. record { code = 5; at = limit; refused = (subst (λ k. k < length told) so long, refl, so); is = refl })
+            (held-reads held name (replicate (limit + 1) 0) (λ told. limit < length told) (one-more limit) has),
       )) said
 
   -- a file whose bytes are refused so
@@ -58,20 +64,19 @@ module _ (input : Input) (held : Option (List HeldFile)) (name : Text) (before a
       (λ o is. inr (
         refusal_text input code at,
         is,
-        read-held held name bytes (λ told. Tells input (Refuses told) (refusal_text input code at)) has
-            (record { code = code; at = at; refused = refuses; is = refl }),
+        record { bytes = bytes; has = has; so = record { code = code; at = at; refused = refuses; is = refl } },
       )) said
 
   -- a refusal of one kind is one of another
   fails-so : (P Q : Text → ℕ → ℕ → Type 0) → ((bytes : Text) (code at : ℕ) → P bytes code at → Q bytes code at) → (outcome : Outcome)
       → FileFails input P held name before after outcome → FileFails input Q held name before after outcome
   fails-so P Q so outcome (inl fault) = inl fault
-  fails-so P Q so outcome (inr (text, is, has)) =
+  fails-so P Q so outcome (inr (text, is, reads)) =
       inr (
         text,
         is,
-        held-so held name (λ told. Tells input (P told) text) (λ told. Tells input (Q told) text)
-            (λ told t. record { code = t.code; at = t.at; refused = so told t.code t.at t.refused; is = t.is }) has,
+        reads-so held name (λ told. Tells input (P told) text) (λ told. Tells input (Q told) text)
+            (λ told t. record { code = t.code; at = t.at; refused = so told t.code t.at t.refused; is = t.is }) reads,
       )
 
   -- so are bytes above the limit
@@ -92,7 +97,14 @@ module _ (input : Input) (held : Option (List HeldFile)) (name : Text) (before a
   pub file-comes : {A : Type 0} (Q : Text → ℕ → ℕ → Type 0) (Spells : Text → A → Type 0) (Next : A → Outcome → Type 0) (outcome : Outcome)
       → FileFails input Q held name before after outcome → OfFile held before after input name Q Spells Next outcome
   file-comes Q Spells Next outcome (inl (is, u)) = unread is u
-  file-comes Q Spells Next outcome (inr (text, is, has)) = refused text is has
+  file-comes Q Spells Next outcome (inr (text, is, reads)) = refused text is reads
+
+  -- what a call comes to whose file holds no value
+  pub file-ends : {E A : Type 0} (Q : Text → ℕ → ℕ → Type 0) (Spells : Text → A → Type 0) (Next : A → Outcome → Type 0) (r : Result Outcome E) (fault : Unready)
+      → IfOk r (λ outcome. fault ≡ Ended outcome) → IfEnded fault (FileFails input Q held name before after)
+      → IfOk r (OfFile held before after input name Q Spells Next)
+  file-ends Q Spells Next r fault is fails =
+      ends-so r fault (FileFails input Q held name before after) (OfFile held before after input name Q Spells Next) is (file-comes Q Spells Next) fails
 
 -- a condition whose bytes are refused so
 pub cond-refused-so : (theory : DraftTheory) (agent : Agent) (bytes : Text) (fault : Unready) (code at : ℕ) → RefusesCond theory agent bytes code at
@@ -111,7 +123,7 @@ pub file-since : {A : Type 0} (input : Input) (held : Option (List HeldFile)) (n
     (Next : A → Outcome → Type 0) (outcome : Outcome) → first ≤ later
     → OfFile held later after input name Q Spells Next outcome → OfFile held first after input name Q Spells Next outcome
 file-since input held name first later after Q Spells Next outcome grows (unread is u) = unread is (unread-since held name first later after grows u)
-file-since input held name first later after Q Spells Next outcome grows (refused text is has) = refused text is has
+file-since input held name first later after Q Spells Next outcome grows (refused text is reads) = refused text is reads
 file-since input held name first later after Q Spells Next outcome grows (holds x reads next) = holds x reads next
 
 -- what comes of an agent file that spells this agent
@@ -173,7 +185,7 @@ module _ (held : Option (List HeldFile)) (first now : ℕ) where
       → OfScripts held first now agent named P outcome → OfScripts held first now agent named Q outcome
   scripts-so agent None P Q outcome so comes = so [] comes
   scripts-so agent (Some name) P Q outcome so comes =
-      comes-so DevicesFile (IsUnread held name first now) (λ text. FileHas held name (λ bytes. Tells DevicesFile (RefusesScripts agent bytes) text))
+      comes-so DevicesFile (IsUnread held name first now) (λ text. Reads held name (λ bytes. Tells DevicesFile (RefusesScripts agent bytes) text))
       (λ listed. Reads held name (λ bytes. SpellsScripts agent bytes listed)) P Q outcome so comes
 
   scripts-hold : (agent : Agent) (named : Option Text) (listed : List Script) (P : List Script → Outcome → Type 0) (outcome : Outcome)
@@ -205,6 +217,6 @@ module _ (held : Option (List HeldFile)) (first now : ℕ) where
     pub never-comes : (outcome : Outcome) → OfAgent held first now name (λ a. OfScripts held first now a named Never) outcome
         → Comes held first now olds news (Some (run name named inline)) outcome
     never-comes outcome comes =
-        comes-so AgentFile (IsUnread held name first now) (λ text. FileHas held name (λ bytes. Tells AgentFile (IsFirstRefusal bytes) text)) (ReadsAgent held name)
+        comes-so AgentFile (IsUnread held name first now) (λ text. Reads held name (λ bytes. Tells AgentFile (IsFirstRefusal bytes) text)) (ReadsAgent held name)
         (λ a. OfScripts held first now a named Never) (λ a. OfScripts held first now a named (λ listed. RunOf a listed inline olds news)) outcome
         (λ a. scripts-so a named Never (λ listed. RunOf a listed inline olds news) outcome (λ listed none. absurd none)) comes

@@ -19,7 +19,7 @@ use Rattle.golog_semantics.specs.Execution.{status_of}
 use Rattle.golog_semantics.proofs.Tests.{and_cases, or_first, or_second}
 use Rattle.golog_semantics.proofs.LaterRuns.{whole_is_online}
 use Rattle.golog_certain.proofs.JournalSo.{journal_so}
-use Rattle.golog_journal.specs.Boards.{IsBoardList, is_lawful}
+use Rattle.golog_journal.specs.Boards.{AgentJournal, IsBoardList, is_lawful}
 use Rattle.golog_journal.proofs.Lawful.{lawful-parts}
 use Rattle.golog_device.specs.Slots.{Standing, HaveBegun}
 use Rattle.golog_agent.specs.Rounds.{FollowsRounds}
@@ -27,17 +27,18 @@ use Rattle.golog_agent.specs.Short.{IsShort}
 use Rattle.golog_agent.proofs.RunsFit.{is-report}
 use Rattle.golog_agent.proofs.WrittenLines.{at_each-append}
 use Rattle.golog_main.specs.Demos.{is_short}
-use Rattle.golog_main.specs.Runs.{AllTellLeft, AreTextsOf, FollowsScripts, IsCutShort, IsReportOf, IsRunOf, ReportsRun, RunsOn}
+use Rattle.golog_main.specs.Runs.{AllTellLeft, AreTextsOf, FollowsScripts, HasBegun, HasBegunWith, IsCutShort, IsReportOf, IsRunOf, RunsOn}
 use Rattle.golog_main.proofs.Begun.{as-many, dealt-with, tell-left, none-stands}
 use Rattle.golog_main.proofs.Inlined.{all-the-way, cut-short}
 
 -- ---- the report of a journal
 
 module _ (agent : Agent) where
-  -- what has been run is reported
-  pub reports-run : (texts : List Text) (inline : Bool) (before : Journal) (olds mids news : List Standing) (report : Report) → WellFormed agent → length texts ≡ length agent.devices
-      → HaveBegun (length texts) texts before olds mids → RunsOn agent inline before mids news report → ReportsRun agent texts inline olds news report
-  reports-run texts inline before olds mids news report formed one_each begun_texts on scripts are = record {
+  -- what has been run is reported, for all scripts of which the devices have begun with texts
+  reports-texts : (texts : List Text) (inline : Bool) (before : Journal) (olds mids news : List Standing) (report : Report) → WellFormed agent → length texts ≡ length agent.devices
+      → HaveBegun (length texts) texts before olds mids → RunsOn agent inline before mids news report → (scripts : List Script) → AreTextsOf texts scripts
+      → IsReportOf agent scripts inline olds news report
+  reports-texts texts inline before olds mids news report formed one_each begun_texts on scripts are = record {
     journal = on.journal;
     is = on.is;
     fits = is-report agent on.journal formed on.lawful on.short;
@@ -51,6 +52,14 @@ module _ (agent : Agent) where
     where
       begun : HaveBegun (length agent.devices) texts before olds mids
       begun = subst (λ n. HaveBegun n texts before olds mids) one_each begun_texts
+
+  -- and so for the scripts with which they have begun
+  pub reports-run : (scripts : List Script) (inline : Bool) (before : AgentJournal) (olds mids news : List Standing) (report : Report) → WellFormed agent
+      → length scripts ≡ length agent.devices → HasBegunWith agent scripts olds mids before → RunsOn agent inline before.entries mids news report
+      → IsReportOf agent scripts inline olds news report
+  reports-run scripts inline before olds mids news report formed one_each begun_with on =
+      reports-texts begun_with.texts inline before.entries olds mids news report formed (as-many begun_with.texts scripts begun_with.are ∙ one_each) begun_with.begun.begun on scripts
+      begun_with.are
 
 -- ---- the end
 
@@ -143,11 +152,11 @@ ended agent scripts inline olds news report of_journal =
     ap (λ (r : Report). has_end r.entries) of_journal.is
     ∙ whole-ended agent journal ((whole_is_online agent (report_of agent journal)).ended of_journal.online)
 
--- a report of a run for all scripts of these texts is one for these
-pub for-scripts : {E : Type 0} (agent : Agent) (texts : List Text) (scripts : List Script) (inline : Bool) (olds news : List Standing) (r : Result Report E)
-    → AreTextsOf texts scripts → IfOk r (ReportsRun agent texts inline olds news) → IfOk r (IsReportOf agent scripts inline olds news)
-for-scripts agent texts scripts inline olds news (Ok report) are of = of scripts are
-for-scripts agent texts scripts inline olds news (Err e) are of = of
+-- devices that have begun with these texts have begun with the scripts of which these are texts
+pub begun-scripts : {E : Type 0} (agent : Agent) (texts : List Text) (scripts : List Script) (olds news : List Standing) (r : Result AgentJournal E)
+    → AreTextsOf texts scripts → IfOk r (HasBegun agent texts olds news) → IfOk r (HasBegunWith agent scripts olds news)
+begun-scripts agent texts scripts olds news (Ok journal) are begun = record { texts = texts; are = are; begun = begun }
+begun-scripts agent texts scripts olds news (Err e) are begun = begun
 
 -- where neither memory nor fuel was wanted, and the devices tell what is left of their scripts, it is the report of the rounds
 pub as-rounds : (agent : Agent) (scripts : List Script) (olds news : List Standing) (report : Report) (answer : Answer) → IsReportOf agent scripts true olds news report

@@ -14,7 +14,7 @@ use Rattle.golog_device.specs.Slots.{Standing}
 use Rattle.golog_agent.specs.Keeping.{EndsBy}
 use Rattle.golog_agent.specs.Written.{HasWritten, IsWritten}
 use Rattle.golog_agent.proofs.Writing.{and_then-none}
-use Rattle.golog_words.specs.Commands.{CommandLine, run}
+use Rattle.golog_words.specs.Commands.{CommandLine, run, demo}
 use Rattle.golog_main.specs.declared.outcome.Outcome.{Outcome}
 use Rattle.golog_main.specs.declared.outcome.Outcome.TheVariants.{WordsRefused, Ran}
 use Rattle.golog_main.specs.declared.ready.Ready.{Ready}
@@ -114,14 +114,14 @@ writes-more P Q agent old new before after (Err e) so writes = writes
 -- ---- an outcome that is reported
 
 -- devices that had no part
-pub untouched : {E : Type 0} (standings : List Standing) (r : Result Outcome E) → IfOk r (IsUntouched standings standings)
-untouched standings (Ok outcome) = λ none. refl
-untouched standings (Err e) = tt
+untouched : {E : Type 0} (olds news : List Standing) (r : Result Outcome E) → news ≡ olds → IfOk r (IsUntouched olds news)
+untouched olds news (Ok outcome) same = λ none. same
+untouched olds news (Err e) same = tt
 
 -- a demo has the devices take part
-pub demo-untouched : {E : Type 0} (size : ℕ) (olds news : List Standing) (r : Result Outcome E) → IfOk r (Demonstrates size olds news) → IfOk r (IsUntouched olds news)
-demo-untouched size olds news (Ok outcome) demo = λ none. let no : true ≡ false = sym (ap uses_devices demo.is) ∙ none in absurd (cc)
-demo-untouched size olds news (Err e) demo = demo
+demo-untouched : {E : Type 0} (size : ℕ) (olds news : List Standing) (r : Result Outcome E) → IfOk r (Demonstrates size olds news) → IfOk r (IsUntouched olds news)
+demo-untouched size olds news (Ok outcome) made = λ none. let no : true ≡ false = sym (ap uses_devices made.is) ∙ none in absurd (cc)
+demo-untouched size olds news (Err e) made = made
 
 pub outcome-nothing : {E F : Type 0} (r : Result Outcome E) (s : Result ℕ F) (old new : Option Text) (before after : ℕ) → IfReported r s old new before after → OnErr s (new ≡ old)
 outcome-nothing (Ok outcome) (Ok status) old new before after reports = tt
@@ -137,13 +137,24 @@ unready-nothing Memory (Err f) old new before after reports = reports
 
 module _ (before after : Outside) where
   -- what a command comes to
-  pub outcome-reported : {E F : Type 0} (spelled : Option CommandLine) (r : Result Outcome E) (s : Result ℕ F) → IfOk r (IsCaused spelled before after)
+  outcome-reported : {E F : Type 0} (spelled : Option CommandLine) (r : Result Outcome E) (s : Result ℕ F) → IfOk r (IsCaused spelled before after)
       → IfOk r (IsUntouched before.devices after.devices) → IfReported r s before.taken after.taken before.sink_faults after.sink_faults
       → IfOk s (λ status. IsReported status spelled before after)
   outcome-reported spelled (Ok outcome) (Ok status) cause still reports = record { outcome = outcome; cause = cause; untouched = still; report = reports }
   outcome-reported spelled (Ok outcome) (Err f) cause still reports = absurd reports
   outcome-reported spelled (Err e) (Ok status) cause still reports = absurd reports
   outcome-reported spelled (Err e) (Err f) cause still reports = tt
+
+  -- of one in which the devices have no part
+  pub plain-reported : {E F : Type 0} (spelled : Option CommandLine) (r : Result Outcome E) (s : Result ℕ F) → after.devices ≡ before.devices → IfOk r (IsCaused spelled before after)
+      → IfReported r s before.taken after.taken before.sink_faults after.sink_faults → IfOk s (λ status. IsReported status spelled before after)
+  plain-reported spelled r s same cause reports = outcome-reported spelled r s cause (untouched before.devices after.devices r same) reports
+
+  -- and of a demo
+  pub demo-reported : {E F : Type 0} (size : ℕ) (r : Result Outcome E) (s : Result ℕ F) → IfOk r (Demonstrates size before.devices after.devices)
+      → IfReported r s before.taken after.taken before.sink_faults after.sink_faults → IfOk s (λ status. IsReported status (Some (demo size)) before after)
+  demo-reported size r s made reports =
+      outcome-reported (Some (demo size)) r s made (demo-untouched size before.devices after.devices r made) reports
 
   -- words that are no command
   pub words-reported : (spelled : Option CommandLine) (status : ℕ) → spelled ≡ None → after.devices ≡ before.devices

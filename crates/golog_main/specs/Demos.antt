@@ -1,5 +1,5 @@
 -- What a demo comes to.
-use Rattle.std.specs.Prelude.{◌≡◌, ℕ, Bool, true, false, List, [], ◌∷◌, ◌++◌, Ok, Contains, codes, count_by, decimal, length}
+use Rattle.std.specs.Prelude.{◌≡◌, ℕ, Bool, true, false, List, ◌++◌, Ok, Contains, codes, count_by, decimal, length}
 use Rattle.golog_tree.specs.declared.agent.Agent.{Agent}
 use Rattle.golog_semantics.specs.declared.journal.Answer.{Answer}
 use Rattle.golog_semantics.specs.declared.journal.Answer.TheVariants.{Memory, Fuel}
@@ -33,19 +33,16 @@ is_short Memory = true
 is_short Fuel = true
 is_short answer = false
 
--- what stands in the line of a demo before its answer
+-- what stands in the line of a demo of this size before its answer: how many entries its journal has, and how many
+-- actions and posts are among them
 abbrev pub demo_counts : ℕ → Journal → Text
 demo_counts size journal =
     codes "demo " ++ decimal size ++ codes " entries " ++ decimal (length journal)
     ++ codes " actions " ++ decimal (count_by is_do journal) ++ codes " posts " ++ decimal (count_by is_exo journal)
 
--- the line of a demo of this size: how many entries its journal has, how many actions and posts are among them,
--- and its answer
+-- the line of a demo of this size
 abbrev pub demo_text : ℕ → Journal → Answer → Text
-demo_text size journal answer =
-    line (codes "demo " ++ decimal size ++ codes " entries " ++ decimal (length journal)
-    ++ codes " actions " ++ decimal (count_by is_do journal) ++ codes " posts " ++ decimal (count_by is_exo journal)
-    ++ codes " answer " ++ answer_text answer)
+demo_text size journal answer = line (demo_counts size journal ++ codes " answer " ++ answer_text answer)
 
 -- The files of the demo of this size spell an agent and scripts, and the outcome says what stands in the report of
 -- their run in rounds, which no want of memory or of fuel cut short. Where the devices tell what is left of

@@ -1,7 +1,6 @@
 -- What a call of the program comes to: each outcome with its cause, its text and its status.
 use Rattle.std.specs.Prelude.{◌≡◌, ◌⊎◌, ℕ, ◌<◌, Bool, true, false, not, List, [], ◌++◌, All, Option, None, Some, IsSome, codes, decimal, length}
 use Rattle.golog_base.specs.Faults.{Rose}
-use Rattle.golog_base.specs.Files.{FileHas}
 use Rattle.golog_base.specs.Known.{and_then_bytes, AddsPrefix}
 use Rattle.golog_base.specs.declared.mem_files.HeldFile.{HeldFile}
 use Rattle.golog_tree.specs.declared.agent.Agent.{Agent}
@@ -15,7 +14,8 @@ use Rattle.golog_semantics.specs.Execution.{status_of as answer_status}
 use Rattle.golog_semantics.specs.Progress.{values_after}
 use Rattle.golog_semantics.specs.Truth.{env_of, truth_of}
 use Rattle.golog_semantics.specs.WellFormed.{WellFormed}
-use Rattle.golog_device.specs.Slots.{Standing}
+use Rattle.golog_semantics.specs.Dealt.{Meaning}
+use Rattle.golog_device.specs.Slots.{Standing, standings}
 use Rattle.golog_script.specs.declared.scripts.Script.{Script}
 use Rattle.golog_script.specs.ScriptTexts.{HasTexts}
 use Rattle.golog_file.specs.Spelled.{SpellsAgent, IsFirstRefusal}
@@ -111,7 +111,7 @@ module _ (held : Option (List HeldFile)) (faults_before faults_after : ℕ) wher
       → (A → Outcome → Type 0) → Outcome → Type 0
   OfFile input name Refuses Spells =
       ComesOf input (IsUnread held name faults_before faults_after)
-      (λ text. FileHas held name (λ bytes. Tells input (Refuses bytes) text))
+      (λ text. Reads held name (λ bytes. Tells input (Refuses bytes) text))
       (λ x. Reads held name (λ bytes. Spells bytes x))
 
   -- what comes of the agent file
@@ -167,13 +167,15 @@ pub record Outside : Type 0 where
   pub sink_faults : ℕ
   pub devices : List Standing
 
-abbrev pub outside : Option (List HeldFile) → ℕ → Option Text → ℕ → List Standing → Outside
-outside held file_faults taken sink_faults devices = record {
-  held = held;
-  file_faults = file_faults;
-  taken = taken;
-  sink_faults = sink_faults;
-  devices = devices;
+-- what these files, this sink and these devices mean
+abbrev pub outside : {F K D : Type 0} → (F → Option (List HeldFile)) → (F → ℕ) → (K → Option Text) → (K → ℕ)
+    → (D → Bool) → (D → Meaning) → F → K → List D → Outside
+outside held file_faults taken sink_faults fresh meaning files out devices = record {
+  held = held files;
+  file_faults = file_faults files;
+  taken = taken out;
+  sink_faults = sink_faults out;
+  devices = standings fresh meaning devices;
 }
 
 -- whether the devices had a part in an outcome
@@ -234,7 +236,7 @@ IsTooLong input bytes code at = (input_limit input < length bytes) × (code ≡ 
 abbrev pub FileFails : Input → (Text → ℕ → ℕ → Type 0) → Option (List HeldFile) → Text → ℕ → ℕ → Outcome → Type 0
 FileFails input Refuses held name faults_before faults_after outcome =
     ((outcome ≡ ReadFault input) × IsUnread held name faults_before faults_after)
-    ⊎ ((text : Text) × (outcome ≡ Refused input text) × FileHas held name (λ bytes. Tells input (Refuses bytes) text))
+    ⊎ ((text : Text) × (outcome ≡ Refused input text) × Reads held name (λ bytes. Tells input (Refuses bytes) text))
 
 -- what is said of a condition whose bytes are refused
 abbrev pub CondFails : DraftTheory → Agent → Text → Outcome → Type 0

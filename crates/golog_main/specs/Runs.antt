@@ -93,11 +93,6 @@ pub record IsReportOf (agent : Agent) (scripts : List Script) (inline : Bool) (o
   pub dealt : AreDealtWith agent scripts journal olds news
   pub scripted : inline ≡ true → AllTellLeft agent olds → FollowsRounds agent scripts [] journal
 
--- and so for the scripts that these texts are of
-abbrev pub ReportsRun : Agent → List Text → Bool → List Standing → List Standing → Report → Type 0
-ReportsRun agent texts inline olds news report =
-    (scripts : List Script) → AreTextsOf texts scripts → IsReportOf agent scripts inline olds news report
-
 -- the devices have begun, each with its text, and the journal has what came of it
 pub record HasBegun (agent : Agent) (texts : List Text) (olds news : List Standing) (journal : AgentJournal)
     : Type 0 where
@@ -106,6 +101,13 @@ pub record HasBegun (agent : Agent) (texts : List Text) (olds news : List Standi
   pub behind : IsBehind [] journal.entries
   pub begun : HaveBegun (length texts) texts journal.entries olds news
   pub ready : AreReady agent journal.entries
+
+-- the devices have begun, each with a text of its script
+pub record HasBegunWith (agent : Agent) (scripts : List Script) (olds news : List Standing) (journal : AgentJournal)
+    : Type 0 where
+  pub texts : List Text
+  pub are : AreTextsOf texts scripts
+  pub begun : HasBegun agent texts olds news journal
 
 -- a device has served the run, and has refused its script only if it had before
 pub record Serves (agent : Agent) (old new : Journal) (device : ℕ) (was is : Standing) : Type 0 where

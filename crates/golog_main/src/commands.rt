@@ -1,4 +1,4 @@
-// What each command comes to, and what it writes, that needs no runtime.
+// What each command comes to, and what it writes.
 ghost use Rattle.std.specs.Prelude.{◌≡◌, ◌≤◌, true, false, Some, IfOk, IsTrue, OnErr, length, option_map};
 ghost use Rattle.golog_semantics.specs.Fits.{cond_fits, nothing_bound};
 ghost use Rattle.golog_semantics.specs.Reports.{IsReport};
@@ -49,10 +49,8 @@ pub fn served<F: Files, K: Sink, D: Device>(
     requires fresh { FreshBelow 16 (standings D.fresh D.meaning devices.old) }
     ensures reported { IfOk result (λ status. IsReported status
         (Some (command_of order.entry))
-        (outside (F.held files.old) (F.faults files.old) (K.taken out.old) (K.faults out.old)
-        (standings D.fresh D.meaning devices.old))
-        (outside (F.held files.new) (F.faults files.new) (K.taken out.new) (K.faults out.new)
-        (standings D.fresh D.meaning devices.new))) }
+        (outside F.held F.faults K.taken K.faults D.fresh D.meaning files.old out.old devices.old)
+        (outside F.held F.faults K.taken K.faults D.fresh D.meaning files.new out.new devices.new)) }
     ensures nothing { OnErr result (K.taken out.new ≡ K.taken out.old) }
 {
     match order {
@@ -85,10 +83,8 @@ fn over_rounds<F: Files, K: Sink, D: Device>(
     requires fresh { FreshBelow 16 (standings D.fresh D.meaning devices.old) }
     ensures reported { IfOk result (λ status. IsReported status
         (Some (run agent.now (option_map (λ name. name.now) named.entry) true))
-        (outside (F.held files.old) (F.faults files.old) (K.taken out.old) (K.faults out.old)
-        (standings D.fresh D.meaning devices.old))
-        (outside (F.held files.new) (F.faults files.new) (K.taken out.new) (K.faults out.new)
-        (standings D.fresh D.meaning devices.new))) }
+        (outside F.held F.faults K.taken K.faults D.fresh D.meaning files.old out.old devices.old)
+        (outside F.held F.faults K.taken K.faults D.fresh D.meaning files.new out.new devices.new)) }
     ensures nothing { OnErr result (K.taken out.new ≡ K.taken out.old) }
 {
     match ready_in(alloc, files, agent, named) {
@@ -115,10 +111,8 @@ pub fn over_threads<R: Threads + Wait + Sync, F: Files, K: Sink, D: Device + Sen
     requires fresh { FreshBelow 16 (standings D.fresh D.meaning devices.old) }
     ensures reported { IfOk result (λ status. IsReported status
         (Some (run agent.now (option_map (λ name. name.now) named.entry) false))
-        (outside (F.held files.old) (F.faults files.old) (K.taken out.old) (K.faults out.old)
-        (standings D.fresh D.meaning devices.old))
-        (outside (F.held files.new) (F.faults files.new) (K.taken out.new) (K.faults out.new)
-        (standings D.fresh D.meaning devices.new))) }
+        (outside F.held F.faults K.taken K.faults D.fresh D.meaning files.old out.old devices.old)
+        (outside F.held F.faults K.taken K.faults D.fresh D.meaning files.new out.new devices.new)) }
     ensures nothing { OnErr result (K.taken out.new ≡ K.taken out.old) }
 {
     match ready_in(alloc, files, agent, named) {

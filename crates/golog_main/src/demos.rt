@@ -12,8 +12,8 @@ ghost use Rattle.golog_main.specs.Demos.{Demonstrates, demo_counts, demo_text, i
 use crate::outcome::Outcome;
 use crate::ready::Ready;
 use crate::run::{answer_in, reported_in_rounds};
-use crate::writing::add_count;
 use golog_base::{Bytes, List, NoMemory};
+use golog_check_text::add_count;
 use golog_demo::{DemoFiles, demo_files};
 use golog_device::Device;
 use golog_file::read_agent;
@@ -148,7 +148,7 @@ fn demo_text(alloc: Global, size: u32, entries: &[Entry], answer: Answer) -> Res
     ensures { IfOk result (λ text. text ≡ demo_text size entries.now answer) }
 {
     let mut text = Bytes::new(alloc);
-    match add_demo(alloc, &mut text, size, entries, answer) {
+    match add_demo(&mut text, size, entries, answer) {
         Ok(()) => Ok(text),
         Err(fault) => {
             drop(text);
@@ -158,29 +158,23 @@ fn demo_text(alloc: Global, size: u32, entries: &[Entry], answer: Answer) -> Res
 }
 
 // Adds that line.
-fn add_demo(
-    alloc: Global,
-    text: &mut Bytes,
-    size: u32,
-    entries: &[Entry],
-    answer: Answer,
-) -> Result<(), NoMemory>
+fn add_demo(text: &mut Bytes, size: u32, entries: &[Entry], answer: Answer) -> Result<(), NoMemory>
     ensures { OnOk result (text.new ≡ text.old ++ demo_text size entries.now answer) }
 {
-    add_counts(alloc, text, size, entries)?;
+    add_counts(text, size, entries)?;
     text.extend(b" answer ")?;
     text.extend(answer_name(answer))?;
     text.extend(b"\n")
 }
 
 // Adds what stands in it before the answer.
-fn add_counts(alloc: Global, text: &mut Bytes, size: u32, entries: &[Entry]) -> Result<(), NoMemory>
+fn add_counts(text: &mut Bytes, size: u32, entries: &[Entry]) -> Result<(), NoMemory>
     ensures { OnOk result (text.new ≡ text.old ++ demo_counts size entries.now) }
 {
-    add_count(alloc, text, b"demo ", size as usize)?;
-    add_count(alloc, text, b" entries ", entries.len())?;
-    add_count(alloc, text, b" actions ", actions_in(entries))?;
-    add_count(alloc, text, b" posts ", posts_in(entries))
+    add_count(text, b"demo ", size as usize)?;
+    add_count(text, b" entries ", entries.len())?;
+    add_count(text, b" actions ", actions_in(entries))?;
+    add_count(text, b" posts ", posts_in(entries))
 }
 
 // How many actions of the program stand in a journal.

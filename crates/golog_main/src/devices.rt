@@ -4,11 +4,9 @@ ghost use Rattle.golog_device.specs.Slots.{standings, FreshBelow};
 
 use golog_base::NoMemory;
 use golog_device::Device;
+use golog_journal::DEVICES;
 use golog_script::ScriptDevice;
 use std::alloc::Global;
-
-/// As many devices as an agent may have.
-const DEVICES: usize = 16;
 
 /// Sixteen fresh devices that follow scripts: as many as an agent may have.
 pub fn script_devices(alloc: Global) -> Result<Vec<ScriptDevice>, NoMemory>

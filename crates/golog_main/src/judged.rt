@@ -8,8 +8,8 @@ ghost use Rattle.golog_replay.specs.declared.verdict.Verdict.TheVariants.{Online
 
 use crate::outcome::Outcome;
 use crate::ready::{Told, agent_in, ended, told_in};
-use crate::writing::add_count;
 use golog_base::{Bytes, Files, NoMemory};
+use golog_check_text::add_count;
 use golog_replay::{Verdict, replay};
 use golog_semantics::{Answer, Why};
 use golog_text::answer_name;
@@ -106,7 +106,7 @@ fn not_online_line(alloc: Global, place: u32, why: Why) -> Result<Bytes, NoMemor
     ensures { IfOk result (λ text. text ≡ verdict_line (Not place why)) }
 {
     let mut text = Bytes::new(alloc);
-    match add_not_online(alloc, &mut text, place, why) {
+    match add_not_online(&mut text, place, why) {
         Ok(()) => Ok(text),
         Err(fault) => {
             drop(text);
@@ -116,10 +116,10 @@ fn not_online_line(alloc: Global, place: u32, why: Why) -> Result<Bytes, NoMemor
 }
 
 // Adds that line.
-fn add_not_online(alloc: Global, text: &mut Bytes, place: u32, why: Why) -> Result<(), NoMemory>
+fn add_not_online(text: &mut Bytes, place: u32, why: Why) -> Result<(), NoMemory>
     ensures { OnOk result (text.new ≡ text.old ++ verdict_line (Not place why)) }
 {
-    add_count(alloc, text, b"not online ", place as usize)?;
+    add_count(text, b"not online ", place as usize)?;
     text.extend(b" ")?;
     text.extend(why_name(why))?;
     text.extend(b"\n")

@@ -67,7 +67,8 @@ pub enum Outcome {
     ReadFault(Input),
     /// The input is refused: what is said of it.
     Refused { input: Input, text: Bytes },
-    /// The program ran: the text of its journal, and its answer.
+    /// The program ran: the text of its journal, and its answer. It is made nowhere and stands in the contract alone,
+    /// since a run writes each line when its entry is seen.
     Ran { text: Bytes, answer: Answer },
     /// The agent file was checked: how much it has.
     Checked { text: Bytes },

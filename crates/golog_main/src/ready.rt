@@ -13,8 +13,8 @@ ghost use Rattle.golog_main.specs.declared.outcome.Input.TheVariants.{Agent as A
 ghost use Rattle.golog_main.specs.declared.outcome.Outcome.TheVariants.{Refused};
 
 use crate::outcome::{Input, Outcome};
-use crate::writing::add_count;
 use golog_base::{Bytes, Files, List, NoMemory, ReadFault, read_all};
+use golog_check_text::add_count;
 use golog_file::{AgentFault, CondFault, Understood, read_condition, read_theory_and_agent};
 use golog_script::{Script, ScriptFault, scripts_of};
 use golog_semantics::Report;
@@ -277,7 +277,7 @@ fn refusal_text(alloc: Global, input: Input, code: u8, at: u32) -> Result<Bytes,
     ensures { IfOk result (λ text. text ≡ refusal_text input code at) }
 {
     let mut text = Bytes::new(alloc);
-    match add_refusal(alloc, &mut text, input, code, at) {
+    match add_refusal(&mut text, input, code, at) {
         Ok(()) => Ok(text),
         Err(fault) => {
             drop(text);
@@ -287,19 +287,13 @@ fn refusal_text(alloc: Global, input: Input, code: u8, at: u32) -> Result<Bytes,
 }
 
 // Adds that.
-fn add_refusal(
-    alloc: Global,
-    text: &mut Bytes,
-    input: Input,
-    code: u8,
-    at: u32,
-) -> Result<(), NoMemory>
+fn add_refusal(text: &mut Bytes, input: Input, code: u8, at: u32) -> Result<(), NoMemory>
     ensures { OnOk result (text.new ≡ text.old ++ refusal_text input code at) }
 {
     text.extend(b"refused ")?;
     text.extend(input.name().as_bytes())?;
-    add_count(alloc, text, b" ", usize::from(code))?;
-    add_count(alloc, text, b" at ", at as usize)?;
+    add_count(text, b" ", usize::from(code))?;
+    add_count(text, b" at ", at as usize)?;
     text.extend(b"\n")
 }
 

@@ -13,7 +13,7 @@ ghost use Rattle.golog_agent.specs.Rounds.{AreReady};
 ghost use Rattle.golog_script.specs.declared.scripts.Script.{Script};
 ghost use Rattle.golog_script.specs.ScriptTexts.{HasTexts};
 ghost use Rattle.golog_main.specs.Inputs.{empty_script, script_under, scripts_for};
-ghost use Rattle.golog_main.specs.Runs.{AreTextsOf, HasBegun, IsReportOf, ReportsRun, RunsOn, ServedOn};
+ghost use Rattle.golog_main.specs.Runs.{AreTextsOf, HasBegun, HasBegunWith, IsReportOf, RunsOn, ServedOn};
 ghost use Rattle.golog_main.specs.Writing.{WritesReport};
 
 use crate::writing::run_status;
@@ -31,7 +31,8 @@ use std::thread::Threads;
 
 /// Runs the agent's program without threads, with these scripts for its devices, writes each line of its journal when
 /// its entry is seen, and answers the exit status. A device that is not among the scripts has the empty one. Where
-/// memory is wanted for it nothing has run, and nothing is written.
+/// memory is wanted for it nothing has run, and nothing is written: the pen is made first, so that a run that has begun
+/// is written.
 pub fn run_in_rounds<K: Sink, D: Device>(
     alloc: Global,
     agent: &Agent,
@@ -49,13 +50,18 @@ pub fn run_in_rounds<K: Sink, D: Device>(
         agent.now (K.taken out.old) (K.taken out.new) (K.faults out.old) (K.faults out.new)) }
     ensures nothing { OnErr result (K.taken out.new ≡ K.taken out.old) }
 {
-    let texts = texts_for(alloc, agent, listed)?;
-    let status = write_in_rounds(alloc, agent, &texts, out, devices);
-    drop(texts);
-    status
+    let pen = Pen::new(alloc, agent)?;
+    match begun_with(alloc, agent, listed, devices) {
+        Ok(journal) => Ok(written_in_rounds(agent, pen, journal, out, devices)),
+        Err(fault) => {
+            drop(pen);
+            Err(fault)
+        }
+    }
 }
 
-/// The same with each device on a thread of its own, and the program on this one.
+/// The same with each device on a thread of its own, and the program on this one. Where memory is wanted for these
+/// threads nothing has run either.
 pub fn run_on_threads<R: Threads + Wait + Sync, K: Sink, D: Device + Send>(
     rt: &R,
     alloc: Global,
@@ -74,13 +80,18 @@ pub fn run_on_threads<R: Threads + Wait + Sync, K: Sink, D: Device + Send>(
         agent.now (K.taken out.old) (K.taken out.new) (K.faults out.old) (K.faults out.new)) }
     ensures nothing { OnErr result (K.taken out.new ≡ K.taken out.old) }
 {
-    let texts = texts_for(alloc, agent, listed)?;
-    let status = write_on_threads(rt, alloc, agent, &texts, out, devices);
-    drop(texts);
-    status
+    let pen = Pen::new(alloc, agent)?;
+    match begun_with(alloc, agent, listed, devices) {
+        Ok(journal) => written_on_threads(rt, alloc, agent, pen, journal, out, devices),
+        Err(fault) => {
+            drop(pen);
+            Err(fault)
+        }
+    }
 }
 
-/// The report of a run of the agent's program without threads, with these scripts for its devices.
+/// The report of a run of the agent's program without threads, with these scripts for its devices. The runner is made
+/// first, so that a run that has begun is reported.
 pub fn reported_in_rounds<D: Device>(
     alloc: Global,
     agent: &Agent,
@@ -94,10 +105,34 @@ pub fn reported_in_rounds<D: Device>(
     ensures { IfOk result (IsReportOf agent.now (scripts_for agent.now listed.now) true
         (standings D.fresh D.meaning devices.old) (standings D.fresh D.meaning devices.new)) }
 {
+    let runner = Runner::new(alloc, agent)?;
+    match begun_with(alloc, agent, listed, devices) {
+        Ok(journal) => Ok(in_rounds(agent, runner, journal, devices)),
+        Err(fault) => {
+            drop(runner);
+            Err(fault)
+        }
+    }
+}
+
+// The journal of a run whose devices have begun, each with its script among these, or else with the empty one.
+fn begun_with<D: Device>(
+    alloc: Global,
+    agent: &Agent,
+    listed: &[Script],
+    devices: &mut [D],
+) -> Result<Journal, NoMemory>
+    requires formed { WellFormed agent.now }
+    requires texts { All HasTexts listed.now }
+    requires boxes { 16 ≤ length devices.old }
+    requires fresh { FreshBelow 16 (standings D.fresh D.meaning devices.old) }
+    ensures { IfOk result (HasBegunWith agent.now (scripts_for agent.now listed.now)
+        (standings D.fresh D.meaning devices.old) (standings D.fresh D.meaning devices.new)) }
+{
     let texts = texts_for(alloc, agent, listed)?;
-    let report = report_in_rounds(alloc, agent, &texts, devices);
+    let journal = begun(alloc, agent, &texts, devices);
     drop(texts);
-    report
+    journal
 }
 
 // The texts of the scripts of the agent's devices.
@@ -172,89 +207,6 @@ fn begun<D: Device>(
     }
 }
 
-// Writes the journal of a run in rounds. The pen is made first, so that a run that has begun is written.
-fn write_in_rounds<K: Sink, D: Device>(
-    alloc: Global,
-    agent: &Agent,
-    texts: &List<Bytes>,
-    out: &mut K,
-    devices: &mut [D],
-) -> Result<u8, NoMemory>
-    requires formed { WellFormed agent.now }
-    requires boxes { 16 ≤ length devices.old }
-    requires fresh { FreshBelow 16 (standings D.fresh D.meaning devices.old) }
-    requires one_each { length texts.now ≡ length agent.now.devices }
-    requires spelled { All (λ text. IsSome (script_spelled text)) texts.now }
-    ensures written { IfOk result (WritesReport (ReportsRun agent.now texts.now true
-        (standings D.fresh D.meaning devices.old) (standings D.fresh D.meaning devices.new))
-        agent.now (K.taken out.old) (K.taken out.new) (K.faults out.old) (K.faults out.new)) }
-    ensures nothing { OnErr result (K.taken out.new ≡ K.taken out.old) }
-{
-    let pen = Pen::new(alloc, agent)?;
-    match begun(alloc, agent, texts, devices) {
-        Ok(journal) => Ok(written_in_rounds(agent, pen, journal, out, devices)),
-        Err(fault) => {
-            drop(pen);
-            Err(fault)
-        }
-    }
-}
-
-// The same of a run over threads. Where memory is wanted for these, nothing has run.
-fn write_on_threads<R: Threads + Wait + Sync, K: Sink, D: Device + Send>(
-    rt: &R,
-    alloc: Global,
-    agent: &Agent,
-    texts: &List<Bytes>,
-    out: &mut K,
-    devices: &mut [D],
-) -> Result<u8, NoMemory>
-    requires formed { WellFormed agent.now }
-    requires boxes { 16 ≤ length devices.old }
-    requires fresh { FreshBelow 16 (standings D.fresh D.meaning devices.old) }
-    requires one_each { length texts.now ≡ length agent.now.devices }
-    requires spelled { All (λ text. IsSome (script_spelled text)) texts.now }
-    ensures written { IfOk result (WritesReport (ReportsRun agent.now texts.now false
-        (standings D.fresh D.meaning devices.old) (standings D.fresh D.meaning devices.new))
-        agent.now (K.taken out.old) (K.taken out.new) (K.faults out.old) (K.faults out.new)) }
-    ensures nothing { OnErr result (K.taken out.new ≡ K.taken out.old) }
-{
-    let pen = Pen::new(alloc, agent)?;
-    match begun(alloc, agent, texts, devices) {
-        Ok(journal) => written_on_threads(rt, alloc, agent, pen, journal, out, devices),
-        Err(fault) => {
-            drop(pen);
-            Err(fault)
-        }
-    }
-}
-
-// The report of a run in rounds over a new journal. The runner is made first, so that a run that has begun is
-// reported.
-fn report_in_rounds<D: Device>(
-    alloc: Global,
-    agent: &Agent,
-    texts: &List<Bytes>,
-    devices: &mut [D],
-) -> Result<Report, NoMemory>
-    requires formed { WellFormed agent.now }
-    requires boxes { 16 ≤ length devices.old }
-    requires fresh { FreshBelow 16 (standings D.fresh D.meaning devices.old) }
-    requires one_each { length texts.now ≡ length agent.now.devices }
-    requires spelled { All (λ text. IsSome (script_spelled text)) texts.now }
-    ensures { IfOk result (ReportsRun agent.now texts.now true
-        (standings D.fresh D.meaning devices.old) (standings D.fresh D.meaning devices.new)) }
-{
-    let runner = Runner::new(alloc, agent)?;
-    match begun(alloc, agent, texts, devices) {
-        Ok(journal) => Ok(in_rounds(agent, runner, journal, devices)),
-        Err(fault) => {
-            drop(runner);
-            Err(fault)
-        }
-    }
-}
-
 // The report of a run in rounds that goes on from a journal to whose devices nothing was done but that they have begun.
 fn in_rounds<D: Device>(
     agent: &Agent,
@@ -272,6 +224,7 @@ fn in_rounds<D: Device>(
         (standings D.fresh D.meaning devices.old) (standings D.fresh D.meaning devices.new) result }
 {
     run_inline(&mut runner, devices, agent, &mut journal);
+    // Says to the proof that the journal is short enough for a report.
     let _length = journal.len();
     drop(journal);
     runner.report()
@@ -298,6 +251,7 @@ fn written_in_rounds<K: Sink, D: Device>(
 {
     let mut scribe = Scribe::new(pen, out);
     run_inline(&mut scribe, devices, agent, &mut journal);
+    // Says to the proof that the journal is short enough for a report.
     let _length = journal.len();
     drop(journal);
     let status = run_status(scribe.faulted(), scribe.answer());

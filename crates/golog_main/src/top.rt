@@ -77,20 +77,14 @@ pub fn golog<R: Threads + Wait + Sync, F: Files, K: Sink, D: Device + Send>(
     requires boxes { 16 ≤ length devices.old }
     requires fresh { FreshBelow 16 (standings D.fresh D.meaning devices.old) }
     ensures ends { CallEnds result (command_in (map string_bytes words.now))
-        (outside (F.held files.old) (F.faults files.old) (K.taken out.old) (K.faults out.old)
-        (standings D.fresh D.meaning devices.old))
-        (outside (F.held files.new) (F.faults files.new) (K.taken out.new) (K.faults out.new)
-        (standings D.fresh D.meaning devices.new)) }
+        (outside F.held F.faults K.taken K.faults D.fresh D.meaning files.old out.old devices.old)
+        (outside F.held F.faults K.taken K.faults D.fresh D.meaning files.new out.new devices.new) }
     ensures so { RunsAreSo result (command_in (map string_bytes words.now))
-        (outside (F.held files.old) (F.faults files.old) (K.taken out.old) (K.faults out.old)
-        (standings D.fresh D.meaning devices.old))
-        (outside (F.held files.new) (F.faults files.new) (K.taken out.new) (K.faults out.new)
-        (standings D.fresh D.meaning devices.new)) }
+        (outside F.held F.faults K.taken K.faults D.fresh D.meaning files.old out.old devices.old)
+        (outside F.held F.faults K.taken K.faults D.fresh D.meaning files.new out.new devices.new) }
     ensures lines { LinesBegin (command_in (map string_bytes words.now))
-        (outside (F.held files.old) (F.faults files.old) (K.taken out.old) (K.faults out.old)
-        (standings D.fresh D.meaning devices.old))
-        (outside (F.held files.new) (F.faults files.new) (K.taken out.new) (K.faults out.new)
-        (standings D.fresh D.meaning devices.new)) }
+        (outside F.held F.faults K.taken K.faults D.fresh D.meaning files.old out.old devices.old)
+        (outside F.held F.faults K.taken K.faults D.fresh D.meaning files.new out.new devices.new) }
 {
     match answered(rt, alloc, words, files, out, devices) {
         Ok(status) => status,
@@ -110,20 +104,14 @@ pub fn serve_inline<F: Files, K: Sink, D: Device>(
     requires boxes { 16 ≤ length devices.old }
     requires fresh { FreshBelow 16 (standings D.fresh D.meaning devices.old) }
     ensures ends { CallEnds result (Some (command_of order.entry))
-        (outside (F.held files.old) (F.faults files.old) (K.taken out.old) (K.faults out.old)
-        (standings D.fresh D.meaning devices.old))
-        (outside (F.held files.new) (F.faults files.new) (K.taken out.new) (K.faults out.new)
-        (standings D.fresh D.meaning devices.new)) }
+        (outside F.held F.faults K.taken K.faults D.fresh D.meaning files.old out.old devices.old)
+        (outside F.held F.faults K.taken K.faults D.fresh D.meaning files.new out.new devices.new) }
     ensures so { RunsAreSo result (Some (command_of order.entry))
-        (outside (F.held files.old) (F.faults files.old) (K.taken out.old) (K.faults out.old)
-        (standings D.fresh D.meaning devices.old))
-        (outside (F.held files.new) (F.faults files.new) (K.taken out.new) (K.faults out.new)
-        (standings D.fresh D.meaning devices.new)) }
+        (outside F.held F.faults K.taken K.faults D.fresh D.meaning files.old out.old devices.old)
+        (outside F.held F.faults K.taken K.faults D.fresh D.meaning files.new out.new devices.new) }
     ensures lines { LinesBegin (Some (command_of order.entry))
-        (outside (F.held files.old) (F.faults files.old) (K.taken out.old) (K.faults out.old)
-        (standings D.fresh D.meaning devices.old))
-        (outside (F.held files.new) (F.faults files.new) (K.taken out.new) (K.faults out.new)
-        (standings D.fresh D.meaning devices.new)) }
+        (outside F.held F.faults K.taken K.faults D.fresh D.meaning files.old out.old devices.old)
+        (outside F.held F.faults K.taken K.faults D.fresh D.meaning files.new out.new devices.new) }
 {
     match served(alloc, order, files, out, devices) {
         Ok(status) => status,
@@ -143,10 +131,8 @@ fn answered<R: Threads + Wait + Sync, F: Files, K: Sink, D: Device + Send>(
     requires boxes { 16 ≤ length devices.old }
     requires fresh { FreshBelow 16 (standings D.fresh D.meaning devices.old) }
     ensures reported { IfOk result (λ status. IsReported status (command_in (map string_bytes words.now))
-        (outside (F.held files.old) (F.faults files.old) (K.taken out.old) (K.faults out.old)
-        (standings D.fresh D.meaning devices.old))
-        (outside (F.held files.new) (F.faults files.new) (K.taken out.new) (K.faults out.new)
-        (standings D.fresh D.meaning devices.new))) }
+        (outside F.held F.faults K.taken K.faults D.fresh D.meaning files.old out.old devices.old)
+        (outside F.held F.faults K.taken K.faults D.fresh D.meaning files.new out.new devices.new)) }
     ensures nothing { OnErr result (K.taken out.new ≡ K.taken out.old) }
     ensures command { OnErr result (IsSome (command_in (map string_bytes words.now))) }
 {
@@ -170,10 +156,8 @@ fn done<R: Threads + Wait + Sync, F: Files, K: Sink, D: Device + Send>(
     requires fresh { FreshBelow 16 (standings D.fresh D.meaning devices.old) }
     ensures reported { IfOk result (λ status. IsReported status
         (Some (command_of order.entry))
-        (outside (F.held files.old) (F.faults files.old) (K.taken out.old) (K.faults out.old)
-        (standings D.fresh D.meaning devices.old))
-        (outside (F.held files.new) (F.faults files.new) (K.taken out.new) (K.faults out.new)
-        (standings D.fresh D.meaning devices.new))) }
+        (outside F.held F.faults K.taken K.faults D.fresh D.meaning files.old out.old devices.old)
+        (outside F.held F.faults K.taken K.faults D.fresh D.meaning files.new out.new devices.new)) }
     ensures nothing { OnErr result (K.taken out.new ≡ K.taken out.old) }
 {
     match order {

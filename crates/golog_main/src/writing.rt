@@ -1,14 +1,13 @@
 // What a call writes of what it comes to, and its exit status.
-ghost use Rattle.std.specs.Prelude.{◌≡◌, ◌++◌, true, false, IfSome, IsSome, OnOk, decimal};
+ghost use Rattle.std.specs.Prelude.{◌≡◌, true, false, IfSome, IsSome};
 ghost use Rattle.golog_semantics.specs.Execution.{status_of as answer_status};
 ghost use Rattle.golog_main.specs.Outcome.{Reports, outcome_status, outcome_text};
 ghost use Rattle.golog_main.specs.Writing.{IfReported, ReportsUnready};
 
 use crate::outcome::{Outcome, exit_status};
 use crate::ready::Unready;
-use golog_base::{Bytes, NoMemory, Sink, write_all};
+use golog_base::{NoMemory, Sink, write_all};
 use golog_semantics::Answer;
-use std::alloc::Global;
 
 /// The exit status where a write failed.
 const WRITE_FAULT: u8 = 5;
@@ -65,20 +64,4 @@ pub fn run_status(faulted: bool, answer: Option<Answer>) -> u8
         }
         None => unreachable!(),
     }
-}
-
-/// Adds what is counted, and how many there are.
-pub fn add_count(
-    alloc: Global,
-    text: &mut Bytes,
-    counted: &[u8],
-    count: usize,
-) -> Result<(), NoMemory>
-    ensures { OnOk result (text.new ≡ text.old ++ counted.now ++ decimal count) }
-{
-    text.extend(counted)?;
-    let number = format!(in alloc; "{count}")?;
-    let added = text.extend(number.as_bytes());
-    drop(number);
-    added
 }

@@ -5,11 +5,9 @@ mod tank;
 
 use crate::tank::tanks;
 use golog_base::{FileFiles, OutSink};
-use golog_main::{NO_MEMORY, is_threaded, serve_inline};
+use golog_main::{NO_MEMORY, is_threaded, serve_inline, words_of};
 use golog_words::{WordsFault, order_of};
 use std::alloc::AllocError;
-use std::env;
-use std::io::ErrorKind;
 use std::process::ExitCode;
 
 /// The exit status where the words are none that are served here.
@@ -41,19 +39,4 @@ fn status(rt: &HostRuntime) -> Result<u8, AllocError> {
         Err(WordsFault::Memory) => Ok(NO_MEMORY),
         _ => Ok(WORDS_REFUSED),
     }
-}
-
-// The words after the program's name. Where one is not text there are none, which is no command either.
-fn words_of(rt: &HostRuntime) -> Result<Vec<String>, AllocError> {
-    let mut words = Vec::new(rt.alloc());
-    match env::args(rt) {
-        Ok(args) => {
-            for word in args.skip(1) {
-                words.push(word)?;
-            }
-        }
-        Err(error) if error.kind() == ErrorKind::OutOfMemory => return Err(AllocError),
-        Err(_) => {}
-    }
-    Ok(words)
 }

@@ -4,10 +4,8 @@ ghost use Rattle.golog_device.specs.Slots.{standings, FreshBelow};
 
 use golog_base::{Bytes, List, NoMemory};
 use golog_device::{Begun, Device, Idle, Served};
+use golog_main::DEVICES;
 use std::alloc::Global;
-
-/// How many devices the top call takes.
-const DEVICES: usize = 16;
 
 /// How many readings a tank can give: the text of each is made before the run.
 const READINGS: usize = 100;

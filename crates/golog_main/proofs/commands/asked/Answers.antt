@@ -3,8 +3,8 @@ use Rattle.golog_file.specs.declared.reading.Understood.{Understood}
 use Rattle.golog_main.specs.declared.outcome.Outcome.{Outcome}
 use Rattle.golog_main.specs.declared.outcome.Input.TheVariants.{Agent as AgentFile}
 use Rattle.golog_main.specs.Inputs.{SpellsBoth}
-use Rattle.golog_main.specs.Outcome.{FileFails, OfBoth, OfCondition, OfJournal, TruthOf}
-use Rattle.golog_main.proofs.OutcomeLemmas.{both-come, ends-so, file-comes}
+use Rattle.golog_main.specs.Outcome.{OfCondition, OfJournal, TruthOf}
+use Rattle.golog_main.proofs.OutcomeLemmas.{both-come, file-ends}
 use Rattle.golog_main.proofs.commands.asked.Goals as goal
 
 pub returns-in-Ok : goal.returns-in-Ok
@@ -21,5 +21,4 @@ returns-in-Err g c =
     let first = g.F.Files.faults c.args.files.now in
     let now = g.F.Files.faults c.understood_in.new.files in
     let next : Understood → Outcome → Type 0 = λ u. OfJournal held first now u.agent c.args.journal.now (λ told. OfCondition u.theory u.agent c.args.word.now (TruthOf u.agent told)) in
-    ends-so c.ended.result c.in-Err.unready (FileFails AgentFile IsFirstRefusal held c.args.name.now first now) (OfBoth held first now c.args.name.now next) c.ended.ensures.outcome
-    (file-comes AgentFile held c.args.name.now first now IsFirstRefusal SpellsBoth next) c.in-Err.ensures.unready
+    file-ends AgentFile held c.args.name.now first now IsFirstRefusal SpellsBoth next c.ended.result c.in-Err.unready c.ended.ensures.outcome c.in-Err.ensures.unready

@@ -2,8 +2,8 @@ use Rattle.golog_main.specs.declared.outcome.Outcome.{Outcome}
 use Rattle.golog_main.specs.declared.ready.Told.{Told}
 use Rattle.golog_main.specs.declared.outcome.Input.TheVariants.{Journal as JournalFile}
 use Rattle.golog_main.specs.Inputs.{RefusesJournal, SpellsJournal}
-use Rattle.golog_main.specs.Outcome.{FileFails, OfCondition, OfJournal, TruthOf}
-use Rattle.golog_main.proofs.OutcomeLemmas.{ends-so, file-comes, told-comes}
+use Rattle.golog_main.specs.Outcome.{OfCondition, TruthOf}
+use Rattle.golog_main.proofs.OutcomeLemmas.{file-ends, told-comes}
 use Rattle.golog_main.proofs.commands.asked_of.Goals as goal
 
 pub returns-in-Ok : goal.returns-in-Ok
@@ -15,10 +15,6 @@ returns-in-Ok g c =
 pub returns-in-Err : goal.returns-in-Err
 returns-in-Err g c =
     let u = c.args.understood.now in
-    let held = g.F.Files.held c.args.files.now in
-    let first = g.F.Files.faults c.args.files.now in
-    let now = g.F.Files.faults c.told_in.new.files in
-    let name = c.args.journal.now in
     let next : Told → Outcome → Type 0 = λ told. OfCondition u.theory u.agent c.args.word.now (TruthOf u.agent told) in
-    ends-so c.ended.result c.in-Err.unready (FileFails JournalFile (RefusesJournal u.agent) held name first now) (OfJournal held first now u.agent name next) c.ended.ensures.outcome
-    (file-comes JournalFile held name first now (RefusesJournal u.agent) (SpellsJournal u.agent) next) c.in-Err.ensures.unready
+    file-ends JournalFile (g.F.Files.held c.args.files.now) c.args.journal.now (g.F.Files.faults c.args.files.now) (g.F.Files.faults c.told_in.new.files)
+    (RefusesJournal u.agent) (SpellsJournal u.agent) next c.ended.result c.in-Err.unready c.ended.ensures.outcome c.in-Err.ensures.unready

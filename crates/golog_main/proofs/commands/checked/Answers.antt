@@ -5,8 +5,7 @@ use Rattle.std.specs.Prelude.{◌≡◌}
 use Rattle.golog_main.specs.declared.outcome.Input.TheVariants.{Agent as AgentFile}
 use Rattle.golog_main.specs.declared.outcome.Outcome.{Outcome}
 use Rattle.golog_main.specs.declared.outcome.Outcome.TheVariants.{Checked}
-use Rattle.golog_main.specs.Outcome.{FileFails, OfAgent}
-use Rattle.golog_main.proofs.OutcomeLemmas.{agent-comes, ends-so, file-comes}
+use Rattle.golog_main.proofs.OutcomeLemmas.{agent-comes, file-ends}
 use Rattle.golog_main.proofs.commands.checked.Goals as goal
 
 pub returns-in-Ok : goal.returns-in-Ok
@@ -20,5 +19,4 @@ returns-in-Err g c =
     let first = g.F.Files.faults c.args.files.now in
     let now = g.F.Files.faults c.agent_in.new.files in
     let next : Agent → Outcome → Type 0 = λ agent outcome. outcome ≡ Checked (check_text agent) in
-    ends-so c.ended.result c.in-Err.unready (FileFails AgentFile IsFirstRefusal held c.args.name.now first now) (OfAgent held first now c.args.name.now next) c.ended.ensures.outcome
-    (file-comes AgentFile held c.args.name.now first now IsFirstRefusal SpellsAgent next) c.in-Err.ensures.unready
+    file-ends AgentFile held c.args.name.now first now IsFirstRefusal SpellsAgent next c.ended.result c.in-Err.unready c.ended.ensures.outcome c.in-Err.ensures.unready

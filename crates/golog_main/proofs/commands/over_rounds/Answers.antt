@@ -1,6 +1,5 @@
 use Rattle.std.proofs.Common.{true, refl}
 use Rattle.std.specs.Prelude.{option_map}
-use Rattle.golog_device.specs.Slots.{standings}
 use Rattle.golog_main.specs.Outcome.{outside}
 use Rattle.golog_main.proofs.Reporting.{runs-reported, unready-nothing, unready-reported}
 use Rattle.golog_main.proofs.commands.over_rounds.Goals as goal
@@ -10,27 +9,17 @@ run_in_rounds-status-requires-clause-texts g c = rw c.as_slice.ensures c.in-Ok.e
 
 pub returns-in-Ok-clause-reported : goal.returns-in-Ok-clause-reported
 returns-in-Ok-clause-reported g c =
-    let stand = standings g.D.Device.fresh g.D.Device.meaning in
-    let files = c.args.files.now in
-    let read = c.ready_in.new.files in
-    let out = c.args.out.now in
-    let written = c.run_in_rounds-status.new.out in
-    runs-reported
-    (outside (g.F.Files.held files) (g.F.Files.faults files) (g.K.Sink.taken out) (g.K.Sink.faults out) (stand c.args.devices.now))
-    (outside (g.F.Files.held read) (g.F.Files.faults read) (g.K.Sink.taken written) (g.K.Sink.faults written) (stand c.run_in_rounds-status.new.devices))
+    let means = outside g.F.Files.held g.F.Files.faults g.K.Sink.taken g.K.Sink.faults g.D.Device.fresh g.D.Device.meaning in
+    runs-reported (means c.args.files.now c.args.out.now c.args.devices.now)
+    (means c.ready_in.new.files c.run_in_rounds-status.new.out c.run_in_rounds-status.new.devices)
     c.args.agent.now (option_map (λ name. name.now) c.args.named) true c.in-Ok.ready c.in-Ok.ensures.ready c.run_in_rounds-status.result
     (rw c.as_slice.ensures at c.run_in_rounds-status.ensures.written)
 
 pub returns-in-Err-clause-reported : goal.returns-in-Err-clause-reported
 returns-in-Err-clause-reported g c =
-    let stand = standings g.D.Device.fresh g.D.Device.meaning in
-    let files = c.args.files.now in
-    let read = c.ready_in.new.files in
-    let out = c.args.out.now in
-    let written = c.report_unready.new.out in
-    unready-reported
-    (outside (g.F.Files.held files) (g.F.Files.faults files) (g.K.Sink.taken out) (g.K.Sink.faults out) (stand c.args.devices.now))
-    (outside (g.F.Files.held read) (g.F.Files.faults read) (g.K.Sink.taken written) (g.K.Sink.faults written) (stand c.args.devices.now))
+    let means = outside g.F.Files.held g.F.Files.faults g.K.Sink.taken g.K.Sink.faults g.D.Device.fresh g.D.Device.meaning in
+    unready-reported (means c.args.files.now c.args.out.now c.args.devices.now)
+    (means c.ready_in.new.files c.report_unready.new.out c.args.devices.now)
     c.args.agent.now (option_map (λ name. name.now) c.args.named) true c.in-Err.unready c.report_unready.result
     c.in-Err.ensures.unready refl c.report_unready.ensures
 

@@ -2,8 +2,8 @@ use Rattle.golog_tree.specs.declared.agent.Agent.{Agent}
 use Rattle.golog_file.specs.Spelled.{SpellsAgent, IsFirstRefusal}
 use Rattle.golog_main.specs.declared.outcome.Outcome.{Outcome}
 use Rattle.golog_main.specs.declared.outcome.Input.TheVariants.{Agent as AgentFile}
-use Rattle.golog_main.specs.Outcome.{FileFails, Judges, OfAgent, OfJournal}
-use Rattle.golog_main.proofs.OutcomeLemmas.{agent-comes, ends-so, file-comes, journal-since}
+use Rattle.golog_main.specs.Outcome.{Judges, OfJournal}
+use Rattle.golog_main.proofs.OutcomeLemmas.{agent-comes, file-ends, journal-since}
 use Rattle.golog_main.proofs.judged.replayed.Goals as goal
 
 pub returns-in-Ok : goal.returns-in-Ok
@@ -23,5 +23,4 @@ returns-in-Err g c =
     let first = g.F.Files.faults c.args.files.now in
     let now = g.F.Files.faults c.agent_in.new.files in
     let next : Agent → Outcome → Type 0 = λ agent. OfJournal held first now agent c.args.journal.now (Judges agent) in
-    ends-so c.ended.result c.in-Err.unready (FileFails AgentFile IsFirstRefusal held c.args.name.now first now) (OfAgent held first now c.args.name.now next) c.ended.ensures.outcome
-    (file-comes AgentFile held c.args.name.now first now IsFirstRefusal SpellsAgent next) c.in-Err.ensures.unready
+    file-ends AgentFile held c.args.name.now first now IsFirstRefusal SpellsAgent next c.ended.result c.in-Err.unready c.ended.ensures.outcome c.in-Err.ensures.unready
