@@ -129,6 +129,51 @@ fn asked_after_long(alloc: Global, file: &[u8], long: &Long<'_>, text: &[u8]) ->
     answer
 }
 
+/// The most bytes of a condition.
+const LIMIT: u32 = 1_048_576;
+
+/// These parts one after another, each so many times.
+fn repeated(alloc: Global, parts: &[(&[u8], u32)]) -> Result<Bytes, NoMemory> {
+    let mut text = Bytes::new(alloc);
+    for (part, times) in parts {
+        for _ in 0..*times {
+            text.extend(part)?;
+        }
+    }
+    Ok(text)
+}
+
+/// What comes of the condition of such parts.
+fn asked_in_parts(alloc: Global, parts: &[(&[u8], u32)]) -> Told {
+    let text = repeated(alloc, parts);
+    let answer = match &text {
+        Ok(text) => asked(alloc, SIGN, b"", text.as_slice()),
+        Err(_wanted) => Ok(None),
+    };
+    drop(text);
+    answer
+}
+
+// The most levels and bytes, and one more.
+#[test]
+fn conditions_above_their_limits_are_refused(rt: HostRuntime) {
+    let conditions: [(&[(&[u8], u32)], Told); 4] = [
+        (
+            &[(b"(not ", 127), (b"(lit 1)", 1), (b")", 127)],
+            Ok(Some(Truth::Yes)),
+        ),
+        (
+            &[(b"(not ", 128), (b"(lit 1)", 1), (b")", 128)],
+            Err((4, 128 * 5)),
+        ),
+        (&[(b"(lit 1)", 1), (b" ", LIMIT - 7)], Ok(Some(Truth::No))),
+        (&[(b"(lit 1)", 1), (b" ", LIMIT - 6)], Err((5, LIMIT))),
+    ];
+    for (parts, told) in conditions {
+        same(&rt, parts, asked_in_parts(rt.alloc(), parts), told);
+    }
+}
+
 #[test]
 fn conditions_have_their_truths(rt: HostRuntime) {
     let asks: [(&[u8], Truth); 6] = [

@@ -2,8 +2,8 @@ ghost use Rattle.std.specs.Prelude.{◌≤◌};
 ghost use Rattle.golog_semantics.specs.WellFormed.{WellFormed};
 
 use crate::asserting::same;
-use golog_base::NoMemory;
-use golog_check_text::check_text;
+use golog_base::{Bytes, NoMemory};
+use golog_check_text::{add_count, check_text};
 use golog_demo::{DemoFiles, demo_files};
 use golog_file::read_agent;
 use golog_script::scripts_of;
@@ -113,4 +113,32 @@ fn ground_things_are_counted(rt: HostRuntime) {
         (proc wait () nil) (main nil))";
     let line = b"ok fluents 5 actions 7 procedures 1 devices 1\n";
     same(&rt, "counts", file_has_line(rt.alloc(), file, line), true);
+}
+
+/// Whether a text is so once what is counted, and how many there are, is added to it.
+fn adds(
+    alloc: Global,
+    before: &[u8],
+    counted: &[u8],
+    count: usize,
+    wanted: &[u8],
+) -> Result<bool, NoMemory> {
+    let mut text = Bytes::copy_of(alloc, before)?;
+    add_count(&mut text, counted, count)?;
+    Ok(text.as_slice() == wanted)
+}
+
+#[test]
+fn counts_are_added(rt: HostRuntime) -> Result<(), NoMemory> {
+    let counts: [(&[u8], &[u8], usize, &[u8]); 4] = [
+        (b"", b"", 0, b"0"),
+        (b"", b"ok lamps ", 9, b"ok lamps 9"),
+        (b"ok lamps 9", b" bells ", 10, b"ok lamps 9 bells 10"),
+        (b"1", b"", usize::MAX, b"118446744073709551615"),
+    ];
+    for (before, counted, count, wanted) in counts {
+        let added = adds(rt.alloc(), before, counted, count, wanted)?;
+        same(&rt, wanted, added, true);
+    }
+    Ok(())
 }

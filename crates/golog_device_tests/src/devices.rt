@@ -3,6 +3,7 @@ ghost use Rattle.std.specs.Prelude.{◌≡◌, ◌≤◌, true, IfOk, length};
 ghost use Rattle.golog_device.specs.Devices.{still_fresh};
 
 use crate::asserting::same;
+use crate::turns::may_be_shared;
 use golog_base::{List, NoMemory, both};
 use golog_device::{Begun, Device, Idle, Served, TableDevice};
 use golog_script::ScriptDevice;
@@ -155,11 +156,6 @@ fn a_table_is_answered_past_the_room_for_texts(rt: HostRuntime) -> Result<(), No
 
 const SCRIPT: &[u8] = b"{\"answers\":[\"true\"],\"idle\":[\"knock\",\"rest\",\"close\"]}";
 
-/// A type that threads share and take.
-fn is_shared<T: Send + Sync>() -> bool {
-    true
-}
-
 #[test]
 fn a_script_is_followed(rt: HostRuntime) -> Result<(), NoMemory> {
     let mut device = ScriptDevice::new(rt.alloc())?;
@@ -168,7 +164,7 @@ fn a_script_is_followed(rt: HostRuntime) -> Result<(), NoMemory> {
     let words: [&[u8]; 4] = [b"knock", b"rest", b"close", b"close"];
     let told = (begun, goes_on(&mut device, &looks, &words));
     same(&rt, "script", told, (Begun::Ready, true));
-    same(&rt, "shared", is_shared::<ScriptDevice>(), true);
+    may_be_shared(&device);
     Ok(())
 }
 

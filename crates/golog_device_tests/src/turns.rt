@@ -49,7 +49,7 @@ fn has_seen(seat: &Seat<Counter>, count: u64)
 
 fn may_cross<T: Send>(_value: &T) {}
 
-fn may_be_shared<T: Send + Sync>(_value: &T) {}
+pub fn may_be_shared<T: Send + Sync>(_value: &T) {}
 
 // A lock is shared by threads, and a seat goes to one, whatever object that may go there lies in the lock.
 fn crosses_threads<O: Object + Send>(lock: &TurnLock<O>, seat: &Seat<O>, rest: &Rest<O>) {

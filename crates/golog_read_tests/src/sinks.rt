@@ -1,5 +1,5 @@
 use crate::asserting::same;
-use golog_base::{Failed, List, MemSink, NoMemory, OutSink, write_all};
+use golog_base::{Failed, List, MemSink, NoMemory, OutSink, put_reserved, write_all};
 use std::alloc::Global;
 
 /// A sink with room for so many bytes. The calls of these numbers fail.
@@ -35,6 +35,23 @@ fn a_sink_is_filled_and_fails_in_mid_stream(rt: HostRuntime) -> Result<(), NoMem
     same(&rt, "full", full(rt.alloc())?, [true, false, true]);
     let wanted = ([true, false, true], [true; 3]);
     same(&rt, "failing", failing(rt.alloc())?, wanted);
+    Ok(())
+}
+
+/// Whether a vector with room for three bytes has these once two, none and one are put there, and what room it has.
+fn filled(alloc: Global) -> Result<(bool, usize), NoMemory> {
+    let mut buffer = Vec::with_capacity(alloc, 3)?;
+    put_reserved(&mut buffer, b"ab");
+    put_reserved(&mut buffer, b"");
+    put_reserved(&mut buffer, b"c");
+    let told = (buffer.as_slice() == b"abc".as_slice(), buffer.capacity());
+    drop(buffer);
+    Ok(told)
+}
+
+#[test]
+fn room_that_is_reserved_is_filled(rt: HostRuntime) -> Result<(), NoMemory> {
+    same(&rt, "full", filled(rt.alloc())?, (true, 3));
     Ok(())
 }
 

@@ -5,6 +5,7 @@ ghost use Rattle.golog_device.specs.Slots.{standings, FreshBelow};
 use crate::calls::{Call, Setting, called_by, threaded_by};
 use golog_base::NoMemory;
 use golog_device::Device;
+use golog_main::DEVICES;
 use std::alloc::Global;
 use std::sync::Wait;
 use std::thread::Threads;
@@ -22,7 +23,7 @@ pub fn sixteen<D: Device, M: Maker<D>>(alloc: Global, maker: &M) -> Result<Vec<D
     ensures fresh { IfOk result (λ devices. FreshBelow 16 (standings D.fresh D.meaning devices.items)) }
 {
     let mut devices = Vec::new(alloc);
-    for slot in 0..16usize {
+    for slot in 0..DEVICES {
         let device = maker.device_at(alloc, slot)?;
         devices.push(device)?;
     }

@@ -4,9 +4,9 @@ use crate::agents::LAMP;
 use crate::asserting::same;
 use golog_base::{Boxed, NoMemory};
 use golog_file::read_agent;
-use golog_memo::{Nodes, Seen, is_same_prog};
+use golog_memo::{Nodes, Seen};
 use golog_progress::start;
-use golog_tree::{Agent, Prog};
+use golog_tree::{Agent, Prog, is_same_prog};
 use std::alloc::Global;
 
 /// The iteration of the empty program.

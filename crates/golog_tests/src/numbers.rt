@@ -6,7 +6,9 @@ use crate::agents::LIFT;
 use crate::asserting::same;
 use golog_file::read_agent;
 use golog_ground::read_action;
-use golog_tree::{Agent, Ground, action_no, action_of, fluent_no, fluent_of};
+use golog_tree::{
+    Agent, Ground, MOST_ARGS, action_no, action_of, args_count, fluent_no, fluent_of,
+};
 use std::alloc::Global;
 
 /// To turn the right door at level 1, the third level: two actions are built in, and `off` is before it too.
@@ -78,4 +80,45 @@ fn lift_is_numbered(alloc: Global) -> [bool; 2] {
 #[test]
 fn ground_things_are_numbered(rt: HostRuntime) {
     same(&rt, "lift", lift_is_numbered(rt.alloc()), [true; 2]);
+}
+
+/// The sorts of that agent: `bool` is built in, and no sort has the last number.
+const BOOL: u32 = 0;
+
+const LEVEL: u32 = 1;
+
+const DOOR: u32 = 2;
+
+const NO_SORT: u32 = 3;
+
+/// How many lists of arguments of these sorts there are.
+fn counts(agent: &Agent) -> [u32; 6]
+    requires { WellFormed agent.now }
+{
+    [
+        args_count(agent, &[]),
+        args_count(agent, &[BOOL]),
+        args_count(agent, &[DOOR, LEVEL]),
+        args_count(agent, &[LEVEL, LEVEL, LEVEL]),
+        args_count(agent, &[NO_SORT]),
+        args_count(agent, &[LEVEL, NO_SORT, DOOR]),
+    ]
+}
+
+/// The same of the agent of `LIFT`.
+fn lift_counts(alloc: Global) -> [u32; 6] {
+    let read = read_agent(alloc, LIFT);
+    let answer = match &read {
+        Ok(agent) => counts(agent),
+        Err(_fault) => [99; 6],
+    };
+    drop(read);
+    answer
+}
+
+#[test]
+fn arguments_are_counted(rt: HostRuntime) {
+    let wanted = [1, 2, 10, 125, 0, 0];
+    same(&rt, "lift", lift_counts(rt.alloc()), wanted);
+    same(&rt, "the most arguments", MOST_ARGS, 3);
 }

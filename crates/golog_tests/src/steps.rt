@@ -5,6 +5,7 @@ use crate::agents::LAMP;
 use crate::asserting::same;
 use golog_base::NoMemory;
 use golog_file::read_agent;
+use golog_memo::is_same_label;
 use golog_progress::{State, start};
 use golog_tree::{Agent, Label, Prog, Way};
 use golog_ways::first;
@@ -54,4 +55,20 @@ fn lamp_begins_by_switching(alloc: Global) -> bool {
 #[test]
 fn the_first_certain_step_is_found(rt: HostRuntime) {
     same(&rt, "lamp", lamp_begins_by_switching(rt.alloc()), true);
+}
+
+#[test]
+fn steps_of_one_kind_and_action_do_the_same(rt: HostRuntime) {
+    let labels = [
+        (Label::Quiet, Label::Quiet, true),
+        (Label::Quiet, Label::Do(0), false),
+        (Label::Do(0), Label::Quiet, false),
+        (Label::Do(0), Label::Do(0), true),
+        (Label::Do(7), Label::Do(8), false),
+        (Label::Do(0), Label::Do(u32::MAX), false),
+        (Label::Do(u32::MAX), Label::Do(u32::MAX), true),
+    ];
+    for (one, other, is_same) in labels {
+        same(&rt, (one, other), is_same_label(one, other), is_same);
+    }
 }

@@ -2,8 +2,9 @@ ghost use Rattle.golog_semantics.specs.WellFormed.{WellFormed};
 
 use crate::agents::LIFT;
 use crate::asserting::same;
+use golog_base::{NoMemory, Word};
 use golog_file::read_agent;
-use golog_ground::{action_text, constant_text, read_action, read_constant};
+use golog_ground::{action_text, constant_text, place_of_name, read_action, read_constant};
 use golog_tree::{Agent, sort_size};
 use std::alloc::Global;
 
@@ -113,4 +114,25 @@ fn constants_have_one_text(rt: HostRuntime) {
     for (sort, text, place) in texts {
         same(&rt, text, back(rt.alloc(), MOVES, Some(sort), text), place);
     }
+}
+
+// Each name with its first place among others.
+#[test]
+fn names_are_found_at_their_first_places(rt: HostRuntime) -> Result<(), NoMemory> {
+    let (Some(a), Some(ab), Some(c)) = (Word::of(b"a"), Word::of(b"ab"), Word::of(b"c")) else {
+        return Err(NoMemory);
+    };
+    let places: [(&[u8], Option<usize>); 6] = [
+        (b"a", Some(0)),
+        (b"ab", Some(1)),
+        (b"c", Some(3)),
+        (b"b", None),
+        (b"abc", None),
+        (b"", None),
+    ];
+    for (name, place) in places {
+        same(&rt, name, place_of_name(&[a, ab, a, c], name), place);
+    }
+    same(&rt, "no names", place_of_name(&[], b"a"), None);
+    Ok(())
 }

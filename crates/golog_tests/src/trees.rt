@@ -159,27 +159,21 @@ fn empty_parts_are_left_out(rt: HostRuntime) {
     );
 }
 
-/// A type that threads share and take.
-fn is_shared<T: Send + Sync>() -> bool {
-    true
-}
+/// Takes a type that threads share and take.
+fn may_be_shared<T: Send + Sync>() {}
 
-// An agent is a record of these lists and of a program.
-#[test]
-fn threads_share_agents_and_states(rt: HostRuntime) {
-    let shared = [
-        is_shared::<List<SortItem>>(),
-        is_shared::<List<FluentItem>>(),
-        is_shared::<List<ActionItem>>(),
-        is_shared::<Firsts>(),
-        is_shared::<List<Word>>(),
-        is_shared::<List<u8>>(),
-        is_shared::<List<PossItem>>(),
-        is_shared::<List<CauseItem>>(),
-        is_shared::<List<SenseItem>>(),
-        is_shared::<List<ProcItem>>(),
-        is_shared::<Prog>(),
-        is_shared::<State>(),
-    ];
-    same(&rt, "shared", shared, [true; 12]);
+// Threads share agents and states: an agent is a record of these lists and of a program.
+fn cross_threads() {
+    may_be_shared::<List<SortItem>>();
+    may_be_shared::<List<FluentItem>>();
+    may_be_shared::<List<ActionItem>>();
+    may_be_shared::<Firsts>();
+    may_be_shared::<List<Word>>();
+    may_be_shared::<List<u8>>();
+    may_be_shared::<List<PossItem>>();
+    may_be_shared::<List<CauseItem>>();
+    may_be_shared::<List<SenseItem>>();
+    may_be_shared::<List<ProcItem>>();
+    may_be_shared::<Prog>();
+    may_be_shared::<State>();
 }

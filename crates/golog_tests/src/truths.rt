@@ -1,37 +1,61 @@
-ghost use Rattle.std.specs.Prelude.{IsTrue};
+ghost use Rattle.std.specs.Prelude.{◌≡◌, IsTrue, length};
+ghost use Rattle.golog_tree.specs.Ground.{IsCountable, ground_fluents};
 ghost use Rattle.golog_semantics.specs.Fits.{cond_fits, nothing_bound};
 ghost use Rattle.golog_semantics.specs.WellFormed.{WellFormed};
+ghost use Rattle.golog_known.specs.Fits.{CondFitsAt};
 ghost use Rattle.golog_file.specs.Conditions.{CondsStayKept};
 
 use crate::agents::LAMPS;
 use crate::asserting::same;
 use golog_base::NoMemory;
 use golog_file::{Understood, read_condition, read_theory_and_agent};
-use golog_known::{Env, value};
+use golog_known::{Env, UNKNOWN, term, value};
 use golog_progress::start;
-use golog_tree::{Agent, Cond, Truth};
+use golog_tree::{Agent, Arg, Cond, Truth};
 use std::alloc::Global;
 
-/// The truth of a condition where the agent starts.
+/// The truth of a condition, and the values of both sides where it is an equation.
+type Told = (Truth, Option<[u8; 2]>);
+
+/// The values of both sides of an equation.
+fn sides(agent: &Agent, cond: &Cond, env: &Env, values: &[u8]) -> Option<[u8; 2]>
+    requires countable { IsCountable agent.now }
+    requires fits { CondFitsAt agent.now cond.now env.now }
+    requires whole { length values.now ≡ length (ground_fluents agent.now) }
+{
+    match cond {
+        Cond::Equal { one, other, .. } => Some([
+            term(agent, one, env, values),
+            term(agent, other, env, values),
+        ]),
+        _ => None,
+    }
+}
+
+/// What is told of a condition where the agent starts.
 #[tactic(auto, using(crate::proofs::Evaluated::evaluated))]
-fn truth_at_start(alloc: Global, agent: &Agent, cond: &Cond) -> Option<Truth>
+fn told_at_start(alloc: Global, agent: &Agent, cond: &Cond) -> Option<Told>
     requires formed { WellFormed agent.now }
     requires fits { IsTrue (cond_fits agent.now cond.now nothing_bound) }
 {
     match start(alloc, agent) {
-        Ok(state) => Some(value(agent, cond, &Env::new(), state.values())),
+        Ok(state) => {
+            let (env, values) = (Env::new(), state.values());
+            let truth = value(agent, cond, &env, values);
+            Some((truth, sides(agent, cond, &env, values)))
+        }
         Err(NoMemory) => None,
     }
 }
 
 /// That of the condition that a text spells, if it spells one.
-fn truth_of_text(alloc: Global, understood: &Understood, text: &[u8]) -> Option<Truth>
+fn told_of_text(alloc: Global, understood: &Understood, text: &[u8]) -> Option<Told>
     requires formed { WellFormed understood.now.agent }
     requires kept { CondsStayKept understood.now.theory understood.now.agent }
 {
     let read = read_condition(alloc, &understood.theory, &understood.agent, text);
     let answer = match &read {
-        Ok(cond) => truth_at_start(alloc, &understood.agent, cond),
+        Ok(cond) => told_at_start(alloc, &understood.agent, cond),
         Err(_fault) => None,
     };
     drop(read);
@@ -39,14 +63,20 @@ fn truth_of_text(alloc: Global, understood: &Understood, text: &[u8]) -> Option<
 }
 
 /// The same over the agent that a file spells.
-fn truth_of(alloc: Global, file: &[u8], text: &[u8]) -> Option<Truth> {
+fn told_of(alloc: Global, file: &[u8], text: &[u8]) -> Option<Told> {
     let read = read_theory_and_agent(alloc, file);
     let answer = match &read {
-        Ok(understood) => truth_of_text(alloc, understood, text),
+        Ok(understood) => told_of_text(alloc, understood, text),
         Err(_fault) => None,
     };
     drop(read);
     answer
+}
+
+/// The truth alone.
+fn truth_of(alloc: Global, file: &[u8], text: &[u8]) -> Option<Truth> {
+    let (truth, _sides) = told_of(alloc, file, text)?;
+    Some(truth)
 }
 
 #[test]
@@ -156,4 +186,37 @@ fn binders_go_over_all_constants(rt: HostRuntime) {
     for (text, truth) in conditions {
         same(&rt, text, truth_of(rt.alloc(), HOUSE, text), Some(truth));
     }
+}
+
+// Constants, fluents, and numbers that are moved, up to the ends of their sort and from an unknown one.
+#[test]
+fn terms_have_values(rt: HostRuntime) {
+    let equations: [(&[u8], Truth, Option<[u8; 2]>); 6] = [
+        (b"(= (cellar) 3)", Truth::No, Some([0, 3])),
+        (b"(= (attic) (hall))", Truth::No, Some([3, 1])),
+        (b"(= (+ (study) 1) (+ (study) 2))", Truth::Yes, Some([3, 3])),
+        (b"(= (- (hall) 1) (- (hall) 2))", Truth::Yes, Some([0, 0])),
+        (b"(= (cat) 2)", Truth::Unknown, Some([UNKNOWN, 2])),
+        (b"(open)", Truth::Yes, None),
+    ];
+    for (text, truth, sides) in equations {
+        same(
+            &rt,
+            text,
+            told_of(rt.alloc(), HOUSE, text),
+            Some((truth, sides)),
+        );
+    }
+}
+
+// The values of the first variable, of the last, of one that was not set, of none, and of a constant.
+#[test]
+fn variables_are_set_one_by_one(rt: HostRuntime) {
+    let env = Env::new().with(0, 7).with(31, 255);
+    let later = env.with(0, 0);
+    let ends = [Arg::Var(0), Arg::Var(31)];
+    let others = [Arg::Var(1), Arg::Var(32), Arg::Const(9)];
+    same(&rt, "set", env.arg_values(&ends), [7, 255, 0]);
+    same(&rt, "not set", env.arg_values(&others), [0, 0, 9]);
+    same(&rt, "set again", later.arg_values(&ends), [0, 255, 0]);
 }

@@ -1,3 +1,4 @@
+mod FirstTurns
 mod Looking
 mod Posting
 mod Starting

@@ -1,1 +1,2 @@
+pub mod EmptyScripts
 pub mod Looking

@@ -5,9 +5,11 @@ ghost use Rattle.golog_semantics.specs.WellFormed.{WellFormed};
 
 use crate::asserting::same;
 use crate::runs::agent_of;
-use golog_base::NoMemory;
-use golog_journal::{Answer, Board, Commit, Entry, Item, Journal, Posted, Reason};
-use golog_tree::Agent;
+use golog_base::{List, NoMemory};
+use golog_journal::{
+    Answer, Board, Commit, DEVICES, Entry, Item, Journal, Posted, Reason, sense_for,
+};
+use golog_tree::{Agent, SenseItem};
 use std::alloc::Global;
 
 const AGENT: &[u8] = b"(agent (device panel) (device lift) (fluent opened () bool)
@@ -73,9 +75,10 @@ fn test_at(journal: &mut Journal, at: u32) -> Commit
 }
 
 // Ends a journal that has no entry.
-fn end(journal: &mut Journal)
+pub(crate) fn end(journal: &mut Journal)
     requires { journal.old.entries ≡ [] }
     ensures ended { journal.new.entries ≡ Entry.End Answer.Done ∷ [] }
+    ensures agent { journal.new.agent ≡ journal.old.agent }
     ensures devices { length journal.new.agent.devices ≡ length journal.old.agent.devices }
 {
     journal.commit(
@@ -169,12 +172,95 @@ fn devices_are_closed_after_the_end(rt: HostRuntime) {
     same(&rt, "late", posted, wanted);
 }
 
-/// A type that threads share and take.
-fn is_shared<T: Send + Sync>() -> bool {
-    true
+// Whether entries stand from a place on, in a journal without an entry or with one.
+fn has_more(alloc: Global, has_one: bool, since: u32) -> Option<bool> {
+    let mut journal = new_journal(alloc)?;
+    if has_one {
+        first(&mut journal, PANEL, Item::Rest);
+    }
+    let more = journal.has_more(since);
+    drop(journal);
+    Some(more)
 }
 
 #[test]
-fn threads_share_journals(rt: HostRuntime) {
-    same(&rt, "shared", is_shared::<Journal>(), true);
+fn entries_stand_from_their_places_on(rt: HostRuntime) {
+    let places = [
+        (false, 0, false),
+        (false, u32::MAX, false),
+        (true, 0, true),
+        (true, 1, false),
+        (true, u32::MAX, false),
+    ];
+    for (has_one, since, more) in places {
+        let told = has_more(rt.alloc(), has_one, since);
+        same(&rt, (has_one, since), told, Some(more));
+    }
+}
+
+// An item of sensing, of an action and a fluent without arguments.
+fn sensing(alloc: Global, action: u32, fluent: u32) -> SenseItem {
+    SenseItem {
+        action,
+        fluent,
+        args: List::new(alloc),
+    }
+}
+
+// The fluent of the first item for an action, among two for the action 4 and one for 5.
+fn fluent_for(alloc: Global, action: u32) -> Option<u32> {
+    let senses = [
+        sensing(alloc, 4, 1),
+        sensing(alloc, 5, 2),
+        sensing(alloc, 4, 3),
+    ];
+    let fluent = match sense_for(&senses, action) {
+        Some(sense) => Some(sense.fluent),
+        None => None,
+    };
+    drop(senses);
+    fluent
+}
+
+#[test]
+fn the_first_item_for_an_action_is_found(rt: HostRuntime) {
+    let fluents = [(4, Some(1)), (5, Some(2)), (0, None), (6, None)];
+    for (action, fluent) in fluents {
+        same(&rt, action, fluent_for(rt.alloc(), action), fluent);
+    }
+    same(&rt, "no items", sense_for(&[], 4).is_none(), true);
+}
+
+// How many devices the agent of a file has.
+fn device_count(alloc: Global, file: &[u8]) -> Option<usize> {
+    match agent_of(alloc, file) {
+        Some(agent) => {
+            let count = agent.devices.len();
+            drop(agent);
+            Some(count)
+        }
+        None => None,
+    }
+}
+
+#[test]
+fn an_agent_has_so_many_devices_at_most(rt: HostRuntime) {
+    let most =
+        b"(agent (device a) (device b) (device c) (device d) (device e) (device f) (device g) (device h)
+        (device i) (device j) (device k) (device l) (device m) (device n) (device o) (device p) (main nil))";
+    let more =
+        b"(agent (device a) (device b) (device c) (device d) (device e) (device f) (device g) (device h)
+        (device i) (device j) (device k) (device l) (device m) (device n) (device o) (device p) (device q)
+        (main nil))";
+    same(&rt, "most", device_count(rt.alloc(), most), Some(DEVICES));
+    same(&rt, "more", device_count(rt.alloc(), more), None);
+    same(&rt, "as many", DEVICES, 16);
+}
+
+/// Takes a type that threads share and take.
+fn may_be_shared<T: Send + Sync>() {}
+
+// Threads share journals.
+fn crosses_threads() {
+    may_be_shared::<Journal>();
 }

@@ -5,6 +5,8 @@
 #[cfg(test)]
 mod asserting;
 #[cfg(test)]
+mod begins;
+#[cfg(test)]
 mod journals;
 #[cfg(test)]
 mod meeting;
@@ -12,5 +14,7 @@ mod meeting;
 mod posts;
 #[cfg(test)]
 mod runs;
+#[cfg(test)]
+mod turns;
 #[cfg(test)]
 mod written;

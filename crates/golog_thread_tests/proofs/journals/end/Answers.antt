@@ -9,5 +9,8 @@ commit-requires-clause-allowed c = end-may c.args.journal.now.agent c.args.journ
 pub returns-clause-ended : goal.returns-clause-ended
 returns-clause-ended c = end-committed c.args.journal.now.agent c.commit.result _ _ c.commit.ensures refl c.requires
 
+pub returns-clause-agent : goal.returns-clause-agent
+returns-clause-agent c = c.commit.ensures.agent
+
 pub returns-clause-devices : goal.returns-clause-devices
 returns-clause-devices c = ap (λ (a : Agent). length a.devices) c.commit.ensures.agent
