@@ -70,6 +70,17 @@ fn before(alloc: Global, agent: &Agent, cond: &Cond, entry: Entry) -> Result<Con
     }
 }
 
+/// The condition taken back over one entry, in place of it.
+fn stepped(alloc: Global, agent: &Agent, cond: Cond, entry: Entry) -> Result<Cond, NoMemory>
+    requires agent { WellFormed agent.now }
+    requires entry { EntryFits agent.now entry }
+    ensures { IfOk result (λ answer. IsRegressed agent.now (events_of (entry ∷ [])) cond answer) }
+{
+    let answer = before(alloc, agent, &cond, entry);
+    drop(cond);
+    answer
+}
+
 /// The condition taken back over the entries, from the last of them on, while it is not too large. It is
 /// taken back as it stands over entries that change nothing that it reads.
 pub fn taken_back(
@@ -87,7 +98,7 @@ pub fn taken_back(
     let mut left = up_to_change(agent, cond, entries);
     let mut earlier = copy_cond(alloc, cond)?;
     while left > 0 && nodes(&earlier) <= MOST_NODES {
-        earlier = before(alloc, agent, &earlier, entries[left - 1])?;
+        earlier = stepped(alloc, agent, earlier, entries[left - 1])?;
         left = up_to_change(agent, &earlier, &entries[..left - 1]);
     }
     Ok(Earlier {

@@ -2,7 +2,6 @@ ghost use Rattle.std.specs.Prelude.{◌≡◌, IfOk};
 
 use crate::NoMemory;
 use std::alloc::Global;
-use std::hash::{Hash, Hasher};
 use std::marker::Model;
 use std::sync::Arc;
 
@@ -62,14 +61,4 @@ impl<T: PartialEq> PartialEq for Boxed<T> {
 
 impl<T: Eq> Eq for Boxed<T> {
     ghost laws = { T.Eq.laws };
-}
-
-impl<T: Hash> Hash for Boxed<T> {
-    ghost hash_input = { T.hash_input };
-
-    ghost respects_eq = { T.respects_eq };
-
-    fn hash<H: Hasher>(&self, state: &mut H) {
-        self.get().hash(state)
-    }
 }

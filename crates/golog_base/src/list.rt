@@ -3,7 +3,6 @@ ghost use Rattle.std.specs.Option.{option_copied};
 
 use crate::NoMemory;
 use std::alloc::Global;
-use std::hash::{Hash, Hasher};
 use std::marker::Model;
 
 /// A list that keeps the allocator of its making. Contracts see it as the list of its items.
@@ -141,16 +140,4 @@ impl<T: Eq> Eq for List<T> {
     ghost use Rattle.std.specs.Cmp.Lexicographic.{lists_equiv};
 
     ghost laws = { lists_equiv T.Eq.laws };
-}
-
-impl<T: Hash> Hash for List<T> {
-    ghost use Rattle.std.specs.Hash.{slice, items_Alike};
-
-    ghost hash_input = { slice T.hash_input };
-
-    ghost respects_eq = { (items_Alike (record { fed = T.respects_eq })).fed };
-
-    fn hash<H: Hasher>(&self, state: &mut H) {
-        self.as_slice().hash(state)
-    }
 }

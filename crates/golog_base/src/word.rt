@@ -3,7 +3,6 @@ ghost use Rattle.std.specs.List.{list_all};
 ghost use Rattle.std.specs.Option.{SomeIff};
 ghost use Rattle.golog_base.specs.Names.{IsWord, begins_name as spec_begins, continues_name as spec_continues, is_name as spec_is_name};
 
-use std::hash::{Hash, Hasher};
 use std::marker::Model;
 
 /// The most bytes of a `Word`.
@@ -85,20 +84,6 @@ impl Eq for Word {
     ghost use Rattle.std.specs.Cmp.Rules.{comparing};
 
     ghost laws = { Prim.search (comparing, rules) };
-}
-
-impl Hash for Word {
-    ghost use Rattle.std.proofs.Common.{rules};
-    ghost use Rattle.std.specs.Cmp.Rules.{hashing};
-    ghost use Rattle.std.specs.Hash.{slice, u8 as byte_input};
-
-    ghost hash_input = { slice byte_input };
-
-    ghost respects_eq = { Prim.search (hashing, rules) };
-
-    fn hash<H: Hasher>(&self, state: &mut H) {
-        self.as_bytes().hash(state)
-    }
 }
 
 /// Whether the bytes are a name: a letter or `_`, and then letters, digits, `_` and `-`, any number of them.

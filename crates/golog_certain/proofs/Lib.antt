@@ -1,4 +1,3 @@
-pub mod Known
 pub mod Members
 pub mod CertainRuns
 pub mod WrittenLaws

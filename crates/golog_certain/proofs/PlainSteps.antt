@@ -14,7 +14,7 @@ use Rattle.golog_semantics.specs.World.{Refines}
 use Rattle.golog_certain.specs.WorldLaws.{MayStep, StepsAreSo}
 use Rattle.golog_semantics.proofs.Among.{among-contains, contains-among}
 use Rattle.golog_semantics.proofs.StepsInModes.{any_block, any_goes}
-use Rattle.golog_certain.proofs.Known.{known_is_so}
+use Rattle.golog_semantics.proofs.Known.{known_is_so}
 use Rattle.golog_certain.proofs.Viewed.{as_it_is}
 use Rattle.golog_certain.proofs.WorldSteps.{BlocksAreSo, Offers, certain_end, certain_so, possible_end, possible_so}
 

@@ -24,7 +24,7 @@ use Rattle.golog_semantics.proofs.ClosedFits.{Closed}
 use Rattle.golog_semantics.proofs.LeftFits.{procs_fit}
 use Rattle.golog_certain.proofs.BodiesPlain.{bodies_stay, body_plain}
 use Rattle.golog_certain.proofs.FittingParts.{fitting, fitting_goes}
-use Rattle.golog_certain.proofs.Known.{known_is_so}
+use Rattle.golog_semantics.proofs.Known.{known_is_so}
 use Rattle.golog_certain.proofs.PlainSteps.{plain_steps_so}
 use Rattle.golog_certain.proofs.Viewed.{View, written_plainly}
 use Rattle.golog_certain.proofs.WorldRuns.{block_so}

@@ -11,7 +11,7 @@ use Rattle.golog_tree.specs.Ground.{Ground, ground_fluents, ground_actions}
 use Rattle.golog_semantics.specs.Truth.{Values, env_of}
 use Rattle.golog_semantics.specs.Values.{cause_for, value_caused, value_by_causes, after_if, after_do, after}
 use Rattle.golog_semantics.specs.World.{Refines}
-use Rattle.golog_certain.proofs.Known.{SoValue, so-chosen, truth_stays, value_stays}
+use Rattle.golog_semantics.proofs.Known.{SoValue, so-chosen, truth_stays, value_stays}
 
 -- a value known in the first list is the same in the second
 so-mapped : {A : Type 0} (f g : A → ℕ) → ((x : A) → SoValue (f x) (g x)) → (xs : List A) (k : ℕ) → SoValue (slice_index (map f xs) k) (slice_index (map g xs) k)

@@ -21,7 +21,7 @@ use Rattle.golog_semantics.specs.Program.{put_arg, body_of}
 use Rattle.golog_semantics.specs.Ways.{left_in, only_if, is_empty, is_not, final_step, final_to, moves_step, moves_to}
 use Rattle.golog_semantics.specs.Search.{no_blocks}
 use Rattle.golog_semantics.specs.World.{Refines}
-use Rattle.golog_certain.proofs.Known.{So, so-not, truth_stays}
+use Rattle.golog_semantics.proofs.Known.{So, so-not, truth_stays}
 use Rattle.golog_semantics.proofs.Words.{and-left, and-right, and-both}
 use Rattle.golog_semantics.proofs.Among.{Among, among-left, among-right, among-either, among-map, map-among, among-flat, flat-among, among-any, any-among}
 

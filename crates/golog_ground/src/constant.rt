@@ -12,14 +12,14 @@ use golog_base::Word;
 use golog_tree::{Agent, SortItem};
 use itoa::Buffer;
 
-// Writes a constant of a sort, by its position, behind what is written.
-pub(crate) fn push_constant(text: &mut ActionText, agent: &Agent, sort: u32, value: u8)
-    requires within { value < sort_size agent.now sort }
+// Writes a constant of an item, by its position, behind what is written.
+fn push_in(text: &mut ActionText, item: &SortItem, value: u8)
+    requires within { value < item_size item.now }
     requires room { length text.old + 31 ≤ 128 }
-    ensures written { text.new ≡ text.old ++ spec_constant_text agent.now sort value }
+    ensures written { text.new ≡ text.old ++ constant_in item.now value }
     ensures short { length text.new ≤ length text.old + 31 }
 {
-    match &agent.sorts.as_slice()[sort as usize] {
+    match item {
         SortItem::Range { low, .. } => {
             let mut buffer = Buffer::new();
             let number = i64::from(*low) + i64::from(value);
@@ -29,6 +29,16 @@ pub(crate) fn push_constant(text: &mut ActionText, agent: &Agent, sort: u32, val
             text.push_all(constants.as_slice()[value as usize].as_bytes());
         }
     }
+}
+
+// Writes a constant of a sort, by its position, behind what is written.
+pub(crate) fn push_constant(text: &mut ActionText, agent: &Agent, sort: u32, value: u8)
+    requires within { value < sort_size agent.now sort }
+    requires room { length text.old + 31 ≤ 128 }
+    ensures written { text.new ≡ text.old ++ spec_constant_text agent.now sort value }
+    ensures short { length text.new ≤ length text.old + 31 }
+{
+    push_in(text, &agent.sorts.as_slice()[sort as usize], value)
 }
 
 /// The text of a constant of a sort, by its position: a name, or a whole number with a sign only below 0.

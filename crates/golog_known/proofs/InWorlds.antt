@@ -7,7 +7,7 @@ use Rattle.golog_tree.specs.declared.cond.Term.{Term}
 use Rattle.golog_tree.specs.declared.cond.Truth.{Truth}
 use Rattle.golog_tree.specs.declared.cond.Truth.TheVariants.{Yes, No}
 use Rattle.golog_semantics.specs.Truth.{Env, Values, is_known, truth_of, value_of}
-use Rattle.golog_certain.proofs.Known.{known_is_so}
+use Rattle.golog_semantics.proofs.Known.{known_is_so}
 use Rattle.golog_known.specs.InWorlds.{IsTruthInEach, IsValueInEach}
 
 module _ (agent : Agent) (values : Values) where

@@ -1,3 +1,2 @@
 mod Numbers
 mod Pairs
-pub mod SamePrograms

@@ -64,20 +64,18 @@ ok-then (Ok a) h e = h
 ok-then (Err x) h e = absurd (cc)
 
 -- the last program stands at the number of those before it
-pub stands-last : (progs more : List Prog) (prog copy : Prog) (number : ℕ) → copy ≡ prog → more ≡ progs ++ copy ∷ [] → number ≡ length progs → slice_get more number ≡ Some prog
-stands-last progs more prog copy number copied pushed last =
-    (λ i. slice_get (pushed i) (last i)) ∙ slice_get-right progs (copy ∷ []) (length progs) 0 (omega arith) ∙ ap Some copied
+pub stands-last : (progs more : List Prog) (prog : Prog) (number : ℕ) → more ≡ progs ++ prog ∷ [] → number ≡ length progs → slice_get more number ≡ Some prog
+stands-last progs more prog number pushed last =
+    (λ i. slice_get (pushed i) (last i)) ∙ slice_get-right progs (prog ∷ []) (length progs) 0 (omega arith)
 
--- one more program, whose copy is the key
-pub numbered_next : {S A E : Type 0} (progs more : List Prog) (old new : HashMap Prog ℕ S) (prog key copy : Prog) (number : ℕ) (result : Result A E) → AreNumbered progs old
-    → key ≡ prog → copy ≡ prog → more ≡ progs ++ copy ∷ [] → number ≡ length progs → number_in old key ≡ None → is_err result ≡ false
-    → OnOk result (Updates same old new key (Some number)) → AreNumbered more new
-numbered_next progs more old new prog key copy number result h keyed copied pushed last absent ok updates =
-    let is : key ≡ copy = keyed ∙ sym copied in
+-- one more program, which had no number
+pub numbered_next : {S A E : Type 0} (progs more : List Prog) (old new : HashMap Prog ℕ S) (prog : Prog) (number : ℕ) (result : Result A E) → AreNumbered progs old
+    → more ≡ progs ++ prog ∷ [] → number ≡ length progs → number_in old prog ≡ None → is_err result ≡ false
+    → OnOk result (Updates same old new prog (Some number)) → AreNumbered more new
+numbered_next progs more old new prog number result h pushed last absent ok updates =
     let changed = ok-then result updates ok in
     subst (λ ps. AreNumbered ps new) (sym pushed)
-    (numbered_more progs old new copy h (ap (number_in old) (sym is) ∙ absent)
-    (λ q. changed.0 q ∙ (λ i. cond (same (is i) q) (Some (last i)) (number_in old q))))
+    (numbered_more progs old new prog h absent (λ q. changed.0 q ∙ (λ i. cond (same prog q) (Some (last i)) (number_in old q))))
 
 -- what is left of a list once the program is taken that was put behind it
 pub popped : (progs more left : List Prog) (copy : Prog) (count : ℕ) → more ≡ progs ++ copy ∷ [] → count ≡ length more → left ≡ take (count - 1) more → left ≡ progs

@@ -1,6 +1,8 @@
 //! Programs by numbers, and pairs of a program and a state that were seen.
 #![tactic(auto)]
 
+mod code;
+mod key;
 mod labels;
 mod nodes;
 mod seen;

@@ -1,6 +1,8 @@
-ghost use Rattle.std.specs.Prelude.{◌≡◌, ◌<◌, [], IfOk, OnOk, OnErr, Some, length, slice_get};
-ghost use Rattle.golog_memo.specs.Numbered.{AreOnce, IsAddedTo};
+ghost use Rattle.std.specs.Prelude.{◌≡◌, ◌<◌, ◌++◌, ◌∷◌, [], IfOk, OnOk, OnErr, Some, length, slice_get};
+ghost use Rattle.golog_memo.specs.Numbered.{AreOnce, IsAddedTo, number_in, same};
+ghost use Rattle.std.specs.HashMap.{IsUnchanged, Updates};
 
+use crate::key::Key;
 use golog_base::NoMemory;
 use golog_tree::{Prog, copy_prog};
 use std::alloc::Global;
@@ -13,7 +15,7 @@ use std::marker::Model;
 pub struct Nodes {
     alloc: Global,
     progs: Vec<Prog>,
-    numbers: HashMap<Prog, u64>,
+    numbers: HashMap<Key, u64>,
 }
 
 impl Model for Nodes {
@@ -30,6 +32,44 @@ impl Model for Nodes {
     ghost view = { λ nodes. nodes.progs.items };
 
     ghost invariant = { λ nodes. AreNumbered nodes.progs.items nodes.numbers };
+}
+
+/// The number of the program, where it has one.
+fn number_of(
+    alloc: Global,
+    numbers: &HashMap<Key, u64>,
+    prog: &Prog,
+) -> Result<Option<u64>, NoMemory>
+    ensures { IfOk result (λ found. found ≡ number_in numbers.now prog.now) }
+{
+    let key = Key::of(alloc, prog)?;
+    let found = numbers.get(&key).copied();
+    drop(key);
+    Ok(found)
+}
+
+/// Gives the program the number. After `NoMemory` the numbers are as before.
+fn insert_number(
+    alloc: Global,
+    numbers: &mut HashMap<Key, u64>,
+    prog: &Prog,
+    number: u64,
+) -> Result<(), NoMemory>
+    ensures updates { OnOk result (Updates same numbers.old numbers.new prog.now (Some number)) }
+    ensures err { OnErr result (IsUnchanged numbers.old numbers.new) }
+{
+    let key = Key::of(alloc, prog)?;
+    numbers.insert(key, number)?;
+    Ok(())
+}
+
+/// Adds a copy of the program. After `NoMemory` the programs are as before.
+fn push_copy(alloc: Global, progs: &mut Vec<Prog>, prog: &Prog) -> Result<(), NoMemory>
+    ensures added { OnOk result (progs.new.items ≡ progs.old.items ++ prog.now ∷ []) }
+    ensures err { OnErr result (progs.new.items ≡ progs.old.items) }
+{
+    progs.push(copy_prog(alloc, prog)?)?;
+    Ok(())
 }
 
 impl Nodes {
@@ -52,14 +92,13 @@ impl Nodes {
         ensures ok { OnOk result (IsAddedTo self.old prog.now self.new) }
         ensures err { OnErr result (self.new ≡ self.old) }
     {
-        if let Some(number) = self.numbers.get(prog) {
-            return Ok(*number);
+        if let Some(number) = number_of(self.alloc, &self.numbers, prog)? {
+            return Ok(number);
         }
         let number = self.progs.len() as u64;
-        let key = copy_prog(self.alloc, prog)?;
-        self.progs.push(copy_prog(self.alloc, prog)?)?;
-        if self.numbers.insert(key, number).is_err() {
-            self.progs.pop();
+        push_copy(self.alloc, &mut self.progs, prog)?;
+        if insert_number(self.alloc, &mut self.numbers, prog, number).is_err() {
+            drop(self.progs.pop());
             return Err(NoMemory);
         }
         Ok(number)

@@ -108,6 +108,17 @@ pub fn regress(alloc: Global, agent: &Agent, cond: &Cond, event: Event) -> Resul
     }
 }
 
+/// The condition taken back over one event, in place of it.
+fn stepped(alloc: Global, agent: &Agent, cond: Cond, event: Event) -> Result<Cond, NoMemory>
+    requires agent { WellFormed agent.now }
+    requires event { EventFits agent.now event }
+    ensures { IfOk result (λ answer. IsRegressed agent.now (event ∷ []) cond answer) }
+{
+    let answer = regress(alloc, agent, &cond, event);
+    drop(cond);
+    answer
+}
+
 /// The condition taken back over all of these events, the last of them first.
 pub fn regress_all(
     alloc: Global,
@@ -121,7 +132,7 @@ pub fn regress_all(
 {
     let mut answer = copy_cond(alloc, cond)?;
     for index in (0..events.len()).rev() {
-        answer = regress(alloc, agent, &answer, events[index])?;
+        answer = stepped(alloc, agent, answer, events[index])?;
     }
     Ok(answer)
 }

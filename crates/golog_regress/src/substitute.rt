@@ -2,8 +2,11 @@ ghost use Rattle.std.specs.Prelude.{◌≡◌, [], ◌∷◌, ◌++◌, map, IfO
 ghost use Rattle.golog_regress.specs.Images.{image as spec_image, fresh as spec_fresh, cond_image, term_image};
 
 use crate::numbers::{fresh, image};
-use golog_base::{Boxed, List, NoMemory, both};
-use golog_tree::{Arg, Cond, Term};
+use golog_base::{Boxed, List, NoMemory};
+use golog_tree::{
+    Arg, Comparison, Cond, Term, all_cond, compared_terms, fluent_cond, fluent_term, ite_term,
+    shift_term, some_cond,
+};
 use std::alloc::Global;
 
 fn args_with(alloc: Global, args: &[Arg], images: &[Arg]) -> Result<List<Arg>, NoMemory>
@@ -46,19 +49,13 @@ pub fn term_with(alloc: Global, term: &Term, images: &[Arg]) -> Result<Term, NoM
 {
     match term {
         Term::Arg(arg) => Ok(Term::Arg(image(images, *arg))),
-        Term::Fluent { fluent, args } => Ok(Term::Fluent {
-            fluent: *fluent,
-            args: args_with(alloc, args.as_slice(), images)?,
-        }),
-        Term::Shift { sort, term, by } => Ok(Term::Shift {
-            sort: *sort,
-            term: part_with(alloc, term, images)?,
-            by: *by,
-        }),
+        Term::Fluent { fluent, args } => {
+            fluent_term(*fluent, args_with(alloc, args.as_slice(), images))
+        }
+        Term::Shift { sort, term, by } => shift_term(*sort, part_with(alloc, term, images), *by),
         Term::Ite { cond, yes, no } => {
-            let parts = both(part_with(alloc, yes, images), part_with(alloc, no, images));
-            let (cond, (yes, no)) = both(body_with(alloc, cond, images), parts)?;
-            Ok(Term::Ite { cond, yes, no })
+            let (yes, no) = (part_with(alloc, yes, images), part_with(alloc, no, images));
+            ite_term(body_with(alloc, cond, images), yes, no)
         }
     }
 }
@@ -96,52 +93,40 @@ pub fn cond_with(alloc: Global, cond: &Cond, images: &[Arg]) -> Result<Cond, NoM
 {
     match cond {
         Cond::Truth(truth) => Ok(Cond::Truth(*truth)),
-        Cond::Is { fluent, args } => Ok(Cond::Is {
-            fluent: *fluent,
-            args: args_with(alloc, args.as_slice(), images)?,
-        }),
+        Cond::Is { fluent, args } => {
+            fluent_cond(*fluent, args_with(alloc, args.as_slice(), images))
+        }
         Cond::Equal { sort, one, other } => {
-            let sort = *sort;
-            let (one, other) = both(
+            let (one, other) = (
                 term_with(alloc, one, images),
                 term_with(alloc, other, images),
-            )?;
-            Ok(Cond::Equal { sort, one, other })
+            );
+            compared_terms(Comparison::Equal, *sort, one, other)
         }
         Cond::Less { sort, one, other } => {
-            let sort = *sort;
-            let (one, other) = both(
+            let (one, other) = (
                 term_with(alloc, one, images),
                 term_with(alloc, other, images),
-            )?;
-            Ok(Cond::Less { sort, one, other })
+            );
+            compared_terms(Comparison::Less, *sort, one, other)
         }
         Cond::AtMost { sort, one, other } => {
-            let sort = *sort;
-            let (one, other) = both(
+            let (one, other) = (
                 term_with(alloc, one, images),
                 term_with(alloc, other, images),
-            )?;
-            Ok(Cond::AtMost { sort, one, other })
+            );
+            compared_terms(Comparison::AtMost, *sort, one, other)
         }
-        Cond::Not(body) => Ok(Cond::Not(body_with(alloc, body, images)?)),
+        Cond::Not(body) => body_with(alloc, body, images).map(Cond::Not),
         Cond::And(conds) => Ok(Cond::And(conds_with(alloc, conds.as_slice(), images)?)),
         Cond::Or(conds) => Ok(Cond::Or(conds_with(alloc, conds.as_slice(), images)?)),
         Cond::ForSome { sort, body, .. } => {
             let var = fresh(images);
-            Ok(Cond::ForSome {
-                var,
-                sort: *sort,
-                body: bound_with(alloc, body, images, var)?,
-            })
+            some_cond(var, *sort, bound_with(alloc, body, images, var))
         }
         Cond::ForAll { sort, body, .. } => {
             let var = fresh(images);
-            Ok(Cond::ForAll {
-                var,
-                sort: *sort,
-                body: bound_with(alloc, body, images, var)?,
-            })
+            all_cond(var, *sort, bound_with(alloc, body, images, var))
         }
     }
 }

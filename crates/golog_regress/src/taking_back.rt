@@ -1,10 +1,13 @@
 ghost use Rattle.std.specs.Prelude.{◌≡◌, map, IfOk};
+ghost use Rattle.golog_regress.specs.Causes.{chain as spec_chain};
 ghost use Rattle.golog_regress.specs.Regressed.{is_true as spec_is_true, cond_back as spec_cond_back, term_back as spec_term_back};
 
 use crate::causes::chain;
 use crate::change::Change;
-use golog_base::{Boxed, List, NoMemory, both};
-use golog_tree::{Arg, Cond, Term};
+use golog_base::{Boxed, List, NoMemory};
+use golog_tree::{
+    Arg, Comparison, Cond, Term, all_cond, compared_terms, ite_term, shift_term, some_cond,
+};
 use std::alloc::Global;
 
 /// The condition that a term of sort `bool` is true.
@@ -23,6 +26,20 @@ fn is_true(alloc: Global, term: Term) -> Result<Cond, NoMemory>
             Ok(Cond::Not(Boxed::new(alloc, is_false)?))
         }
     }
+}
+
+/// The condition that what the causes make of a fluent of sort `bool` is true.
+fn fluent_back(
+    alloc: Global,
+    change: &Change<'_>,
+    fluent: u32,
+    args: &[Arg],
+) -> Result<Cond, NoMemory>
+    ensures { IfOk result (λ c. c ≡ spec_is_true
+        (spec_chain change.now.agent.now change.now.happened.now change.now.causes.now fluent args.now)) }
+{
+    let term = chain(alloc, change, fluent, args)?;
+    is_true(alloc, term)
 }
 
 #[cycle(cond_back)]
@@ -58,15 +75,10 @@ fn term_back(alloc: Global, change: &Change<'_>, term: &Term) -> Result<Term, No
     match term {
         Term::Arg(arg) => Ok(Term::Arg(*arg)),
         Term::Fluent { fluent, args } => chain(alloc, change, *fluent, args.as_slice()),
-        Term::Shift { sort, term, by } => Ok(Term::Shift {
-            sort: *sort,
-            term: part_back(alloc, change, term)?,
-            by: *by,
-        }),
+        Term::Shift { sort, term, by } => shift_term(*sort, part_back(alloc, change, term), *by),
         Term::Ite { cond, yes, no } => {
-            let parts = both(part_back(alloc, change, yes), part_back(alloc, change, no));
-            let (cond, (yes, no)) = both(body_back(alloc, change, cond), parts)?;
-            Ok(Term::Ite { cond, yes, no })
+            let (yes, no) = (part_back(alloc, change, yes), part_back(alloc, change, no));
+            ite_term(body_back(alloc, change, cond), yes, no)
         }
     }
 }
@@ -91,40 +103,32 @@ pub(crate) fn cond_back(alloc: Global, change: &Change<'_>, cond: &Cond) -> Resu
 {
     match cond {
         Cond::Truth(truth) => Ok(Cond::Truth(*truth)),
-        Cond::Is { fluent, args } => {
-            let term = chain(alloc, change, *fluent, args.as_slice())?;
-            is_true(alloc, term)
-        }
+        Cond::Is { fluent, args } => fluent_back(alloc, change, *fluent, args.as_slice()),
         Cond::Equal { sort, one, other } => {
-            let sort = *sort;
-            let other = term_back(alloc, change, other);
-            let (one, other) = both(term_back(alloc, change, one), other)?;
-            Ok(Cond::Equal { sort, one, other })
+            let (one, other) = (
+                term_back(alloc, change, one),
+                term_back(alloc, change, other),
+            );
+            compared_terms(Comparison::Equal, *sort, one, other)
         }
         Cond::Less { sort, one, other } => {
-            let sort = *sort;
-            let other = term_back(alloc, change, other);
-            let (one, other) = both(term_back(alloc, change, one), other)?;
-            Ok(Cond::Less { sort, one, other })
+            let (one, other) = (
+                term_back(alloc, change, one),
+                term_back(alloc, change, other),
+            );
+            compared_terms(Comparison::Less, *sort, one, other)
         }
         Cond::AtMost { sort, one, other } => {
-            let sort = *sort;
-            let other = term_back(alloc, change, other);
-            let (one, other) = both(term_back(alloc, change, one), other)?;
-            Ok(Cond::AtMost { sort, one, other })
+            let (one, other) = (
+                term_back(alloc, change, one),
+                term_back(alloc, change, other),
+            );
+            compared_terms(Comparison::AtMost, *sort, one, other)
         }
-        Cond::Not(body) => Ok(Cond::Not(body_back(alloc, change, body)?)),
+        Cond::Not(body) => body_back(alloc, change, body).map(Cond::Not),
         Cond::And(conds) => Ok(Cond::And(conds_back(alloc, change, conds.as_slice())?)),
         Cond::Or(conds) => Ok(Cond::Or(conds_back(alloc, change, conds.as_slice())?)),
-        Cond::ForSome { var, sort, body } => Ok(Cond::ForSome {
-            var: *var,
-            sort: *sort,
-            body: body_back(alloc, change, body)?,
-        }),
-        Cond::ForAll { var, sort, body } => Ok(Cond::ForAll {
-            var: *var,
-            sort: *sort,
-            body: body_back(alloc, change, body)?,
-        }),
+        Cond::ForSome { var, sort, body } => some_cond(*var, *sort, body_back(alloc, change, body)),
+        Cond::ForAll { var, sort, body } => all_cond(*var, *sort, body_back(alloc, change, body)),
     }
 }

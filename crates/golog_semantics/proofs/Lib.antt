@@ -50,3 +50,5 @@ pub mod NumbersStand
 pub mod TermsFit
 pub mod CausesKeep
 pub mod OnlineSorts
+pub mod SamePrograms
+pub mod Known

@@ -43,6 +43,10 @@ abbrev pub entry_for : Label → Entry
 entry_for Quiet = Test
 entry_for (Doing action) = Do action
 
+-- after the devices, the program has its turn
+abbrev pub after_lead : (Journal → Journal) → Journal × List Scripted → Stage
+after_lead made (journal, ds) = record { journal = made journal; devices = ds }
+
 module _ (agent : Agent) where
   -- the number, among so many, whose text these bytes are
   abbrev pub number_of_text : (ℕ → Text) → ℕ → Text → Option ℕ
@@ -120,19 +124,15 @@ module _ (agent : Agent) where
       let steps = moves agent (values_after agent journal) Must (left_after agent journal) in
       option_map_or (λ a. journal ++ End a ∷ []) (answer_after agent journal) (step_by journal steps)
 
-  -- after the devices, the program has its turn
-  abbrev pub after_lead : Journal × List Scripted → Stage
-  after_lead (journal, ds) = record { journal = lead journal; devices = ds }
-
-  -- one turn of each open device, and then one of the program
-  abbrev pub round : Stage → Stage
-  round s = after_lead (turns_from 0 s.journal s.devices)
+  -- one turn of each open device, and then one of the program, which makes of a journal what `made` says
+  abbrev pub round : (Journal → Journal) → Stage → Stage
+  round made s = after_lead made (turns_from 0 s.journal s.devices)
 
   -- so many rounds
-  abbrev pub rounds : ℕ → Stage → Stage
-  rounds zero s = s
-  rounds (suc n) s = rounds n (round s)
+  abbrev pub rounds : (Journal → Journal) → ℕ → Stage → Stage
+  rounds made zero s = s
+  rounds made (suc n) s = rounds made n (round made s)
 
   -- the journal of these scripts
   unfoldable pub inline_journal : List Scripted → Journal
-  inline_journal devices = (rounds round_limit (record { journal = []; devices = devices })).journal
+  inline_journal devices = (rounds lead round_limit (record { journal = []; devices = devices })).journal

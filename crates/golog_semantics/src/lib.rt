@@ -7,7 +7,7 @@ mod laws;
 mod search;
 mod step_laws;
 
-pub use journal::{Answer, Entry, Item, PlacedRun, Reason, Report, Why};
+pub use journal::{Answer, Entry, Item, PlacedRun, Reason, Report, Verdict, Why};
 pub use journal_laws::{
     best_is_least, ground_things_have_one_number, later_runs_change_nothing, levels_are_reached,
     names_tell_apart, new_runs_are_found, no_fault_is_online, nothing_without_devices,

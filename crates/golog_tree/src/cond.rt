@@ -1,7 +1,7 @@
 use golog_base::{Boxed, List};
 
 /// A truth value of the strong Kleene logic.
-#[derive(Clone, Copy, Debug, PartialEq, Eq, Hash)]
+#[derive(Clone, Copy, Debug, PartialEq, Eq)]
 pub enum Truth {
     Yes,
     No,
@@ -9,7 +9,7 @@ pub enum Truth {
 }
 
 /// An argument: a constant by its position in its sort, or a variable by its number.
-#[derive(Clone, Copy, Debug, PartialEq, Eq, Hash)]
+#[derive(Clone, Copy, Debug, PartialEq, Eq)]
 pub enum Arg {
     Const(u8),
     Var(u8),
@@ -17,7 +17,7 @@ pub enum Arg {
 
 /// A term, of a sort. `Ite` stands in no agent: regression makes it.
 #[cycle(cond)]
-#[derive(PartialEq, Eq, Hash, Drop)]
+#[derive(PartialEq, Eq, Drop)]
 pub enum Term {
     Arg(Arg),
     Fluent {
@@ -39,7 +39,7 @@ pub enum Term {
 
 /// A condition. A comparison has the sort of its sides, and a binder the number of its variable.
 #[cycle(cond)]
-#[derive(PartialEq, Eq, Hash, Drop)]
+#[derive(PartialEq, Eq, Drop)]
 pub enum Cond {
     Truth(bool),
     /// A fluent into `bool` has the value `true`.

@@ -9,6 +9,7 @@ mod draft_cond;
 mod draft_prog;
 mod ground;
 mod join;
+mod made;
 mod nesting;
 mod prog;
 mod same;
@@ -31,8 +32,11 @@ pub use ground::{
     fluent_of, item_size, sort_size,
 };
 pub use join::{Join, join_two};
+pub use made::{
+    Comparison, all_cond, compared_terms, fluent_cond, fluent_term, ite_term, shift_term, some_cond,
+};
 pub use nesting::nest;
 pub use prog::{Label, Prog, Way};
-pub use same::{are_same_ways, is_same_cond, is_same_prog, is_same_term, is_same_way};
+pub use same::{are_same_ways, is_same_prog, is_same_way};
 pub use substitute::{put_arg, put_cond};
 pub use tidy::{tidy_conc, tidy_prio, tidy_seq};

@@ -2,7 +2,7 @@ use crate::cond::{Arg, Cond};
 use golog_base::{Boxed, List};
 
 /// What a step does: a ground action, by its number, or a test.
-#[derive(Clone, Copy, Debug, PartialEq, Eq, Hash)]
+#[derive(Clone, Copy, Debug, PartialEq, Eq)]
 pub enum Label {
     Quiet,
     Do(u32),
@@ -12,7 +12,7 @@ pub enum Label {
 /// depth and a fuel). `Cstar` is concurrent iteration, and `Prio` runs its second part only where the
 /// first has no step.
 #[cycle(prog)]
-#[derive(PartialEq, Eq, Hash, Drop)]
+#[derive(PartialEq, Eq, Drop)]
 pub enum Prog {
     Nil,
     Act {
@@ -60,7 +60,7 @@ pub enum Prog {
 
 /// A step and the program left after it.
 #[cycle(prog)]
-#[derive(PartialEq, Eq, Hash, Drop)]
+#[derive(PartialEq, Eq, Drop)]
 pub struct Way {
     pub label: Label,
     pub left: Prog,

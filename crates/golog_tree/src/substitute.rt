@@ -1,8 +1,12 @@
-ghost use Rattle.std.specs.Prelude.{◌≡◌, ◌++◌, map, take, IfOk, Some, None};
+ghost use Rattle.std.specs.Prelude.{◌≡◌, map, IfOk, Some, None};
+ghost use Rattle.golog_tree.specs.Made.{IsMade, IsMadeOfTwo, IsMadeOfThree};
 ghost use Rattle.golog_tree.specs.Substitute.{arg_put, within as spec_within, term_put, cond_put, prog_put, way_put};
 
 use crate::cond::{Arg, Cond, Term};
 use crate::join::{Join, join_parts};
+use crate::made::{
+    Comparison, all_cond, compared_terms, fluent_cond, fluent_term, ite_term, shift_term, some_cond,
+};
 use crate::prog::{Prog, Way};
 use golog_base::{Boxed, List, NoMemory, both};
 use std::alloc::Global;
@@ -67,19 +71,13 @@ fn term_with(alloc: Global, term: &Term, put: Put) -> Result<Term, NoMemory>
 {
     match term {
         Term::Arg(arg) => Ok(Term::Arg(arg_with(*arg, put))),
-        Term::Fluent { fluent, args } => Ok(Term::Fluent {
-            fluent: *fluent,
-            args: args_with(alloc, args.as_slice(), put)?,
-        }),
-        Term::Shift { sort, term, by } => Ok(Term::Shift {
-            sort: *sort,
-            term: term_boxed(alloc, term, put)?,
-            by: *by,
-        }),
+        Term::Fluent { fluent, args } => {
+            fluent_term(*fluent, args_with(alloc, args.as_slice(), put))
+        }
+        Term::Shift { sort, term, by } => shift_term(*sort, term_boxed(alloc, term, put), *by),
         Term::Ite { cond, yes, no } => {
-            let parts = both(term_boxed(alloc, yes, put), term_boxed(alloc, no, put));
-            let (cond, (yes, no)) = both(body_with(alloc, cond, put), parts)?;
-            Ok(Term::Ite { cond, yes, no })
+            let (yes, no) = (term_boxed(alloc, yes, put), term_boxed(alloc, no, put));
+            ite_term(body_with(alloc, cond, put), yes, no)
         }
     }
 }
@@ -101,38 +99,28 @@ pub(crate) fn cond_with(alloc: Global, cond: &Cond, put: Put) -> Result<Cond, No
 {
     match cond {
         Cond::Truth(truth) => Ok(Cond::Truth(*truth)),
-        Cond::Is { fluent, args } => Ok(Cond::Is {
-            fluent: *fluent,
-            args: args_with(alloc, args.as_slice(), put)?,
-        }),
+        Cond::Is { fluent, args } => fluent_cond(*fluent, args_with(alloc, args.as_slice(), put)),
         Cond::Equal { sort, one, other } => {
-            let sort = *sort;
-            let (one, other) = both(term_with(alloc, one, put), term_with(alloc, other, put))?;
-            Ok(Cond::Equal { sort, one, other })
+            let (one, other) = (term_with(alloc, one, put), term_with(alloc, other, put));
+            compared_terms(Comparison::Equal, *sort, one, other)
         }
         Cond::Less { sort, one, other } => {
-            let sort = *sort;
-            let (one, other) = both(term_with(alloc, one, put), term_with(alloc, other, put))?;
-            Ok(Cond::Less { sort, one, other })
+            let (one, other) = (term_with(alloc, one, put), term_with(alloc, other, put));
+            compared_terms(Comparison::Less, *sort, one, other)
         }
         Cond::AtMost { sort, one, other } => {
-            let sort = *sort;
-            let (one, other) = both(term_with(alloc, one, put), term_with(alloc, other, put))?;
-            Ok(Cond::AtMost { sort, one, other })
+            let (one, other) = (term_with(alloc, one, put), term_with(alloc, other, put));
+            compared_terms(Comparison::AtMost, *sort, one, other)
         }
         Cond::Not(cond) => body_with(alloc, cond, put).map(Cond::Not),
         Cond::And(conds) => Ok(Cond::And(conds_with(alloc, conds.as_slice(), put)?)),
         Cond::Or(conds) => Ok(Cond::Or(conds_with(alloc, conds.as_slice(), put)?)),
-        Cond::ForSome { var, sort, body } => Ok(Cond::ForSome {
-            var: *var,
-            sort: *sort,
-            body: body_with(alloc, body, within(*var, put))?,
-        }),
-        Cond::ForAll { var, sort, body } => Ok(Cond::ForAll {
-            var: *var,
-            sort: *sort,
-            body: body_with(alloc, body, within(*var, put))?,
-        }),
+        Cond::ForSome { var, sort, body } => {
+            some_cond(*var, *sort, body_with(alloc, body, within(*var, put)))
+        }
+        Cond::ForAll { var, sort, body } => {
+            all_cond(*var, *sort, body_with(alloc, body, within(*var, put)))
+        }
     }
 }
 
@@ -168,16 +156,65 @@ fn ways_with(alloc: Global, ways: &[Way], put: Put) -> Result<List<Way>, NoMemor
     Ok(list)
 }
 
+type Args = Result<List<Arg>, NoMemory>;
+
+type Part = Result<Boxed<Prog>, NoMemory>;
+
+/// The action, from its arguments.
+fn act_of(action: u32, args: Args) -> Result<Prog, NoMemory>
+    ensures { IfOk result (IsMade (Prog.Act action) args) }
+{
+    let args = args?;
+    Ok(Prog::Act { action, args })
+}
+
+/// The call, from its arguments.
+fn call_of(item: u32, args: Args) -> Result<Prog, NoMemory>
+    ensures { IfOk result (IsMade (Prog.Call item) args) }
+{
+    let args = args?;
+    Ok(Prog::Call { item, args })
+}
+
+/// The choice of a value, from its body.
+fn pick_of(var: u8, sort: u32, body: Part) -> Result<Prog, NoMemory>
+    ensures { IfOk result (IsMade (Prog.Pick var sort) body) }
+{
+    let body = body?;
+    Ok(Prog::Pick { var, sort, body })
+}
+
+/// The conditional, from its condition and its parts.
+fn if_of(cond: Result<Cond, NoMemory>, yes: Part, no: Part) -> Result<Prog, NoMemory>
+    ensures { IfOk result (IsMadeOfThree Prog.If cond yes no) }
+{
+    let (cond, (yes, no)) = both(cond, both(yes, no))?;
+    Ok(Prog::If { cond, yes, no })
+}
+
+/// The loop, from its condition and its body.
+fn while_of(cond: Result<Cond, NoMemory>, body: Part) -> Result<Prog, NoMemory>
+    ensures { IfOk result (IsMadeOfTwo Prog.While cond body) }
+{
+    let (cond, body) = both(cond, body)?;
+    Ok(Prog::While { cond, body })
+}
+
+/// The search block, from its body.
+fn search_of(depth: u32, fuel: u32, body: Part) -> Result<Prog, NoMemory>
+    ensures { IfOk result (IsMade (Prog.Search depth fuel) body) }
+{
+    let body = body?;
+    Ok(Prog::Search { depth, fuel, body })
+}
+
 #[cycle(prog_with)]
 pub(crate) fn prog_with(alloc: Global, prog: &Prog, put: Put) -> Result<Prog, NoMemory>
     ensures { IfOk result (λ p. p ≡ prog_put prog.now put) }
 {
     match prog {
         Prog::Nil => Ok(Prog::Nil),
-        Prog::Act { action, args } => Ok(Prog::Act {
-            action: *action,
-            args: args_with(alloc, args.as_slice(), put)?,
-        }),
+        Prog::Act { action, args } => act_of(*action, args_with(alloc, args.as_slice(), put)),
         Prog::Test(cond) => cond_with(alloc, cond, put).map(Prog::Test),
         Prog::Seq(first, second) => {
             let first = part_with(alloc, first, put);
@@ -187,21 +224,20 @@ pub(crate) fn prog_with(alloc: Global, prog: &Prog, put: Put) -> Result<Prog, No
             let one = part_with(alloc, one, put);
             join_parts(Join::Choice, one, part_with(alloc, other, put))
         }
-        Prog::Pick { var, sort, body } => Ok(Prog::Pick {
-            var: *var,
-            sort: *sort,
-            body: part_with(alloc, body, within(*var, put))?,
-        }),
+        Prog::Pick { var, sort, body } => pick_of(
+            *var,
+            *sort,
+            part_with(alloc, body, within(*var, put)),
+        ),
         Prog::Star(body) => part_with(alloc, body, put).map(Prog::Star),
         Prog::If { cond, yes, no } => {
-            let parts = both(part_with(alloc, yes, put), part_with(alloc, no, put));
-            let (cond, (yes, no)) = both(cond_with(alloc, cond, put), parts)?;
-            Ok(Prog::If { cond, yes, no })
+            let (yes, no) = (part_with(alloc, yes, put), part_with(alloc, no, put));
+            if_of(cond_with(alloc, cond, put), yes, no)
         }
-        Prog::While { cond, body } => {
-            let (cond, body) = both(cond_with(alloc, cond, put), part_with(alloc, body, put))?;
-            Ok(Prog::While { cond, body })
-        }
+        Prog::While { cond, body } => while_of(
+            cond_with(alloc, cond, put),
+            part_with(alloc, body, put),
+        ),
         Prog::Conc(one, other) => {
             let one = part_with(alloc, one, put);
             join_parts(Join::Conc, one, part_with(alloc, other, put))
@@ -211,15 +247,8 @@ pub(crate) fn prog_with(alloc: Global, prog: &Prog, put: Put) -> Result<Prog, No
             join_parts(Join::Prio, high, part_with(alloc, low, put))
         }
         Prog::Cstar(body) => part_with(alloc, body, put).map(Prog::Cstar),
-        Prog::Call { item, args } => Ok(Prog::Call {
-            item: *item,
-            args: args_with(alloc, args.as_slice(), put)?,
-        }),
-        Prog::Search { depth, fuel, body } => Ok(Prog::Search {
-            depth: *depth,
-            fuel: *fuel,
-            body: part_with(alloc, body, put)?,
-        }),
+        Prog::Call { item, args } => call_of(*item, args_with(alloc, args.as_slice(), put)),
+        Prog::Search { depth, fuel, body } => search_of(*depth, *fuel, part_with(alloc, body, put)),
         Prog::Follow {
             depth,
             fuel,

@@ -6,8 +6,8 @@ use Rattle.golog_ask.specs.Events.{events_of}
 use Rattle.golog_ask.proofs.Taken.{fit-first, back-one, back-more}
 use Rattle.golog_ask.proofs.earlier.taken_back.Goals as goal
 
-pub before-requires-clause-entry : goal.before-requires-clause-entry
-before-requires-clause-entry c = fit-at c.args.agent.now c.args.entries.now (c.loop-left.left - 1) _ c.requires.entries (omega arith)
+pub stepped-requires-clause-entry : goal.stepped-requires-clause-entry
+stepped-requires-clause-entry c = fit-at c.args.agent.now c.args.entries.now (c.loop-left.left - 1) _ c.requires.entries (omega arith)
 
 pub up_to_change-left-requires-in-loop-left-clause-entries : goal.up_to_change-left-requires-in-loop-left-clause-entries
 up_to_change-left-requires-in-loop-left-clause-entries c = fit-first c.args.agent.now c.args.entries.now (c.loop-left.left - 1) c.requires.entries
