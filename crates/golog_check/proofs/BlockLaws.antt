@@ -21,14 +21,13 @@ use Rattle.golog_rows.specs.Least.{CodeAt}
 use Rattle.golog_check.specs.Programs.{nested}
 use Rattle.golog_check.specs.ProgramLaws as keeping
 use Rattle.golog_check.specs.ProgramLaws.{blocks_keep}
-use Rattle.golog_check.specs.Shapes.{no_cond, shape, shape_step}
-use Rattle.golog_check.specs.Unguarded.{refused_where}
-use Rattle.golog_check.specs.DraftBlocks.{Blocks, blocks_step, blocks_of, block_refusals, refused_step, numbers_fit, of_each}
-use Rattle.golog_check.specs.Fronts.{draft_has}
+use Rattle.golog_shapes.specs.Shapes.{no_cond, shape, shape_step}
+use Rattle.golog_shapes.specs.Unguarded.{refused_where}
+use Rattle.golog_shapes.specs.DraftBlocks.{Blocks, blocks_step, blocks_of, block_refusals, refused_step, numbers_fit, of_each}
 use Rattle.golog_check.proofs.TermLaws.{not-false}
-use Rattle.golog_check.proofs.Fores.{has-same}
+use Rattle.golog_shapes.proofs.BlockShapes.{same-shape}
 use Rattle.golog_check.proofs.PartLaws.{none-before, none-behind}
-use Rattle.golog_check.proofs.Shaped.{by-layer, join_step, nest_by, nested-by}
+use Rattle.golog_shapes.proofs.Shaped.{by-layer, join_step, nest_by, nested-by}
 
 pub none-where : (b : Bool) (refusal : CodeAt) → refused_where b refusal ≡ [] → b ≡ false
 none-where true refusal h = absurd (cc)
@@ -61,7 +60,6 @@ module _ (bs : List Bool) where
   nested-free join ps h = all-free join (map has ps) (sym (nested-by Bool (has_block_step bs) (λ w. false) join ps) ∙ h)
 
   record Facts (d : DraftProg) : Type 0 where
-    same : (blocks_of bs d).shape ≡ shape d
     outside : block_refusals bs d ≡ [] → blocks_keep (block_at bs) d false ≡ true
     inside : block_refusals bs d ≡ [] → has_block_by bs (shape d) ≡ false → blocks_keep (block_at bs) d true ≡ true
 
@@ -76,29 +74,6 @@ module _ (bs : List Bool) where
 
   abbrev blocks_in : DraftProg-F One → DraftProg-F Blocks
   blocks_in y = map-DraftProg DraftProg Blocks (blocks_of bs) (drafts_of y)
-
-  abbrev shape_in : Blocks → Prog
-  shape_in b = b.shape
-
-  all-shapes : (ds : List One) → map shape_in (map (blocks_of bs) (all_of ds)) ≡ map shape (all_of ds)
-  all-shapes [] = refl
-  all-shapes (d ∷ ds) = ap (λ p. p ∷ map shape_in (map (blocks_of bs) (all_of ds))) d.1.same ∙ ap (λ ps. shape d.0 ∷ ps) (all-shapes ds)
-
-  same-layer : (y : DraftProg-F One) → shape_step (map-DraftProg Blocks Prog shape_in (blocks_in y)) ≡ shape_step (map-DraftProg DraftProg Prog shape (drafts_of y))
-  same-layer (draft.Nil at) = refl
-  same-layer (draft.Act action args at) = refl
-  same-layer (draft.Test c at) = refl
-  same-layer (draft.Seq ds at) = ap (nested InSeq) (all-shapes ds)
-  same-layer (draft.Choice ds at) = ap (nested InChoice) (all-shapes ds)
-  same-layer (draft.Pick word sort d at) = ap (λ p. prog.Pick 0 sort p) d.1.same
-  same-layer (draft.Star d at) = ap (λ p. prog.Star p) d.1.same
-  same-layer (draft.If c d e at) = ap (λ p. prog.If no_cond p (blocks_of bs e.0).shape) d.1.same ∙ ap (λ p. prog.If no_cond (shape d.0) p) e.1.same
-  same-layer (draft.While c d at) = ap (λ p. prog.While no_cond p) d.1.same
-  same-layer (draft.Conc ds at) = ap (nested InConc) (all-shapes ds)
-  same-layer (draft.Prio ds at) = ap (nested InPrio) (all-shapes ds)
-  same-layer (draft.Cstar d at) = ap (λ p. prog.Cstar p) d.1.same
-  same-layer (draft.Call item args at) = refl
-  same-layer (draft.Search depth fuel d at) = ap (λ p. prog.Search (to_count depth) (to_count fuel) p) d.1.same
 
   all-outside : (ds : List One) → of_each (map (blocks_of bs) (all_of ds)) ≡ [] → list_all (λ p. p false) (map keep (all_of ds)) ≡ true
   all-outside [] h = refl
@@ -141,7 +116,7 @@ module _ (bs : List Bool) where
       let t = and_cases (is_between 1 depth_limit (to_count depth)) (is_between 1 fuel_limit (to_count fuel)) fit in
       and_both (is_between 1 depth_limit (to_count depth) && is_between 1 fuel_limit (to_count fuel)) (keep d.0 true)
       (and_both (is_between 1 depth_limit (to_count depth)) (is_between 1 fuel_limit (to_count fuel)) t.0 t.1)
-      (d.1.inside (none-behind (nested_row ++ number_row) (block_refusals bs d.0) h) (ap has (sym d.1.same) ∙ free))
+      (d.1.inside (none-behind (nested_row ++ number_row) (block_refusals bs d.0) h) (ap has (sym (same-shape bs d.0)) ∙ free))
 
   inside-layer : (y : DraftProg-F One) → refused_step bs (blocks_in y) ≡ [] → has (shape_step (map-DraftProg DraftProg Prog shape (drafts_of y))) ≡ false
       → keeping.blocks_step (block_at bs) (map-DraftProg DraftProg (Bool → Bool) keep (drafts_of y)) true ≡ true
@@ -177,7 +152,6 @@ module _ (bs : List Bool) where
       let kept = fold-roll-DraftProg (Bool → Bool) (keeping.blocks_step (block_at bs)) (drafts_of y) in
       let refused = ap (λ (b : Blocks). b.refused) rolled in
       record {
-        same = ap shape_in rolled ∙ same-layer y ∙ sym shaped;
         outside = λ h. ap (λ g. g false) kept ∙ outside-layer y (sym refused ∙ h);
         inside = λ h free. ap (λ g. g true) kept ∙ inside-layer y (sym refused ∙ h) (ap has (sym shaped) ∙ free);
       }
@@ -188,7 +162,3 @@ module _ (bs : List Bool) where
   -- blocks of which nothing is refused keep their limits
   pub blocks-kept : (d : DraftProg) → block_refusals bs d ≡ [] → blocks_keep (block_at bs) d false ≡ true
   blocks-kept d = (all-facts d).outside
-
-  -- whether there is a block, as is told of the draft itself
-  pub told-has : (d : DraftProg) → has_block_by bs (blocks_of bs d).shape ≡ draft_has bs d
-  told-has d = ap has (all-facts d).same ∙ has-same bs d

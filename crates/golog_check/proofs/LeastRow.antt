@@ -18,8 +18,8 @@ use Rattle.golog_check.specs.Starts.{start_in}
 use Rattle.golog_check.specs.Effects.{poss_in, cause_in, senses_in}
 use Rattle.golog_check.specs.Conditions.{cond_in}
 use Rattle.golog_check.specs.Procs.{proc_in}
-use Rattle.golog_check.specs.Unguarded.{all_front_refusals}
-use Rattle.golog_check.specs.DraftBlocks.{all_block_refusals}
+use Rattle.golog_shapes.specs.Unguarded.{all_front_refusals}
+use Rattle.golog_shapes.specs.DraftBlocks.{all_block_refusals}
 use Rattle.golog_check.specs.Check.{main_in, names_of, refusals_in, Checks}
 use Rattle.golog_check.specs.Faults.{code_at, Answers}
 use Rattle.golog_rows.specs.Order.{IsNoLater, Fits}

@@ -5,7 +5,6 @@ pub mod CheckedLaws
 pub mod CondLaws
 pub mod Conds
 pub mod Each
-pub mod Nested
 pub mod ProgLaws
 pub mod Progs
 pub mod Readings
@@ -30,14 +29,6 @@ pub mod Transfer
 pub mod ShapeLaws
 pub mod BlockLaws
 pub mod MadeFronts
-pub mod RoundLaws
-pub mod FrontRounds
-pub mod Fores
-pub mod ForeLaws
-pub mod Adding
-pub mod NestTo
-pub mod Reached
-pub mod Repeats
 pub mod Halves
 pub mod TermOrder
 pub mod CondOrder

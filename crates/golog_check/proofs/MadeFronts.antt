@@ -1,5 +1,5 @@
 -- An agent of whose procedures nothing is refused is guarded, and its front nests are in their limit.
-use Rattle.std.proofs.Common.{◌≡◌, ℕ, zero, suc, ◌+◌, ◌<◌, ◌≤◌, Bool, true, false, not, ◌&&◌, List, [], ◌∷◌, length, map, get_or, Option, Some, None, refl, sym, ap, subst, ◌∙◌, arith}
+use Rattle.std.proofs.Common.{◌≡◌, ℕ, zero, suc, ◌+◌, ◌<◌, ◌≤◌, Bool, true, false, not, ◌&&◌, List, [], ◌∷◌, length, get_or, Option, Some, None, refl, sym, ap, subst, ◌∙◌, arith}
 use Rattle.std.specs.Prelude.{All, nat_lt, slice_get, slice_index, option_map}
 use Rattle.std.specs.List.{list_any, flat_map, enumerate_from}
 use Rattle.std.specs.Option.{option_map_or}
@@ -10,11 +10,11 @@ use Rattle.golog_tree.specs.declared.agent.Agent.{Agent}
 use Rattle.golog_tree.specs.declared.agent.ProcItem.{ProcItem}
 use Rattle.golog_tree.specs.declared.draft.DraftProc.{DraftProc}
 use Rattle.golog_semantics.specs.Guarded.{IsGuarded}
-use Rattle.golog_semantics.specs.FrontCalls.{NoneReachesItself, Reaches, front_calls, front_nests, nests_to}
+use Rattle.golog_semantics.specs.FrontCalls.{NoneReachesItself, front_calls, front_nests, nests_to}
 use Rattle.golog_semantics.proofs.FrontCallsLaws.{guarded_is_unreached}
 use Rattle.golog_rows.specs.Least.{CodeAt}
-use Rattle.golog_check.specs.Shapes.{shape_of, shapes}
-use Rattle.golog_check.specs.Unguarded.{said, leads_to, reaching, is_unguarded, has_no_nest, is_deep, refused_where, front_refusals, all_front_refusals}
+use Rattle.golog_shapes.specs.Shapes.{shape_of, shapes}
+use Rattle.golog_shapes.specs.Unguarded.{said, leads_to, reaching, is_unguarded, has_no_nest, is_deep, refused_where, front_refusals, all_front_refusals}
 use Rattle.golog_check.proofs.BlockLaws.{none-where}
 use Rattle.golog_check.proofs.PartLaws.{none-before, none-behind}
 use Rattle.golog_check.proofs.ReachLaws.{reach-said, said-at}

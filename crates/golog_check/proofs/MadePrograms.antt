@@ -41,7 +41,7 @@ use Rattle.golog_check.specs.Terms.{arg_in, args_in}
 use Rattle.golog_check.specs.Starts.{constant, constant_in, own_sort, value_in, one_in, start_in, own_after, own_value, one_after, one_value, start_value}
 use Rattle.golog_check.specs.Sorts.{fluent_sorts}
 use Rattle.golog_check.specs.Programs.{prog_in}
-use Rattle.golog_check.specs.DraftNest.{draft_nest}
+use Rattle.golog_shapes.specs.DraftNest.{draft_nest}
 use Rattle.golog_check.specs.ProgramLaws.{HasPrograms}
 use Rattle.golog_check.specs.Check.{main_in, main_of, starts_of, names_of, all_refusals, agent_of}
 use Rattle.golog_check.proofs.TermLaws.{not-false}
@@ -50,8 +50,8 @@ use Rattle.golog_check.proofs.ArgLaws.{arg-fits, some-same}
 use Rattle.golog_check.proofs.ProgLaws.{progs-fit}
 use Rattle.golog_check.specs.ProgramLaws.{blocks_keep}
 use Rattle.golog_check.specs.Procs.{params_of, proc_in}
-use Rattle.golog_check.specs.Shapes.{shapes}
-use Rattle.golog_check.specs.DraftBlocks.{block_refusals}
+use Rattle.golog_shapes.specs.Shapes.{shapes}
+use Rattle.golog_shapes.specs.DraftBlocks.{block_refusals}
 use Rattle.golog_check.proofs.PartLaws.{none-before, none-behind, none-refused}
 use Rattle.golog_check.proofs.Nests.{nests-same}
 use Rattle.golog_check.proofs.BlockLaws.{blocks-kept}

@@ -21,7 +21,7 @@ use Rattle.golog_check.specs.Scope.{Scope, variable_no, within}
 use Rattle.golog_check.specs.Terms.{args_in}
 use Rattle.golog_check.specs.Conditions.{cond_in}
 use Rattle.golog_check.specs.Programs.{InScope, joined, nested, progs_in, parts_in, prog_step, prog_in}
-use Rattle.golog_check.specs.DraftNest.{parts_nest, draft_nest_step, draft_nest}
+use Rattle.golog_shapes.specs.DraftNest.{parts_nest, draft_nest_step, draft_nest}
 use Rattle.golog_check.proofs.Readings.{both, ok-same}
 
 joined-nest : (join : Join) (p q : Prog) → nest (joined join p q) ≡ 1 + max (nest p) (nest q)

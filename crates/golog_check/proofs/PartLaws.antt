@@ -23,8 +23,8 @@ use Rattle.golog_check.specs.Starts.{start_in, start_value}
 use Rattle.golog_check.specs.Effects.{poss_in, cause_in, senses_in}
 use Rattle.golog_tree.specs.declared.agent.ProcItem.{ProcItem}
 use Rattle.golog_check.specs.Procs.{proc_in}
-use Rattle.golog_check.specs.Unguarded.{all_front_refusals}
-use Rattle.golog_check.specs.DraftBlocks.{all_block_refusals}
+use Rattle.golog_shapes.specs.Unguarded.{all_front_refusals}
+use Rattle.golog_shapes.specs.DraftBlocks.{all_block_refusals}
 use Rattle.golog_check.specs.Check.{bare, main_in, main_of, names_of, refusals_in, agent_of}
 use Rattle.golog_check.specs.Parts.{AreParts}
 use Rattle.golog_rows.specs.Order.{IsLeast}

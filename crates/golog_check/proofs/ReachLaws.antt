@@ -9,7 +9,7 @@ use Rattle.golog_tree.specs.declared.agent.ProcItem.{ProcItem}
 use Rattle.golog_semantics.specs.FrontCalls.{front_calls, body_calls, proc_calls, directly, through, Reaches}
 use Rattle.golog_semantics.proofs.Rounds.{Below, below-at, last_round, tested-rounds}
 use Rattle.golog_semantics.proofs.Tests.{or_cases, or_first, or_second, or_more}
-use Rattle.golog_check.specs.Unguarded.{said, leads_to, reaching_to, reaching}
+use Rattle.golog_shapes.specs.Unguarded.{said, leads_to, reaching_to, reaching}
 
 pub any-in : (f : ℕ → Bool) (xs : List ℕ) (x : ℕ) → Contains xs x → f x ≡ true → list_any f xs ≡ true
 any-in f [] x h e = absurd (omega arith)

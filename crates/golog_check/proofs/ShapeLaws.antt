@@ -14,9 +14,10 @@ use Rattle.golog_rows.specs.Least.{CodeAt}
 use Rattle.golog_check.specs.Least.{refusal_of, refusals, value_of, given}
 use Rattle.golog_check.specs.Programs.{prog_in}
 use Rattle.golog_check.specs.Procs.{params_of, proc_in}
-use Rattle.golog_check.specs.Shapes.{shape_of}
+use Rattle.golog_shapes.specs.Shapes.{shape_of}
 use Rattle.golog_check.proofs.Readings.{both, ok-same}
-use Rattle.golog_check.proofs.Shaped.{IsBlind, shaped}
+use Rattle.golog_shapes.proofs.Shaped.{IsBlind}
+use Rattle.golog_check.proofs.Shaped.{shaped}
 use Rattle.golog_check.proofs.Transfer.{Alike, AllAlike}
 
 blind-nest : IsBlind ℕ nest_step (λ _. 0)

@@ -7,7 +7,7 @@ use Rattle.golog_draft.specs.Drafts.{TheoryKeeps, ProgramKeeps}
 use Rattle.golog_semantics.specs.FrontCalls.{Reaches}
 use Rattle.golog_semantics.specs.WellFormed.{WellFormed}
 use Rattle.golog_check.specs.Check.{all_refusals, agent_of}
-use Rattle.golog_check.specs.Unguarded.{is_unguarded}
+use Rattle.golog_shapes.specs.Unguarded.{is_unguarded}
 
 -- A procedure is refused as unguarded exactly where it reaches itself without a step.
 abbrev pub UnguardedIsReached : Type 0

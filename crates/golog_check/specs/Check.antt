@@ -12,8 +12,8 @@ use Rattle.golog_rows.specs.Reading.{Reading, row}
 use Rattle.golog_semantics.specs.NoAgent.{no_agent}
 use Rattle.golog_check.specs.declared.fault.CheckFault.{CheckFault}
 use Rattle.golog_check.specs.declared.fault.CheckFault.TheVariants.{Refused, Memory}
-use Rattle.golog_check.specs.Codes.{FRONT_DEEP}
-use Rattle.golog_check.specs.Limits.{MAIN_NEST}
+use Rattle.golog_shapes.specs.Codes.{FRONT_DEEP}
+use Rattle.golog_shapes.specs.Limits.{MAIN_NEST}
 use Rattle.golog_check.specs.declared.starts.Start.{Start}
 use Rattle.golog_check.specs.DeclaredItems.{Declared, sort_item, fluent_item, action_item, declared_by}
 use Rattle.golog_rows.specs.Order.{IsLeast}
@@ -22,11 +22,11 @@ use Rattle.golog_check.specs.Least.{refusals, given}
 use Rattle.golog_check.specs.Sums.{fluent_sum, action_sum}
 use Rattle.golog_check.specs.Starts.{start_in, start_value}
 use Rattle.golog_check.specs.Effects.{poss_in, cause_in, senses_in}
-use Rattle.golog_check.specs.DraftNest.{draft_nest}
+use Rattle.golog_shapes.specs.DraftNest.{draft_nest}
 use Rattle.golog_check.specs.Programs.{prog_in}
 use Rattle.golog_check.specs.Procs.{proc_in}
-use Rattle.golog_check.specs.Unguarded.{all_front_refusals}
-use Rattle.golog_check.specs.DraftBlocks.{all_block_refusals}
+use Rattle.golog_shapes.specs.Unguarded.{all_front_refusals}
+use Rattle.golog_shapes.specs.DraftBlocks.{all_block_refusals}
 
 -- The program of `main`, with no variable in scope. It is refused where it nests too deep.
 unfoldable pub main_in : Declared → DraftMain → Reading Prog

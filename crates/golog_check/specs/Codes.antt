@@ -9,14 +9,6 @@ SORT_CLASH = 30
 abbrev pub UNBOUND : ℕ
 UNBOUND = 31
 
--- a procedure reaches itself without a step
-abbrev pub UNGUARDED : ℕ
-UNGUARDED = 32
-
--- the program of a search block has a search block, or calls a procedure that has one
-abbrev pub NESTED_SEARCH : ℕ
-NESTED_SEARCH = 33
-
 -- the sum of ground fluents or of ground actions passes its limit
 abbrev pub GROUND_TOO_MANY : ℕ
 GROUND_TOO_MANY = 34
@@ -28,11 +20,3 @@ BAD_START = 35
 -- an action senses a second time, or has no device, or is exogenous
 abbrev pub SENSE_CLASH : ℕ
 SENSE_CLASH = 36
-
--- the depth or the fuel of a search block is out of its range
-abbrev pub SEARCH_NUMBERS : ℕ
-SEARCH_NUMBERS = 37
-
--- the program of `main`, or a procedure with what it calls without a step, nests too deep
-abbrev pub FRONT_DEEP : ℕ
-FRONT_DEEP = 38

@@ -1,4 +1,5 @@
 -- What is declared where a draft stands.
+pub use Rattle.golog_shapes.specs.Shapes.{param_sorts}
 use Rattle.std.specs.Prelude.{ℕ, ◌≤◌, List, [], length, map, All}
 use Rattle.golog_tree.specs.declared.agent.SortItem.{SortItem}
 use Rattle.golog_tree.specs.declared.agent.SortItem.TheVariants as item
@@ -9,7 +10,6 @@ use Rattle.golog_tree.specs.declared.draft.DraftSort.{DraftSort}
 use Rattle.golog_tree.specs.declared.draft.DraftSort.TheVariants.{Range, Listed}
 use Rattle.golog_tree.specs.declared.draft.DraftFluent.{DraftFluent}
 use Rattle.golog_tree.specs.declared.draft.DraftAction.{DraftAction}
-use Rattle.golog_tree.specs.declared.draft.DraftParam.{DraftParam}
 use Rattle.golog_tree.specs.declared.draft.DraftProc.{DraftProc}
 use Rattle.golog_tree.specs.declared.draft.DraftTheory.{DraftTheory}
 use Rattle.golog_tree.specs.Ground.{item_size}
@@ -40,9 +40,6 @@ fluent_item draft = record { name = draft.name; args = draft.args; sort = draft.
 abbrev pub action_item : DraftAction → ActionItem
 action_item draft =
     record { name = draft.name; args = draft.args; device = draft.device; posters = draft.posters }
-
-abbrev pub param_sorts : DraftProc → List ℕ
-param_sorts proc = map (λ (param : DraftParam). param.sort) proc.params
 
 -- what a theory and the procedures beside it declare
 abbrev pub declared_by : DraftTheory → List DraftProc → Declared

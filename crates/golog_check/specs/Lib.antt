@@ -6,11 +6,8 @@ pub mod CheckLaws
 pub mod Checked
 pub mod Conditions
 pub mod DeclaredItems
-pub mod DraftNest
-pub mod DraftBlocks
 pub mod Effects
 pub mod Faults
-pub mod Fronts
 pub mod Heads
 pub mod Least
 pub mod Procs
@@ -19,12 +16,8 @@ pub mod Programs
 pub mod Order
 pub mod Scope
 pub mod Sensed
-pub mod Settled
-pub mod Shapes
 pub mod Sorts
 pub mod Starts
 pub mod Sums
 pub mod Terms
-pub mod Told
-pub mod Unguarded
 pub mod Parts

@@ -11,8 +11,8 @@ use Rattle.golog_check.specs.Sums.{fluent_sum, action_sum}
 use Rattle.golog_check.specs.Starts.{start_in}
 use Rattle.golog_check.specs.Effects.{poss_in, cause_in, senses_in}
 use Rattle.golog_check.specs.Procs.{proc_in}
-use Rattle.golog_check.specs.Unguarded.{all_front_refusals}
-use Rattle.golog_check.specs.DraftBlocks.{all_block_refusals}
+use Rattle.golog_shapes.specs.Unguarded.{all_front_refusals}
+use Rattle.golog_shapes.specs.DraftBlocks.{all_block_refusals}
 use Rattle.golog_check.specs.Check.{main_in}
 
 -- what each list of items gives, with its least refusal, and the least refusals of the sums, of what procedures call

@@ -1,6 +1,6 @@
 -- What a program of a draft is.
-pub use Rattle.golog_tree.specs.Joined.{joined}
-use Rattle.std.specs.Prelude.{List, [], ◌∷◌}
+pub use Rattle.golog_shapes.specs.Nested.{joined, nested}
+use Rattle.std.specs.Prelude.{List, []}
 use Rattle.golog_tree.specs.declared.cond.Cond.{Cond}
 use Rattle.golog_tree.specs.declared.prog.Prog.{Prog}
 use Rattle.golog_tree.specs.declared.prog.Prog.TheVariants as prog
@@ -20,12 +20,6 @@ use Rattle.golog_check.specs.Conditions.{cond_in}
 -- what a program is, in any scope
 abbrev pub InScope : Type 0
 InScope = Scope → Reading Prog
-
--- More than two parts nest to the right; one part stands for itself, and none is `nil`.
-abbrev pub nested : Join → List Prog → Prog
-nested join [] = prog.Nil
-nested join (part ∷ []) = part
-nested join (part ∷ next ∷ parts) = joined join part (nested join (next ∷ parts))
 
 -- programs, one after another, behind those before them
 abbrev pub progs_after : List Prog → Scope → List InScope → Reading (List Prog)

@@ -19,23 +19,21 @@ ghost use Rattle.golog_check.specs.Check.{Checks, bare as spec_bare, main_in as 
 ghost use Rattle.golog_check.specs.Order.{IsLeastRow, all_rows};
 ghost use Rattle.golog_check.specs.Parts.{AreParts};
 
-use crate::blocks::blocks_refused;
 use crate::checked::Checked;
 use crate::copies::{copy_actions, copy_devices, copy_fluents, copy_sorts, sort_places};
 use crate::effects::{cause_items_in, poss_items_in};
-use crate::fault::{CheckFault, FRONT_DEEP, refuse_where};
+use crate::fault::{CheckFault, refuse_where};
 use crate::names::Names;
-use crate::nesting::is_too_deep;
 use crate::numbering::numbered;
 use crate::procs::{params_of_each, proc_items_in};
 use crate::programs::prog_in;
-use crate::reaching::fronts_refused;
 use crate::sensing::sense_items_in;
 use crate::start_values::initial_values;
 use crate::starts::{Start, starts_in};
 use crate::sums::{GROUND_ACTIONS, GROUND_FLUENTS, sum_passes};
 use golog_base::{List, NoMemory, both};
 use golog_rows::{Refusal, least_of};
+use golog_shapes::{FRONT_DEEP, blocks_refused, fronts_refused, is_too_deep};
 use golog_tree::{
     Agent, CauseItem, DraftMain, DraftProgram, DraftTheory, Firsts, PossItem, ProcItem, Prog,
     SenseItem, SortItem,

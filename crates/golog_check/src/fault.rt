@@ -11,12 +11,6 @@ pub const SORT_CLASH: u8 = 30;
 /// A word in the place of a term is neither a variable nor a constant.
 pub const UNBOUND: u8 = 31;
 
-/// A procedure reaches itself without a step.
-pub const UNGUARDED: u8 = 32;
-
-/// The program of a search block has a search block, or calls a procedure that has one.
-pub const NESTED_SEARCH: u8 = 33;
-
 /// The sum of ground fluents or of ground actions passes its limit.
 pub const GROUND_TOO_MANY: u8 = 34;
 
@@ -25,12 +19,6 @@ pub const BAD_START: u8 = 35;
 
 /// An action senses a second time, or has no device, or is exogenous.
 pub const SENSE_CLASH: u8 = 36;
-
-/// The depth or the fuel of a search block is out of its range.
-pub const SEARCH_NUMBERS: u8 = 37;
-
-/// The program of `main`, or a procedure with what it calls without a step, nests too deep.
-pub const FRONT_DEEP: u8 = 38;
 
 /// Why a draft was not taken for an agent or a condition.
 #[derive(Debug, Drop, Error)]

@@ -2,23 +2,18 @@
 #![tactic(auto)]
 
 mod args;
-mod blocks;
 mod checked;
 mod checking;
 mod conditions;
 mod copies;
 mod effects;
 mod fault;
-mod fronts;
 mod heads;
 mod laws;
 mod names;
-mod nesting;
 mod numbering;
 mod procs;
 mod programs;
-mod reaching;
-mod rounds;
 mod scope;
 mod sensing;
 mod start_values;
@@ -28,10 +23,8 @@ mod terms;
 
 pub use checking::check;
 pub use conditions::{check_condition, cond_in};
-pub use fault::{
-    BAD_START, CheckFault, FRONT_DEEP, GROUND_TOO_MANY, NESTED_SEARCH, SEARCH_NUMBERS, SENSE_CLASH,
-    SORT_CLASH, UNBOUND, UNGUARDED,
-};
+pub use fault::{BAD_START, CheckFault, GROUND_TOO_MANY, SENSE_CLASH, SORT_CLASH, UNBOUND};
+pub use golog_shapes::{FRONT_DEEP, NESTED_SEARCH, SEARCH_NUMBERS, UNGUARDED};
 pub use laws::{agents_fit, args_fit, conds_fit, progs_fit, terms_fit, unguarded_is_reached};
 pub use names::Names;
 pub use programs::prog_in;

@@ -1,59 +1,17 @@
-ghost use Rattle.std.specs.Prelude.{◌≡◌, [], ◌∷◌, ◌++◌, map, IfOk};
-ghost use Rattle.golog_tree.specs.Ground.{to_count};
+ghost use Rattle.std.specs.Prelude.{map};
 ghost use Rattle.golog_check.specs.Faults.{Answers, Leaves};
 ghost use Rattle.golog_check.specs.Scope.{within};
-ghost use Rattle.golog_check.specs.Programs.{prog_in, progs_after, progs_in, parts_in, nested};
+ghost use Rattle.golog_check.specs.Programs.{prog_in, progs_after, progs_in, parts_in};
 
 use crate::args::args_in;
 use crate::conditions::cond_in;
 use crate::fault::CheckFault;
 use crate::names::Names;
 use crate::scope::{Variable, variable_no, within};
-use golog_base::{Boxed, List, NoMemory, Word, both};
-use golog_tree::{DraftProg, Join, Prog, join_two};
+use golog_base::{Boxed, List, Word, both};
+use golog_shapes::{count_of, nested};
+use golog_tree::{DraftProg, Join, Prog};
 use std::alloc::Global;
-
-/// The last part behind the others, nested to the right.
-#[tactic(auto, using(crate::proofs::Nested::laws))]
-fn nested_behind(
-    alloc: Global,
-    join: Join,
-    others: &mut List<Prog>,
-    last: Prog,
-) -> Result<Prog, NoMemory>
-    ensures { IfOk result (λ prog. prog ≡ nested join (others.old ++ last ∷ [])) }
-{
-    let mut prog = last;
-    while let Some(part) = others.pop() {
-        prog = join_two(alloc, join, part, prog)?;
-    }
-    Ok(prog)
-}
-
-/// The parts, nested to the right: `nil` for none, and one for itself.
-fn nested(alloc: Global, join: Join, parts: List<Prog>) -> Result<Prog, NoMemory>
-    ensures { IfOk result (λ prog. prog ≡ nested join parts) }
-{
-    let mut parts = parts;
-    match parts.pop() {
-        Some(last) => {
-            let prog = nested_behind(alloc, join, &mut parts, last);
-            drop(parts);
-            prog
-        }
-        None => {
-            drop(parts);
-            Ok(Prog::Nil)
-        }
-    }
-}
-
-/// A depth or a fuel, where one below 0 counts as none.
-pub fn count_of(number: i32) -> u32
-    ensures { result ≡ to_count number }
-{
-    if number < 0 { 0 } else { number as u32 }
-}
 
 /// Adds programs in a scope, one after another.
 #[cycle(programs)]

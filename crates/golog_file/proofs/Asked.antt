@@ -1,6 +1,6 @@
 -- A condition that was read over the theory of a file keeps the rules over the agent of the file.
 use Rattle.std.proofs.Common.{◌≡◌, subst}
-use Rattle.golog_prog.proofs.Signatures.{stays-kept}
+use Rattle.golog_file.proofs.Signatures.{stays-kept}
 use Rattle.golog_file.specs.Laws.{ReadConditionsStayKept}
 use Rattle.golog_file.specs.Spelled.{DraftSpells, FormSpells}
 use Rattle.golog_file.proofs.Excluded.{one-form, theory-same}

@@ -5,10 +5,12 @@ use Rattle.golog_form.specs.Spelling.{Spells}
 use Rattle.golog_tree.specs.declared.agent.Agent.{Agent}
 use Rattle.golog_tree.specs.declared.cond.Cond.{Cond}
 use Rattle.golog_tree.specs.declared.draft.DraftTheory.{DraftTheory}
+use Rattle.golog_tree.specs.declared.draft.DraftProgram.{DraftProgram}
 use Rattle.golog_tree.specs.declared.draft_cond.DraftCond.{DraftCond}
-use Rattle.golog_draft.specs.Drafts.{CondKeeps, AgentCondKeeps}
+use Rattle.golog_draft.specs.Drafts.{signature, agent_signature, CondKeeps, AgentCondKeeps}
 use Rattle.golog_semantics.specs.ReportLaws.{RangesFit}
 use Rattle.golog_theory.specs.Items.{theory_of}
+use Rattle.golog_check.specs.Check.{Checks}
 use Rattle.golog_file.specs.Spelled.{SpellsAgent, IsFirstRefusal}
 use Rattle.golog_file.specs.Conditions.{SpellsCond, RefusesCond}
 
@@ -21,6 +23,18 @@ SpelledIsUnrefused =
 abbrev pub OneAgentIsSpelled : Type 0
 OneAgentIsSpelled =
     (bytes : List ℕ) (one other : Agent) → SpellsAgent bytes one → SpellsAgent bytes other → one ≡ other
+
+-- the agent of a theory has as many sorts as the theory, and its fluents have as many arguments
+abbrev pub SignatureStays : Type 0
+SignatureStays =
+    (theory : DraftTheory) (program : DraftProgram) (agent : Agent) → Checks (Ok agent) theory program
+    → agent_signature agent ≡ signature theory
+
+-- a condition that keeps the rules over the theory keeps them over the agent
+abbrev pub ConditionsStayKept : Type 0
+ConditionsStayKept =
+    (theory : DraftTheory) (program : DraftProgram) (agent : Agent) → Checks (Ok agent) theory program
+    → (cond : DraftCond) → CondKeeps theory cond → AgentCondKeeps agent cond
 
 -- A condition that keeps the rules over the theory of the form that bytes spell keeps them over the agent that
 -- they spell.

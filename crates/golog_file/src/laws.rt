@@ -1,4 +1,4 @@
-ghost use Rattle.golog_file.specs.Laws.{OneAgentIsSpelled, OneCondIsSpelled, RangesOfAgentsFit, ReadConditionsStayKept, SpelledCondIsUnrefused, SpelledIsUnrefused};
+ghost use Rattle.golog_file.specs.Laws.{ConditionsStayKept, OneAgentIsSpelled, OneCondIsSpelled, RangesOfAgentsFit, ReadConditionsStayKept, SignatureStays, SpelledCondIsUnrefused, SpelledIsUnrefused};
 
 /// Bytes that spell an agent are not refused.
 pub fn spelled_is_unrefused()
@@ -8,6 +8,17 @@ pub fn spelled_is_unrefused()
 /// Bytes spell one agent at most.
 pub fn one_agent_is_spelled()
     ensures { OneAgentIsSpelled }
+{}
+
+/// An agent that a check makes of a theory has as many sorts and arguments as the theory.
+pub fn signature_stays()
+    ensures { SignatureStays }
+{}
+
+/// A condition that keeps the rules over a theory, as one that was read does, keeps them over each agent that
+/// a check makes of the theory.
+pub fn conditions_stay_kept()
+    ensures { ConditionsStayKept }
 {}
 
 /// A condition that was read over the theory of a file keeps the rules over the agent of the file, so that

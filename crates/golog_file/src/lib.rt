@@ -9,7 +9,7 @@ mod reading;
 pub use condition::read_condition;
 pub use fault::{AgentFault, CondFault};
 pub use laws::{
-    one_agent_is_spelled, one_cond_is_spelled, ranges_of_agents_fit, read_conditions_stay_kept,
-    spelled_cond_is_unrefused, spelled_is_unrefused,
+    conditions_stay_kept, one_agent_is_spelled, one_cond_is_spelled, ranges_of_agents_fit,
+    read_conditions_stay_kept, signature_stays, spelled_cond_is_unrefused, spelled_is_unrefused,
 };
 pub use reading::{Understood, read_agent, read_theory_and_agent};

@@ -5,6 +5,3 @@ pub mod Callees
 pub mod Constructs
 pub mod Programs
 pub mod Items
-pub mod Printing
-pub mod ReadBack
-pub mod Laws

@@ -31,249 +31,11 @@ fn nil_of(form: &Form) -> Result<DraftProg, TheoryFault>
     }
 }
 
-/// `(test COND)`
-#[tactic(auto, unfolding(crate::specs::Constructs::test_of))]
-fn test_of(
-    alloc: Global,
-    theory: &Indexed<'_>,
-    procs: &Procedures,
-    scope: usize,
-    at: Place,
-    parts: &[Form],
-) -> Result<DraftProg, TheoryFault>
-    ensures { Answers result (test_of theory.now scope at (prog_parts theory.now procs.now parts.now)) }
-{
-    let [cond] = parts else {
-        return Err(unknown_form(at));
-    };
-    let cond = cond_of(alloc, theory, cond, scope)?;
-    Ok(DraftProg::Test { cond, at })
-}
-
-/// The program that a form spells within so many variables.
-#[cycle(programs)]
-#[tactic(auto, using(crate::proofs::Progs::laws))]
-pub fn prog_of(
-    alloc: Global,
-    theory: &Indexed<'_>,
-    procs: &Procedures,
-    form: &Form,
-    scope: usize,
-) -> Result<DraftProg, TheoryFault>
-    ensures { Answers result (prog_of theory.now procs.now form.now scope) }
-{
-    let Some((head, parts)) = split_list(form) else {
-        return nil_of(form);
-    };
-    match keyword_of(word(head)) {
-        Some(keyword) => construct_of(alloc, theory, procs, form, scope, keyword, parts),
-        None => Err(unknown_form(form.at())),
-    }
-}
-
-/// The program of a list that begins with the keyword: `(seq PROGS)`, `(choice PROG PROG)` and more, `(star PROG)`
-/// and their like.
-#[cycle(programs)]
-#[tactic(auto, using(crate::proofs::Progs::laws), unfolding(crate::specs::Programs::construct_of, crate::specs::Constructs::seq_of, crate::specs::Constructs::choice_of, crate::specs::Constructs::conc_of, crate::specs::Constructs::prio_of, crate::specs::Constructs::star_of, crate::specs::Constructs::cstar_of, crate::specs::Constructs::while_of))]
-fn construct_of(
-    alloc: Global,
-    theory: &Indexed<'_>,
-    procs: &Procedures,
-    form: &Form,
-    scope: usize,
-    keyword: Keyword,
-    parts: &[Form],
-) -> Result<DraftProg, TheoryFault>
-    ensures { Answers result (construct_of theory.now procs.now form.now scope keyword
-        (prog_parts theory.now procs.now parts.now)) }
-{
-    let at = form.at();
-    match keyword {
-        Keyword::Act => act_of(alloc, theory, at, arguments(form)),
-        Keyword::Test => test_of(alloc, theory, procs, scope, at, parts),
-        Keyword::Seq => {
-            progs_of(alloc, theory, procs, scope, parts).map(|parts| DraftProg::Seq { parts, at })
-        }
-        Keyword::Choice => {
-            several_of(alloc, theory, procs, scope, at, parts).map(|parts| DraftProg::Choice {
-                parts,
-                at,
-            })
-        }
-        Keyword::Pick => pick_of(alloc, theory, procs, scope, at, parts),
-        Keyword::Star => {
-            one_of(alloc, theory, procs, scope, at, parts).map(|body| DraftProg::Star { body, at })
-        }
-        Keyword::If => if_of(alloc, theory, procs, scope, at, parts),
-        Keyword::While => {
-            guard_of(alloc, theory, procs, scope, at, parts).map(|guarded| DraftProg::While {
-                cond: guarded.cond,
-                body: guarded.body,
-                at,
-            })
-        }
-        Keyword::Conc => {
-            several_of(alloc, theory, procs, scope, at, parts).map(|parts| DraftProg::Conc {
-                parts,
-                at,
-            })
-        }
-        Keyword::Prio => {
-            several_of(alloc, theory, procs, scope, at, parts).map(|parts| DraftProg::Prio {
-                parts,
-                at,
-            })
-        }
-        Keyword::Cstar => {
-            one_of(alloc, theory, procs, scope, at, parts).map(|body| DraftProg::Cstar { body, at })
-        }
-        Keyword::Call => call_of(alloc, procs, at, arguments(form)),
-        Keyword::Search => search_of(alloc, theory, procs, scope, at, parts),
-        Keyword::Interrupt => interrupt_of(alloc, theory, procs, scope, at, parts),
-        Keyword::Interrupts => interrupts_of(alloc, theory, procs, scope, at, parts),
-    }
-}
-
-#[cycle(programs)]
-#[tactic(auto, using(crate::proofs::Progs::laws), unfolding(crate::specs::Constructs::progs_of))]
-fn progs_of(
-    alloc: Global,
-    theory: &Indexed<'_>,
-    procs: &Procedures,
-    scope: usize,
-    forms: &[Form],
-) -> Result<List<DraftProg>, TheoryFault>
-    ensures { Answers result (progs_of scope (prog_parts theory.now procs.now forms.now)) }
-{
-    let mut progs = List::new(alloc);
-    for form in forms {
-        progs.push(prog_of(alloc, theory, procs, form, scope)?)?;
-    }
-    Ok(progs)
-}
-
-/// At least two programs.
-#[cycle(programs)]
-#[tactic(auto, using(crate::proofs::Progs::laws), unfolding(crate::specs::Constructs::several_of))]
-fn several_of(
-    alloc: Global,
-    theory: &Indexed<'_>,
-    procs: &Procedures,
-    scope: usize,
-    at: Place,
-    parts: &[Form],
-) -> Result<List<DraftProg>, TheoryFault>
-    ensures { Answers result (several_of scope at (prog_parts theory.now procs.now parts.now)) }
-{
-    refuse_where(parts.len() < 2, UNKNOWN_FORM, at)?;
-    progs_of(alloc, theory, procs, scope, parts)
-}
-
-/// A program in memory of its own.
-#[cycle(programs)]
-#[tactic(auto, using(crate::proofs::Progs::laws))]
-fn boxed_of(
-    alloc: Global,
-    theory: &Indexed<'_>,
-    procs: &Procedures,
-    form: &Form,
-    scope: usize,
-) -> Result<Boxed<DraftProg>, TheoryFault>
-    ensures { Answers result (prog_of theory.now procs.now form.now scope) }
-{
-    let prog = prog_of(alloc, theory, procs, form, scope)?;
-    Ok(Boxed::new(alloc, prog)?)
-}
-
-/// `(pick (VAR SORT) PROG)`, where the variable is not one too many.
-#[cycle(programs)]
-#[tactic(auto, using(crate::proofs::Progs::laws), unfolding(crate::specs::Constructs::pick_of))]
-fn pick_of(
-    alloc: Global,
-    theory: &Indexed<'_>,
-    procs: &Procedures,
-    scope: usize,
-    at: Place,
-    parts: &[Form],
-) -> Result<DraftProg, TheoryFault>
-    ensures { Answers result (pick_of theory.now scope at (prog_parts theory.now procs.now parts.now)) }
-{
-    let [binder, body] = parts else {
-        return Err(unknown_form(at));
-    };
-    refuse_where(scope >= VARIABLES, COUNT, at)?;
-    let Binder { var, sort } = binder_of(theory, binder)?;
-    let body = boxed_of(alloc, theory, procs, body, scope + 1)?;
-    Ok(DraftProg::Pick {
-        var,
-        sort,
-        body,
-        at,
-    })
-}
-
-/// One program.
-#[cycle(programs)]
-#[tactic(auto, using(crate::proofs::Progs::laws), unfolding(crate::specs::Constructs::one_of))]
-fn one_of(
-    alloc: Global,
-    theory: &Indexed<'_>,
-    procs: &Procedures,
-    scope: usize,
-    at: Place,
-    parts: &[Form],
-) -> Result<Boxed<DraftProg>, TheoryFault>
-    ensures { Answers result (one_of scope at (prog_parts theory.now procs.now parts.now)) }
-{
-    let [body] = parts else {
-        return Err(unknown_form(at));
-    };
-    boxed_of(alloc, theory, procs, body, scope)
-}
-
 /// A condition, and the program that it guards.
 #[derive(Drop)]
 pub struct Guarded {
     pub cond: DraftCond,
     pub body: Boxed<DraftProg>,
-}
-
-/// A COND and a PROG.
-#[cycle(programs)]
-#[tactic(auto, using(crate::proofs::Progs::laws), unfolding(crate::specs::Constructs::guarded_of))]
-fn guarded_of(
-    alloc: Global,
-    theory: &Indexed<'_>,
-    procs: &Procedures,
-    scope: usize,
-    cond: &Form,
-    body: &Form,
-) -> Result<Guarded, TheoryFault>
-    ensures { Answers result (guarded_of theory.now scope (prog_part theory.now procs.now cond.now)
-        (prog_part theory.now procs.now body.now)) }
-{
-    let body = boxed_of(alloc, theory, procs, body, scope);
-    let (cond, body) = both(cond_of(alloc, theory, cond, scope), body)?;
-    Ok(Guarded { cond, body })
-}
-
-/// A COND and a PROG, and nothing more.
-#[cycle(programs)]
-#[tactic(auto, using(crate::proofs::Progs::laws), unfolding(crate::specs::Constructs::guard_of))]
-fn guard_of(
-    alloc: Global,
-    theory: &Indexed<'_>,
-    procs: &Procedures,
-    scope: usize,
-    at: Place,
-    parts: &[Form],
-) -> Result<Guarded, TheoryFault>
-    ensures { Answers result (guard_of theory.now scope at (prog_parts theory.now procs.now parts.now)) }
-{
-    let [cond, body] = parts else {
-        return Err(unknown_form(at));
-    };
-    guarded_of(alloc, theory, procs, scope, cond, body)
 }
 
 /// `nil` in memory of its own.
@@ -283,102 +45,307 @@ fn boxed_nil(alloc: Global, at: Place) -> Result<Boxed<DraftProg>, TheoryFault>
     Ok(Boxed::new(alloc, DraftProg::Nil { at })?)
 }
 
-/// `(if COND PROG)` or `(if COND PROG PROG)`
-#[cycle(programs)]
-#[tactic(auto, using(crate::proofs::Progs::laws), unfolding(crate::specs::Constructs::if_of))]
-fn if_of(
+/// What programs are read over: a theory, and the procedures that they may call.
+#[derive(Clone, Copy)]
+struct Reader<'a> {
     alloc: Global,
-    theory: &Indexed<'_>,
-    procs: &Procedures,
-    scope: usize,
-    at: Place,
-    parts: &[Form],
-) -> Result<DraftProg, TheoryFault>
-    ensures { Answers result (if_of theory.now scope at (prog_parts theory.now procs.now parts.now)) }
-{
-    match parts {
-        [cond, yes] => {
-            let yes = guarded_of(alloc, theory, procs, scope, cond, yes);
-            both(yes, boxed_nil(alloc, at)).map(|(yes, no)| DraftProg::If {
-                cond: yes.cond,
-                yes: yes.body,
-                no,
-                at,
-            })
+    theory: &'a Indexed<'a>,
+    procs: &'a Procedures,
+}
+
+impl<'a> Reader<'a> {
+    /// `(test COND)`
+    #[tactic(auto, unfolding(crate::specs::Constructs::test_of))]
+    fn test_of(&self, scope: usize, at: Place, parts: &[Form]) -> Result<DraftProg, TheoryFault>
+        ensures { Answers result (test_of self.now.theory.now scope at
+            (prog_parts self.now.theory.now self.now.procs.now parts.now)) }
+    {
+        let [cond] = parts else {
+            return Err(unknown_form(at));
+        };
+        let cond = cond_of(self.alloc, self.theory, cond, scope)?;
+        Ok(DraftProg::Test { cond, at })
+    }
+
+    /// The program that a form spells within so many variables.
+    #[cycle(programs)]
+    #[tactic(auto, using(crate::proofs::Progs::laws))]
+    fn prog_of(&self, form: &Form, scope: usize) -> Result<DraftProg, TheoryFault>
+        ensures { Answers result (prog_of self.now.theory.now self.now.procs.now form.now scope) }
+    {
+        let Some((head, parts)) = split_list(form) else {
+            return nil_of(form);
+        };
+        match keyword_of(word(head)) {
+            Some(keyword) => self.construct_of(form, scope, keyword, parts),
+            None => Err(unknown_form(form.at())),
         }
-        [cond, yes, no] => {
-            let yes = guarded_of(alloc, theory, procs, scope, cond, yes);
-            both(yes, boxed_of(alloc, theory, procs, no, scope)).map(|(yes, no)| DraftProg::If {
-                cond: yes.cond,
-                yes: yes.body,
-                no,
-                at,
-            })
+    }
+
+    /// The program of a list that begins with the keyword: `(seq PROGS)`, `(choice PROG PROG)` and more, `(star PROG)`
+    /// and their like.
+    #[cycle(programs)]
+    #[tactic(auto, using(crate::proofs::Progs::laws), unfolding(crate::specs::Programs::construct_of, crate::specs::Constructs::seq_of, crate::specs::Constructs::choice_of, crate::specs::Constructs::conc_of, crate::specs::Constructs::prio_of, crate::specs::Constructs::star_of, crate::specs::Constructs::cstar_of, crate::specs::Constructs::while_of))]
+    fn construct_of(
+        &self,
+        form: &Form,
+        scope: usize,
+        keyword: Keyword,
+        parts: &[Form],
+    ) -> Result<DraftProg, TheoryFault>
+        ensures { Answers result (construct_of self.now.theory.now self.now.procs.now form.now scope keyword
+            (prog_parts self.now.theory.now self.now.procs.now parts.now)) }
+    {
+        let at = form.at();
+        match keyword {
+            Keyword::Act => act_of(self.alloc, self.theory, at, arguments(form)),
+            Keyword::Test => self.test_of(scope, at, parts),
+            Keyword::Seq => {
+                self.progs_of(scope, parts)
+                    .map(|parts| DraftProg::Seq { parts, at })
+            }
+            Keyword::Choice => {
+                self.several_of(scope, at, parts)
+                    .map(|parts| DraftProg::Choice { parts, at })
+            }
+            Keyword::Pick => self.pick_of(scope, at, parts),
+            Keyword::Star => {
+                self.one_of(scope, at, parts)
+                    .map(|body| DraftProg::Star { body, at })
+            }
+            Keyword::If => self.if_of(scope, at, parts),
+            Keyword::While => {
+                self.guard_of(scope, at, parts)
+                    .map(|guarded| DraftProg::While {
+                        cond: guarded.cond,
+                        body: guarded.body,
+                        at,
+                    })
+            }
+            Keyword::Conc => {
+                self.several_of(scope, at, parts)
+                    .map(|parts| DraftProg::Conc { parts, at })
+            }
+            Keyword::Prio => {
+                self.several_of(scope, at, parts)
+                    .map(|parts| DraftProg::Prio { parts, at })
+            }
+            Keyword::Cstar => {
+                self.one_of(scope, at, parts)
+                    .map(|body| DraftProg::Cstar { body, at })
+            }
+            Keyword::Call => call_of(self.alloc, self.procs, at, arguments(form)),
+            Keyword::Search => self.search_of(scope, at, parts),
+            Keyword::Interrupt => self.interrupt_of(scope, at, parts),
+            Keyword::Interrupts => self.interrupts_of(scope, at, parts),
         }
-        _ => Err(unknown_form(at)),
+    }
+
+    #[cycle(programs)]
+    #[tactic(auto, using(crate::proofs::Progs::laws), unfolding(crate::specs::Constructs::progs_of))]
+    fn progs_of(&self, scope: usize, forms: &[Form]) -> Result<List<DraftProg>, TheoryFault>
+        ensures { Answers result (progs_of scope
+            (prog_parts self.now.theory.now self.now.procs.now forms.now)) }
+    {
+        let mut progs = List::new(self.alloc);
+        for form in forms {
+            progs.push(self.prog_of(form, scope)?)?;
+        }
+        Ok(progs)
+    }
+
+    /// At least two programs.
+    #[cycle(programs)]
+    #[tactic(auto, using(crate::proofs::Progs::laws), unfolding(crate::specs::Constructs::several_of))]
+    fn several_of(
+        &self,
+        scope: usize,
+        at: Place,
+        parts: &[Form],
+    ) -> Result<List<DraftProg>, TheoryFault>
+        ensures { Answers result (several_of scope at
+            (prog_parts self.now.theory.now self.now.procs.now parts.now)) }
+    {
+        refuse_where(parts.len() < 2, UNKNOWN_FORM, at)?;
+        self.progs_of(scope, parts)
+    }
+
+    /// A program in memory of its own.
+    #[cycle(programs)]
+    #[tactic(auto, using(crate::proofs::Progs::laws))]
+    fn boxed_of(&self, form: &Form, scope: usize) -> Result<Boxed<DraftProg>, TheoryFault>
+        ensures { Answers result (prog_of self.now.theory.now self.now.procs.now form.now scope) }
+    {
+        let prog = self.prog_of(form, scope)?;
+        Ok(Boxed::new(self.alloc, prog)?)
+    }
+
+    /// `(pick (VAR SORT) PROG)`, where the variable is not one too many.
+    #[cycle(programs)]
+    #[tactic(auto, using(crate::proofs::Progs::laws), unfolding(crate::specs::Constructs::pick_of))]
+    fn pick_of(&self, scope: usize, at: Place, parts: &[Form]) -> Result<DraftProg, TheoryFault>
+        ensures { Answers result (pick_of self.now.theory.now scope at
+            (prog_parts self.now.theory.now self.now.procs.now parts.now)) }
+    {
+        let [binder, body] = parts else {
+            return Err(unknown_form(at));
+        };
+        refuse_where(scope >= VARIABLES, COUNT, at)?;
+        let Binder { var, sort } = binder_of(self.theory, binder)?;
+        let body = self.boxed_of(body, scope + 1)?;
+        Ok(DraftProg::Pick {
+            var,
+            sort,
+            body,
+            at,
+        })
+    }
+
+    /// One program.
+    #[cycle(programs)]
+    #[tactic(auto, using(crate::proofs::Progs::laws), unfolding(crate::specs::Constructs::one_of))]
+    fn one_of(
+        &self,
+        scope: usize,
+        at: Place,
+        parts: &[Form],
+    ) -> Result<Boxed<DraftProg>, TheoryFault>
+        ensures { Answers result (one_of scope at
+            (prog_parts self.now.theory.now self.now.procs.now parts.now)) }
+    {
+        let [body] = parts else {
+            return Err(unknown_form(at));
+        };
+        self.boxed_of(body, scope)
+    }
+
+    /// A COND and a PROG.
+    #[cycle(programs)]
+    #[tactic(auto, using(crate::proofs::Progs::laws), unfolding(crate::specs::Constructs::guarded_of))]
+    fn guarded_of(&self, scope: usize, cond: &Form, body: &Form) -> Result<Guarded, TheoryFault>
+        ensures { Answers result (guarded_of self.now.theory.now scope
+            (prog_part self.now.theory.now self.now.procs.now cond.now)
+            (prog_part self.now.theory.now self.now.procs.now body.now)) }
+    {
+        let body = self.boxed_of(body, scope);
+        let (cond, body) = both(cond_of(self.alloc, self.theory, cond, scope), body)?;
+        Ok(Guarded { cond, body })
+    }
+
+    /// A COND and a PROG, and nothing more.
+    #[cycle(programs)]
+    #[tactic(auto, using(crate::proofs::Progs::laws), unfolding(crate::specs::Constructs::guard_of))]
+    fn guard_of(&self, scope: usize, at: Place, parts: &[Form]) -> Result<Guarded, TheoryFault>
+        ensures { Answers result (guard_of self.now.theory.now scope at
+            (prog_parts self.now.theory.now self.now.procs.now parts.now)) }
+    {
+        let [cond, body] = parts else {
+            return Err(unknown_form(at));
+        };
+        self.guarded_of(scope, cond, body)
+    }
+
+    /// `(if COND PROG)` or `(if COND PROG PROG)`
+    #[cycle(programs)]
+    #[tactic(auto, using(crate::proofs::Progs::laws), unfolding(crate::specs::Constructs::if_of))]
+    fn if_of(&self, scope: usize, at: Place, parts: &[Form]) -> Result<DraftProg, TheoryFault>
+        ensures { Answers result (if_of self.now.theory.now scope at
+            (prog_parts self.now.theory.now self.now.procs.now parts.now)) }
+    {
+        match parts {
+            [cond, yes] => {
+                let yes = self.guarded_of(scope, cond, yes);
+                both(yes, boxed_nil(self.alloc, at)).map(|(yes, no)| DraftProg::If {
+                    cond: yes.cond,
+                    yes: yes.body,
+                    no,
+                    at,
+                })
+            }
+            [cond, yes, no] => {
+                let yes = self.guarded_of(scope, cond, yes);
+                both(yes, self.boxed_of(no, scope)).map(|(yes, no)| DraftProg::If {
+                    cond: yes.cond,
+                    yes: yes.body,
+                    no,
+                    at,
+                })
+            }
+            _ => Err(unknown_form(at)),
+        }
+    }
+
+    /// `(search DEPTH FUEL PROG)`
+    #[cycle(programs)]
+    #[tactic(auto, using(crate::proofs::Progs::laws), unfolding(crate::specs::Constructs::search_of))]
+    fn search_of(&self, scope: usize, at: Place, parts: &[Form]) -> Result<DraftProg, TheoryFault>
+        ensures { Answers result (search_of scope at
+            (prog_parts self.now.theory.now self.now.procs.now parts.now)) }
+    {
+        let [depth, fuel, body] = parts else {
+            return Err(unknown_form(at));
+        };
+        let depth = number_of(depth)?;
+        let fuel = number_of(fuel)?;
+        let body = self.boxed_of(body, scope)?;
+        Ok(DraftProg::Search {
+            depth,
+            fuel,
+            body,
+            at,
+        })
+    }
+
+    /// `(interrupt COND PROG)`
+    #[cycle(programs)]
+    #[tactic(auto, using(crate::proofs::Progs::laws), unfolding(crate::specs::Constructs::interrupt_of))]
+    fn interrupt_of(
+        &self,
+        scope: usize,
+        at: Place,
+        parts: &[Form],
+    ) -> Result<DraftProg, TheoryFault>
+        ensures { Answers result (interrupt_of self.now.theory.now scope at
+            (prog_parts self.now.theory.now self.now.procs.now parts.now)) }
+    {
+        let Guarded { cond, body } = self.guard_of(scope, at, parts)?;
+        Ok(interrupt(self.alloc, cond, body, at)?)
+    }
+
+    /// `(interrupts PROG)`
+    #[cycle(programs)]
+    #[tactic(auto, using(crate::proofs::Progs::laws), unfolding(crate::specs::Constructs::interrupts_of, crate::specs::Constructs::one_of))]
+    fn interrupts_of(
+        &self,
+        scope: usize,
+        at: Place,
+        parts: &[Form],
+    ) -> Result<DraftProg, TheoryFault>
+        ensures { Answers result (interrupts_of scope at
+            (prog_parts self.now.theory.now self.now.procs.now parts.now)) }
+    {
+        let [body] = parts else {
+            return Err(unknown_form(at));
+        };
+        let body = self.prog_of(body, scope)?;
+        Ok(interrupts(self.alloc, body, at)?)
     }
 }
 
-/// `(search DEPTH FUEL PROG)`
-#[cycle(programs)]
-#[tactic(auto, using(crate::proofs::Progs::laws), unfolding(crate::specs::Constructs::search_of))]
-fn search_of(
+/// The program that a form spells within so many variables.
+pub fn prog_of(
     alloc: Global,
     theory: &Indexed<'_>,
     procs: &Procedures,
+    form: &Form,
     scope: usize,
-    at: Place,
-    parts: &[Form],
 ) -> Result<DraftProg, TheoryFault>
-    ensures { Answers result (search_of scope at (prog_parts theory.now procs.now parts.now)) }
+    ensures { Answers result (prog_of theory.now procs.now form.now scope) }
 {
-    let [depth, fuel, body] = parts else {
-        return Err(unknown_form(at));
+    let reader = Reader {
+        alloc,
+        theory,
+        procs,
     };
-    let depth = number_of(depth)?;
-    let fuel = number_of(fuel)?;
-    let body = boxed_of(alloc, theory, procs, body, scope)?;
-    Ok(DraftProg::Search {
-        depth,
-        fuel,
-        body,
-        at,
-    })
-}
-
-/// `(interrupt COND PROG)`
-#[cycle(programs)]
-#[tactic(auto, using(crate::proofs::Progs::laws), unfolding(crate::specs::Constructs::interrupt_of))]
-fn interrupt_of(
-    alloc: Global,
-    theory: &Indexed<'_>,
-    procs: &Procedures,
-    scope: usize,
-    at: Place,
-    parts: &[Form],
-) -> Result<DraftProg, TheoryFault>
-    ensures { Answers result (interrupt_of theory.now scope at (prog_parts theory.now procs.now parts.now)) }
-{
-    let Guarded { cond, body } = guard_of(alloc, theory, procs, scope, at, parts)?;
-    Ok(interrupt(alloc, cond, body, at)?)
-}
-
-/// `(interrupts PROG)`
-#[cycle(programs)]
-#[tactic(auto, using(crate::proofs::Progs::laws), unfolding(crate::specs::Constructs::interrupts_of, crate::specs::Constructs::one_of))]
-fn interrupts_of(
-    alloc: Global,
-    theory: &Indexed<'_>,
-    procs: &Procedures,
-    scope: usize,
-    at: Place,
-    parts: &[Form],
-) -> Result<DraftProg, TheoryFault>
-    ensures { Answers result (interrupts_of scope at (prog_parts theory.now procs.now parts.now)) }
-{
-    let [body] = parts else {
-        return Err(unknown_form(at));
-    };
-    let body = prog_of(alloc, theory, procs, body, scope)?;
-    Ok(interrupts(alloc, body, at)?)
+    reader.prog_of(form, scope)
 }

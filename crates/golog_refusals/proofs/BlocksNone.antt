@@ -35,11 +35,11 @@ use Rattle.golog_check.specs.DeclaredItems.{Declared, param_sorts}
 use Rattle.golog_check.specs.Sorts as sorts
 use Rattle.golog_check.specs.Scope.{Scope, variable_no, within}
 use Rattle.golog_check.specs.Procs.{params_of}
-use Rattle.golog_check.specs.Unguarded.{said, refused_where}
-use Rattle.golog_check.specs.DraftBlocks.{Blocks, blocks_step, blocks_of, block_refusals, refused_step, numbers_fit, of_each}
-use Rattle.golog_check.specs.Fronts.{draft_has_step, draft_has}
-use Rattle.golog_check.proofs.BlockLaws.{told-has}
-use Rattle.golog_check.proofs.Fores.{said-block}
+use Rattle.golog_shapes.specs.Unguarded.{said, refused_where}
+use Rattle.golog_shapes.specs.DraftBlocks.{Blocks, blocks_step, blocks_of, block_refusals, refused_step, numbers_fit, of_each}
+use Rattle.golog_shapes.specs.Fronts.{draft_has_step, draft_has}
+use Rattle.golog_shapes.proofs.BlockShapes.{told-has}
+use Rattle.golog_shapes.proofs.Fores.{said-block}
 use Rattle.golog_tree.specs.Tidy.{Layer}
 use Rattle.golog_refusals.specs.Says.{ProgSays, args_say, cond_says, parts_say, prog_says_layer, prog_says_step, prog_says}
 use Rattle.golog_refusals.specs.SaysAgent.{AreSaid, proc_says}

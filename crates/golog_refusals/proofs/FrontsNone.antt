@@ -11,8 +11,8 @@ use Rattle.golog_rows.specs.Least.{CodeAt}
 use Rattle.golog_semantics.specs.Guarded.{IsGuarded}
 use Rattle.golog_semantics.specs.FrontCalls.{front_nests}
 use Rattle.golog_semantics.proofs.FrontCallsLaws.{guarded_is_unreached}
-use Rattle.golog_check.specs.Shapes.{shapes}
-use Rattle.golog_check.specs.Unguarded.{has_no_nest, is_unguarded, is_deep, refused_where, front_refusals, all_front_refusals}
+use Rattle.golog_shapes.specs.Shapes.{shapes}
+use Rattle.golog_shapes.specs.Unguarded.{has_no_nest, is_unguarded, is_deep, refused_where, front_refusals, all_front_refusals}
 use Rattle.golog_check.proofs.ReachLaws.{said-reach}
 use Rattle.golog_check.proofs.Transfer.{AllAlike, same-nests, same-reach}
 

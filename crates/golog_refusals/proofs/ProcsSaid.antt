@@ -25,11 +25,11 @@ use Rattle.golog_draft.specs.Drafts.{ProgramKeeps, draft_args_keep, draft_proc_k
 use Rattle.golog_check.specs.DeclaredItems.{Declared, param_sorts}
 use Rattle.golog_check.specs.Least.{refusal_of, refusals, given}
 use Rattle.golog_check.specs.Programs.{prog_in}
-use Rattle.golog_check.specs.DraftNest.{draft_nest}
+use Rattle.golog_shapes.specs.DraftNest.{draft_nest}
 use Rattle.golog_check.specs.Procs.{params_of, proc_in}
-use Rattle.golog_check.specs.Shapes.{shape_of, shapes}
-use Rattle.golog_check.specs.Unguarded.{all_front_refusals}
-use Rattle.golog_check.specs.DraftBlocks.{block_refusals, all_block_refusals}
+use Rattle.golog_shapes.specs.Shapes.{shape_of, shapes}
+use Rattle.golog_shapes.specs.Unguarded.{all_front_refusals}
+use Rattle.golog_shapes.specs.DraftBlocks.{block_refusals, all_block_refusals}
 use Rattle.golog_check.specs.Check.{main_in, main_of, names_of, all_refusals, agent_of}
 use Rattle.golog_check.specs.CheckLaws.{HasItems}
 use Rattle.golog_check.proofs.Readings.{past}

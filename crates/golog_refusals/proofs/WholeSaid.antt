@@ -14,8 +14,8 @@ use Rattle.golog_check.specs.DeclaredItems.{Declared}
 use Rattle.golog_check.specs.Starts.{start_in, start_value}
 use Rattle.golog_check.specs.Effects.{poss_in, cause_in, senses_in}
 use Rattle.golog_check.specs.Procs.{proc_in}
-use Rattle.golog_check.specs.Unguarded.{all_front_refusals}
-use Rattle.golog_check.specs.DraftBlocks.{all_block_refusals}
+use Rattle.golog_shapes.specs.Unguarded.{all_front_refusals}
+use Rattle.golog_shapes.specs.DraftBlocks.{all_block_refusals}
 use Rattle.golog_check.specs.Least.{refusals}
 use Rattle.golog_check.specs.CheckLaws.{HasItems}
 use Rattle.golog_check.specs.Check.{bare, main_in, names_of, starts_of, all_refusals, agent_of}

@@ -26,8 +26,8 @@ use Rattle.golog_text.proofs.RunsBehind.{from_grows, from_place, same_run}
 use Rattle.golog_text.proofs.Things.{entries_named, runs_named}
 use Rattle.golog_replay.specs.declared.course.Course.{Course}
 use Rattle.golog_replay.specs.Courses.{Follows, TakenIs}
-use Rattle.golog_replay.specs.Verdicts.{VerdictIs, lines_in}
-use Rattle.golog_replay.specs.declared.verdict.Verdict.TheVariants.{Online, Not}
+use Rattle.golog_semantics.specs.Verdicts.{VerdictIs, lines_in}
+use Rattle.golog_semantics.specs.declared.journal.Verdict.TheVariants.{Online, Not}
 
 slice_get-drop : {A : Type 0} (n : ℕ) (xs : List A) → slice_get (drop n xs) 0 ≡ slice_get xs n
 slice_get-drop zero xs = refl

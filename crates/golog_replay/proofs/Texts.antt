@@ -24,13 +24,13 @@ use Rattle.golog_semantics.specs.Ways.{is_empty}
 use Rattle.golog_semantics.specs.WellFormed.{WellFormed}
 use Rattle.golog_semantics.proofs.Levels.{same_values-eq, same_values-same}
 use Rattle.golog_semantics.proofs.NoFaults.{no_fault_is_online}
-use Rattle.golog_text.specs.Codes.{NO_BODY}
-use Rattle.golog_text.specs.Reads.{journal_from, journal_of, line_of, with_line}
-use Rattle.golog_text.proofs.Says.{row-ok, then-ok}
-use Rattle.golog_text.proofs.WholeReports.{journal-fits}
+use Rattle.golog_reports.specs.Codes.{NO_BODY}
+use Rattle.golog_reports.specs.Reads.{journal_from, journal_of, line_of, with_line}
+use Rattle.golog_reports.proofs.Says.{row-ok, then-ok}
+use Rattle.golog_reports.proofs.WholeReports.{journal-fits}
 use Rattle.golog_replay.specs.Laws.{OnlineIsAnOnlineRun, ReplaysOnline}
-use Rattle.golog_replay.specs.Verdicts.{VerdictIs, lines_in}
-use Rattle.golog_replay.specs.declared.verdict.Verdict.TheVariants.{Online}
+use Rattle.golog_semantics.specs.Verdicts.{VerdictIs, lines_in}
+use Rattle.golog_semantics.specs.declared.journal.Verdict.TheVariants.{Online}
 
 -- ---- as many lines were read as there are entries
 

@@ -9,9 +9,9 @@ use Rattle.golog_semantics.specs.Online.{IsOnline}
 use Rattle.golog_semantics.specs.Reports.{SpellsReport}
 use Rattle.golog_semantics.specs.Text.{Text}
 use Rattle.golog_semantics.specs.WellFormed.{WellFormed}
-use Rattle.golog_text.specs.Reads.{journal_of}
-use Rattle.golog_replay.specs.declared.verdict.Verdict.TheVariants.{Online}
-use Rattle.golog_replay.specs.Verdicts.{VerdictIs}
+use Rattle.golog_reports.specs.Reads.{journal_of}
+use Rattle.golog_semantics.specs.declared.journal.Verdict.TheVariants.{Online}
+use Rattle.golog_semantics.specs.Verdicts.{VerdictIs}
 
 -- a report is online with an answer exactly where it is an online execution that ends with it, and the bytes
 -- are its text; so the bytes are then those of a run with this status

@@ -1,4 +1,3 @@
-pub mod Verdicts
 pub mod Standings
 pub mod Courses
 pub mod Laws

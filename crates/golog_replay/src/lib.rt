@@ -9,9 +9,7 @@ mod placed;
 mod replaying;
 mod standing;
 mod tracked;
-mod verdict;
 
-pub use golog_semantics::{Answer, Report, Why};
+pub use golog_semantics::{Answer, Report, Verdict, Why};
 pub use laws::online_is_an_online_run;
 pub use replaying::replay;
-pub use verdict::Verdict;

@@ -1,5 +1,5 @@
 ghost use Rattle.std.specs.Prelude.{◌≡◌, ◌==◌, [], ◌∷◌, MatchOption, position};
-ghost use Rattle.golog_replay.specs.Verdicts.{lines_in};
+ghost use Rattle.golog_semantics.specs.Verdicts.{lines_in};
 
 use std::marker::Model;
 
@@ -12,7 +12,7 @@ pub(crate) struct Lines<'a> {
 
 impl<'a> Model for Lines<'a> {
     ghost use Rattle.std.specs.Prelude.{ℕ, List, [], if◌then◌else◌};
-    ghost use Rattle.golog_replay.specs.Verdicts.{lines_in};
+    ghost use Rattle.golog_semantics.specs.Verdicts.{lines_in};
 
     ghost Value = { List (List ℕ) };
 

@@ -10,16 +10,15 @@ ghost use Rattle.golog_semantics.specs.Text.{Text, line_text};
 ghost use Rattle.golog_semantics.specs.WellFormed.{WellFormed};
 ghost use Rattle.golog_text.specs.Named.{AreFrom, AreNamed, IsNamed};
 ghost use Rattle.golog_replay.specs.Courses.{Follows, JudgedIs, TakenIs};
-ghost use Rattle.golog_replay.specs.Verdicts.{VerdictIs, lines_in};
+ghost use Rattle.golog_semantics.specs.Verdicts.{VerdictIs, lines_in};
 
 use crate::course::Course;
 use crate::judged::Judged;
 use crate::lines::Lines;
 use crate::placed::PlacedEntry;
-use crate::verdict::Verdict;
 use golog_base::NoMemory;
 use golog_progress::State;
-use golog_semantics::{Entry, Report, Why};
+use golog_semantics::{Entry, Report, Verdict, Why};
 use golog_text::{Line, run_here, runs_behind};
 use golog_tree::{Agent, Prog};
 use std::alloc::Global;

@@ -1,5 +1,5 @@
 // What the line of an entry says.
-ghost use Rattle.std.specs.Prelude.{◌≡◌, ◌<◌, ◌≤◌, ◌+◌, ◌++◌, length, IfSome, IsTrue, OnErr, OnOk, codes, decimal, option_copied, slice_index};
+ghost use Rattle.std.specs.Prelude.{◌≡◌, ◌<◌, ◌≤◌, ◌+◌, ◌++◌, length, IfSome, IsTrue, OnOk, codes, decimal, option_copied, slice_index};
 ghost use Rattle.golog_tree.specs.Ground.{IsCountable, action_args, ground_count};
 ghost use Rattle.golog_semantics.specs.Journal.{device_of as spec_device_of};
 ghost use Rattle.golog_semantics.specs.Reports.{is_value};
@@ -7,7 +7,7 @@ ghost use Rattle.golog_semantics.specs.SortLaws.{AreInSorts, IsOf};
 ghost use Rattle.golog_semantics.specs.Text.{action_text, against_text, at_device, body_text, device_text, value_text};
 ghost use Rattle.golog_semantics.specs.Values.{fluent_sort};
 ghost use Rattle.golog_semantics.specs.WellFormed.{WellFormed};
-ghost use Rattle.golog_text.specs.Filled.{reserved, run_most};
+ghost use Rattle.golog_text.specs.Filled.{Takes, against_most, body_most, command_most, poster_most, result_most, run_most};
 ghost use Rattle.golog_text.specs.Named.{AreLabels, IsNamed};
 
 use crate::line::Line;
@@ -26,8 +26,7 @@ fn add_command(text: &mut Line, agent: &Agent, action: u32) -> Result<(), NoMemo
     ensures added { OnOk result (text.new
         ≡ text.old ++ (codes "do " ++ action_text agent.now action
         ++ at_device agent.now (spec_device_of agent.now action))) }
-    ensures short { OnOk result (length text.new ≤ length text.old + 164) }
-    ensures full { OnErr result (reserved < length text.old + 164) }
+    ensures room { Takes command_most result text.old text.new }
 {
     text.extend(b"do ")?;
     add_action(text, agent, action)?;
@@ -46,8 +45,7 @@ fn add_poster(text: &mut Line, agent: &Agent, word: &[u8], poster: u8) -> Result
     requires word { length word.now ≤ 6 }
     ensures added { OnOk result (text.new
         ≡ text.old ++ (word.now ++ device_text agent.now poster ++ codes " ")) }
-    ensures short { OnOk result (length text.new ≤ length text.old + 38) }
-    ensures full { OnErr result (reserved < length text.old + 38) }
+    ensures room { Takes poster_most result text.old text.new }
 {
     text.extend(word)?;
     add_device(text, agent, u32::from(poster))?;
@@ -66,8 +64,7 @@ fn add_against(
     requires value { IsTrue (is_value agent.now fluent value) }
     requires old { IsOf agent.now (fluent_sort agent.now fluent) old }
     ensures added { OnOk result (text.new ≡ text.old ++ against_text agent.now fluent old value) }
-    ensures short { OnOk result (length text.new ≤ length text.old + 137) }
-    ensures full { OnErr result (reserved < length text.old + 137) }
+    ensures room { Takes against_most result text.old text.new }
 {
     if old == UNKNOWN || old == value {
         return Ok(());
@@ -91,8 +88,7 @@ fn add_result(
     ensures added { OnOk result (text.new
         ≡ text.old ++ (decimal command ++ codes " " ++ value_text agent.now fluent value
         ++ against_text agent.now fluent (slice_index values.now fluent) value)) }
-    ensures short { OnOk result (length text.new ≤ length text.old + 306) }
-    ensures full { OnErr result (reserved < length text.old + 306) }
+    ensures room { Takes result_most result text.old text.new }
 {
     add_number(text, command as usize)?;
     text.extend(b" ")?;
@@ -115,8 +111,7 @@ pub(crate) fn add_body(
     requires entry { IsNamed agent.now entry }
     ensures added { OnOk result
         (text.new ≡ text.old ++ body_text agent.now values.now (option_copied run.entry) entry) }
-    ensures short { OnOk result (length text.new ≤ length text.old + 344 + run_most (option_copied run.entry)) }
-    ensures full { OnErr result (reserved < length text.old + 344 + run_most (option_copied run.entry)) }
+    ensures room { Takes (body_most + run_most (option_copied run.entry)) result text.old text.new }
 {
     match entry {
         Entry::Do { action } => {

@@ -1,10 +1,10 @@
 // The runs of a report, which stand in the order of their places.
-ghost use Rattle.std.specs.Prelude.{◌≡◌, ◌<◌, ◌≤◌, ◌+◌, ◌*◌, ◌++◌, length, IfSome, IsTrue, OnErr, OnOk, codes, filter, nat_lt, option_copied};
+ghost use Rattle.std.specs.Prelude.{◌≡◌, ◌<◌, ◌*◌, ◌++◌, length, IfSome, IsTrue, OnOk, codes, filter, nat_lt, option_copied};
 ghost use Rattle.std.specs.List.{join_by};
 ghost use Rattle.golog_tree.specs.Ground.{IsCountable};
 ghost use Rattle.golog_semantics.specs.Reports.{fits_label};
 ghost use Rattle.golog_semantics.specs.Text.{label_text, run_at, run_text};
-ghost use Rattle.golog_text.specs.Filled.{reserved, run_most};
+ghost use Rattle.golog_text.specs.Filled.{Takes, run_most};
 ghost use Rattle.golog_text.specs.Named.{AreFrom, AreLabels};
 
 use crate::line::Line;
@@ -18,8 +18,7 @@ fn add_label(text: &mut Line, agent: &Agent, label: Label) -> Result<(), NoMemor
     requires countable { IsCountable agent.now }
     requires label { IsTrue (fits_label agent.now label) }
     ensures added { OnOk result (text.new ≡ text.old ++ label_text agent.now label) }
-    ensures short { OnOk result (length text.new ≤ length text.old + 128) }
-    ensures full { OnErr result (reserved < length text.old + 128) }
+    ensures room { Takes 128 result text.old text.new }
 {
     match label {
         Label::Quiet => text.extend(b"-"),
@@ -33,8 +32,7 @@ fn add_labels(text: &mut Line, agent: &Agent, labels: &[Label]) -> Result<(), No
     requires labels { AreLabels agent.now labels.now }
     ensures added { OnOk result
         (text.new ≡ text.old ++ join_by (label_text agent.now) (codes "; ") labels.now) }
-    ensures short { OnOk result (length text.new ≤ length text.old + 130 * length labels.now) }
-    ensures full { OnErr result (reserved < length text.old + 130 * length labels.now) }
+    ensures room { Takes (130 * length labels.now) result text.old text.new }
 {
     let Some((first, others)) = labels.split_first() else {
         return Ok(());
@@ -56,8 +54,7 @@ pub(crate) fn add_run(
     requires countable { IsCountable agent.now }
     requires labels { IfSome (option_copied run) (AreLabels agent.now) }
     ensures added { OnOk result (text.new ≡ text.old ++ run_text agent.now (option_copied run.entry)) }
-    ensures short { OnOk result (length text.new ≤ length text.old + run_most (option_copied run.entry)) }
-    ensures full { OnErr result (reserved < length text.old + run_most (option_copied run.entry)) }
+    ensures room { Takes (run_most (option_copied run.entry)) result text.old text.new }
 {
     match run {
         Some(labels) => {

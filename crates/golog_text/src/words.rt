@@ -21,8 +21,8 @@ pub fn answer_name(answer: Answer) -> &'static [u8]
     }
 }
 
-// The word for a reason.
-pub(crate) fn reason_name(reason: Reason) -> &'static [u8]
+/// The word for a reason.
+pub fn reason_name(reason: Reason) -> &'static [u8]
     ensures { result.now ≡ reason_text reason }
 {
     match reason {

@@ -10,8 +10,8 @@ use Rattle.golog_tree.specs.declared.draft.DraftSense.{DraftSense}
 use Rattle.golog_tree.specs.declared.draft.DraftProc.{DraftProc}
 use Rattle.golog_check.specs.Procs.{proc_in}
 use Rattle.golog_check.specs.Check.{main_in}
-use Rattle.golog_check.specs.Unguarded.{all_front_refusals}
-use Rattle.golog_check.specs.DraftBlocks.{all_block_refusals}
+use Rattle.golog_shapes.specs.Unguarded.{all_front_refusals}
+use Rattle.golog_shapes.specs.DraftBlocks.{all_block_refusals}
 use Rattle.golog_rows.specs.Least.{IsLeastOf}
 use Rattle.golog_check.specs.Least.{refusals}
 use Rattle.golog_check.specs.Checked.{IsChecked}

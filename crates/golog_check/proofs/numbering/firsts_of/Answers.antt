@@ -1,9 +1,9 @@
-use Rattle.std.proofs.Common.{◌≡◌, ◌++◌, ◌∷◌, [], ℕ, List, map, take, ap, sym, ◌∙◌, arith}
+use Rattle.std.proofs.Common.{◌++◌, ◌∷◌, [], ℕ, List, map, take, ap, sym, ◌∙◌, arith}
 use Rattle.std.specs.List.{range_with_len}
 use Rattle.std.proofs.lemmas.List.FromFn.{map-range_with_len_more}
 use Rattle.golog_tree.specs.declared.agent.SortItem.{SortItem}
 use Rattle.golog_tree.specs.Ground.{ground_count}
-use Rattle.golog_tree.proofs.Items.{IsItem, few-at, count-more}
+use Rattle.golog_tree.proofs.Items.{few-at, count-more}
 use Rattle.golog_check.specs.Sums.{count_in}
 use Rattle.golog_check.proofs.numbering.firsts_of.Goals as goal
 

@@ -8,7 +8,7 @@ use Rattle.golog_semantics.specs.Reports.{entry_limit}
 use Rattle.golog_text.specs.Named.{AreFrom}
 use Rattle.golog_text.proofs.RunsBehind.{behind_place, from_grows, from_next, from_start}
 use Rattle.golog_replay.specs.Courses.{Follows}
-use Rattle.golog_replay.specs.Verdicts.{VerdictIs, lines_in}
+use Rattle.golog_semantics.specs.Verdicts.{VerdictIs, lines_in}
 use Rattle.golog_replay.proofs.Along.{from-end, from-start, lent-broken, lent-fits, lent-in-order, lent-kept, lent-named, lent-runs-named, lent-short, not-online}
 use Rattle.golog_replay.proofs.Noting.{not-some}
 use Rattle.golog_replay.proofs.replaying.go_along.Goals as goal

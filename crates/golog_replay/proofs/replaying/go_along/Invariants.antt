@@ -2,7 +2,7 @@ use Rattle.std.proofs.Common.{◌≡◌, Some, take, drop}
 use Rattle.golog_semantics.specs.Online.{first_fault}
 use Rattle.golog_text.proofs.RunsBehind.{from_place}
 use Rattle.golog_replay.specs.Courses.{Follows}
-use Rattle.golog_replay.specs.Verdicts.{lines_in}
+use Rattle.golog_semantics.specs.Verdicts.{lines_in}
 use Rattle.golog_replay.proofs.Along.{faults_from}
 use Rattle.golog_replay.proofs.replaying.go_along.Given as goal
 

@@ -1,6 +1,5 @@
-use Rattle.std.proofs.Common.{◌++◌, sym, ap, ◌∙◌, subst}
+use Rattle.std.proofs.Common.{sym, subst}
 use Rattle.std.specs.Prelude.{IfSome}
-use Rattle.golog_text.specs.Filled.{full_line}
 use Rattle.golog_text.specs.Named.{AreLabels}
 use Rattle.golog_text.proofs.Things.{run_named}
 use Rattle.golog_text.proofs.journal.add_line.Goals as goal

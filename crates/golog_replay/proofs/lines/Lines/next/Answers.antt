@@ -1,8 +1,8 @@
 use Rattle.std.proofs.Common.{◌≡◌, ◌+◌, ◌-◌, Bool, List, ℕ, [], ◌∷◌, take, drop, length, refl, sym, ap, ◌∙◌}
 use Rattle.std.specs.Prelude.{if◌then◌else◌}
-use Rattle.golog_text.proofs.Cuts.{parts-none, parts-some}
-use Rattle.golog_text.proofs.Rests.{rest-whole}
-use Rattle.golog_replay.specs.Verdicts.{lines_in}
+use Rattle.golog_reports.proofs.Cuts.{parts-none, parts-some}
+use Rattle.golog_reports.proofs.Rests.{rest-whole}
+use Rattle.golog_semantics.specs.Verdicts.{lines_in}
 use Rattle.golog_replay.proofs.lines.Lines.next.Goals as goal
 
 -- the lines to come, by whether they are over

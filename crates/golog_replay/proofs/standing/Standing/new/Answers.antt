@@ -1,5 +1,5 @@
 use Rattle.std.proofs.Common.{refl, replicate, ap, ◌∙◌, arith}
-use Rattle.golog_text.proofs.FactsTold.{serves}
+use Rattle.golog_reports.proofs.FactsTold.{serves}
 use Rattle.golog_replay.specs.Standings.{untouched}
 use Rattle.golog_replay.proofs.Tracking.{start-tracked}
 use Rattle.golog_replay.proofs.standing.Standing.new.Goals as goal

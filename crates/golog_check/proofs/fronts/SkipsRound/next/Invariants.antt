@@ -1,6 +1,0 @@
-use Rattle.std.proofs.Common.{◌≡◌, take}
-use Rattle.golog_check.specs.Fronts.{skip_round}
-use Rattle.golog_check.proofs.fronts.SkipsRound.next.Given as goal
-
-abbrev pub invariant-loop-item : goal.invariant-loop-item
-invariant-loop-item l = l.after ≡ skip_round (take l.item-index l.self.procs.now) l.before

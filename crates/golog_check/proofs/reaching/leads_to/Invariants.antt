@@ -1,6 +1,0 @@
-use Rattle.std.proofs.Common.{◌≡◌, drop}
-use Rattle.golog_check.specs.Unguarded.{leads_to}
-use Rattle.golog_check.proofs.reaching.leads_to.Given as goal
-
-abbrev pub invariant-loop-item : goal.invariant-loop-item
-invariant-loop-item l = leads_to l.goal l.said l.calls ≡ leads_to l.goal l.said (drop l.item-index l.calls)

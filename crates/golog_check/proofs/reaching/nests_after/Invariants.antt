@@ -1,7 +1,0 @@
-use Rattle.std.proofs.Common.{◌≡◌, map, take}
-use Rattle.golog_check.specs.Fronts.{nest_round}
-use Rattle.golog_check.specs.Told.{nesting}
-use Rattle.golog_check.proofs.reaching.nests_after.Given as goal
-
-abbrev pub invariant-loop-item : goal.invariant-loop-item
-invariant-loop-item l = l.after ≡ nest_round 1025 (map nesting (take l.item-index l.items)) l.before

@@ -1,5 +1,0 @@
-use Rattle.std.proofs.Common.{length}
-use Rattle.golog_prog.proofs.cond_text.+add_args.Given as goal
-
-abbrev pub decreases-add_args : goal.decreases-add_args
-decreases-add_args l = length l.sorts.now

@@ -1,0 +1,11 @@
+use Rattle.std.proofs.Common.{◌≡◌, ◌&&◌}
+use Rattle.std.specs.List.{list_all}
+use Rattle.golog_reports.specs.Forms.{is_constant, parts, parts_behind, length_behind}
+use Rattle.golog_reports.specs.Views.{lent}
+use Rattle.golog_reports.proofs.forms.are_constants.Given as goal
+
+abbrev pub invariant-loop-behind : goal.invariant-loop-behind
+invariant-loop-behind l = list_all is_constant (parts 44 l.text) ≡ (is_constant l.part && list_all is_constant (parts_behind 44 (lent l.behind)))
+
+abbrev pub decreases-loop-behind : goal.decreases-loop-behind
+decreases-loop-behind l = length_behind (lent l.behind)

@@ -1,0 +1,14 @@
+use Rattle.std.proofs.Common.{◌≡◌, ◌≤◌, ◌∷◌, length}
+use Rattle.golog_reports.specs.Forms.{parts_behind, length_behind}
+use Rattle.golog_reports.specs.Reads.{journal_from, journal_of}
+use Rattle.golog_reports.specs.Views.{lent}
+use Rattle.golog_reports.proofs.reading.read_lines.Given as goal
+
+abbrev pub invariant-loop-behind : goal.invariant-loop-behind
+invariant-loop-behind l = record {
+  same : (journal_from l.agent l.report (l.text ∷ parts_behind 10 (lent l.behind))).outcome ≡ (journal_of l.agent l.bytes).outcome;
+  few : length l.report.entries ≤ 1048576;
+}
+
+abbrev pub decreases-loop-behind : goal.decreases-loop-behind
+decreases-loop-behind l = length_behind (lent l.behind)

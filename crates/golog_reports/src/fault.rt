@@ -1,0 +1,36 @@
+ghost use Rattle.golog_reports.specs.declared.fault.TextFault.TheVariants.{Refused, Memory};
+ghost use Rattle.std.specs.Prelude.{◌≡◌, true, false, MatchResult};
+
+use golog_base::NoMemory;
+use thiserror::Error;
+
+/// The line has no body of the table, names and numbers left open, or lacks its line feed.
+pub const NO_BODY: u8 = 50;
+
+/// The line's number isn't its place, or a number in it is above 1,048,575.
+pub const MISPLACED: u8 = 51;
+
+/// An action, a device or a constant isn't the agent's, or not one for its place.
+pub const NOT_OWN: u8 = 52;
+
+/// A result is of no earlier command of its device, or a value isn't of the fluent's sort.
+pub const NO_RESULT: u8 = 53;
+
+/// Why bytes were not read as a report.
+#[derive(Debug, Drop, Error)]
+pub enum TextFault {
+    /// The bytes are refused, at a line, counted from 0, and with the code, 50 to 53.
+    #[error("refused {why} at {line}")]
+    Refused { line: u32, why: u8 },
+    /// Memory ran out.
+    #[error("memory ran out")]
+    Memory,
+}
+
+impl From<NoMemory> for TextFault {
+    ghost from_gives = { λ _ e. e ≡ Memory };
+
+    fn from(_error: NoMemory) -> TextFault {
+        TextFault::Memory
+    }
+}

@@ -1,0 +1,18 @@
+//! The report that the text of a journal says, or its first refusal.
+#![tactic(auto)]
+
+mod fault;
+mod forms;
+mod laws;
+mod lookups;
+mod named;
+mod numbers;
+mod reading;
+mod said;
+
+pub use fault::{MISPLACED, NO_BODY, NO_RESULT, NOT_OWN, TextFault};
+pub use laws::{
+    journal_is_read, lines_say_their_texts, read_is_spelled, read_or_refused, reports_are_read,
+    written_reads_back,
+};
+pub use reading::read_journal;

@@ -1,0 +1,11 @@
+pub mod Adding
+pub mod BlockShapes
+pub mod ForeLaws
+pub mod Fores
+pub mod FrontRounds
+pub mod NestTo
+pub mod PartsNested
+pub mod Reached
+pub mod Repeats
+pub mod RoundLaws
+pub mod Shaped

@@ -1,0 +1,6 @@
+use Rattle.std.proofs.Common.{◌≡◌, take}
+use Rattle.golog_shapes.specs.Fronts.{block_round}
+use Rattle.golog_shapes.proofs.blocks.BlocksRound.next.Given as goal
+
+abbrev pub invariant-loop-item : goal.invariant-loop-item
+invariant-loop-item l = l.after ≡ block_round (take l.item-index l.self.procs.now) l.before

@@ -1,0 +1,10 @@
+pub mod Codes
+pub mod DraftBlocks
+pub mod DraftNest
+pub mod Fronts
+pub mod Limits
+pub mod Nested
+pub mod Settled
+pub mod Shapes
+pub mod Told
+pub mod Unguarded

@@ -1,9 +1,0 @@
-use Rattle.golog_text.proofs.JournalOnly.{kept-is-spelled}
-use Rattle.golog_text.proofs.SpelledLines.{spelled-is-kept}
-use Rattle.golog_text.proofs.laws.read_is_spelled.Goals as goal
-
-pub returns : goal.returns
-returns c = λ agent well apart bytes report e. (
-  kept-is-spelled agent well bytes report e,
-  λ spelled. spelled-is-kept agent well apart report spelled.fits bytes spelled.text,
-)

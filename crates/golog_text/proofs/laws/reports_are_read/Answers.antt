@@ -1,5 +1,0 @@
-use Rattle.golog_text.proofs.WholeReports.{journal-fits}
-use Rattle.golog_text.proofs.laws.reports_are_read.Goals as goal
-
-pub returns : goal.returns
-returns c = journal-fits

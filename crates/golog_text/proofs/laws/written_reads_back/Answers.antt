@@ -1,7 +1,0 @@
-use Rattle.golog_semantics.specs.Text.{report_text}
-use Rattle.golog_text.proofs.JournalBack.{said-is-read}
-use Rattle.golog_text.proofs.WrittenSaid.{written-says}
-use Rattle.golog_text.proofs.laws.written_reads_back.Goals as goal
-
-pub returns : goal.returns
-returns c = λ agent well apart report fits. said-is-read agent well apart report fits (report_text agent report) (written-says agent well report fits).lines

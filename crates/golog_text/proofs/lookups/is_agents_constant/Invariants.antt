@@ -1,7 +1,0 @@
-use Rattle.std.proofs.Common.{◌≡◌, ℕ, ◌<◌, false}
-use Rattle.std.specs.Prelude.{is_some}
-use Rattle.golog_text.specs.Reads.{constant_named}
-use Rattle.golog_text.proofs.lookups.is_agents_constant.Given as goal
-
-abbrev pub invariant-loop-sort : goal.invariant-loop-sort
-invariant-loop-sort l = (k : ℕ) → k < l.sort → is_some (constant_named l.agent k l.text) ≡ false
