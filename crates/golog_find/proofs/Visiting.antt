@@ -15,9 +15,9 @@ use Rattle.golog_semantics.specs.Truth.{Values}
 use Rattle.golog_semantics.specs.Ways.{is_so}
 use Rattle.golog_semantics.proofs.ByParts.{OfEach}
 use Rattle.golog_semantics.proofs.Tests.{and_cases}
-use Rattle.golog_ways.specs.declared.front_lists.Front.{Front}
-use Rattle.golog_ways.specs.FrontLists.{are_closed, guarded, guarded_of}
-use Rattle.golog_ways.specs.Lefts.{LeavesClosed}
+use Rattle.golog_fronts.specs.declared.front_lists.Front.{Front}
+use Rattle.golog_fronts.specs.FrontLists.{are_closed, guarded, guarded_of}
+use Rattle.golog_fronts.specs.Lefts.{LeavesClosed}
 use Rattle.golog_memo.specs.Numbered.{AreOnce}
 use Rattle.golog_find.specs.declared.level.Level.{Level as AnyLevel}
 use Rattle.golog_find.specs.declared.visits.NumberedFront.{NumberedFront}

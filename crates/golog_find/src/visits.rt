@@ -7,8 +7,8 @@ ghost use Rattle.golog_semantics.specs.Ways.{is_so};
 ghost use Rattle.golog_semantics.specs.WellFormed.{WellFormed};
 ghost use Rattle.golog_tree.specs.declared.agent.Agent.{Agent as AnyAgent};
 ghost use Rattle.golog_tree.specs.declared.prog.Prog.{Prog as AnyProg};
-ghost use Rattle.golog_ways.specs.FrontBlock.{has_front_block};
-ghost use Rattle.golog_ways.specs.FrontLists.{guarded, guarded_of};
+ghost use Rattle.golog_fronts.specs.FrontBlock.{has_front_block};
+ghost use Rattle.golog_fronts.specs.FrontLists.{guarded, guarded_of};
 ghost use Rattle.golog_find.specs.Numbers.{GoesOn};
 ghost use Rattle.golog_find.specs.Visits.{AreFrontsOf, AreKept, AreOpenedFronts, IsFrontOf, IsKeptOf, IsVisited, keeps, nothing, place_in, prog_at};
 

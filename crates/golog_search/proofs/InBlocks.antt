@@ -13,7 +13,7 @@ use Rattle.golog_semantics.proofs.ProgPut.{at_scope}
 use Rattle.golog_semantics.proofs.Tests.{and_cases}
 use Rattle.golog_semantics.specs.SortLaws.{AreInSorts}
 use Rattle.golog_semantics.specs.Truth.{Values}
-use Rattle.golog_ways.specs.Closed.{IsClosed}
+use Rattle.golog_fronts.specs.Closed.{IsClosed}
 use Rattle.golog_search.specs.BlockSteps.{IsSearchedIn}
 use Rattle.golog_ways.specs.Searched.{IsSearched}
 use Rattle.golog_ways.proofs.Within.{body_searched}

@@ -6,7 +6,7 @@ ghost use Rattle.golog_semantics.specs.Heavy.{front_blocks, is_above};
 ghost use Rattle.golog_semantics.specs.ProgFits.{fits};
 ghost use Rattle.golog_semantics.specs.SortLaws.{AreInSorts};
 ghost use Rattle.golog_semantics.specs.WellFormed.{WellFormed};
-ghost use Rattle.golog_ways.specs.Closed.{IsClosed};
+ghost use Rattle.golog_fronts.specs.Closed.{IsClosed};
 ghost use Rattle.golog_find.specs.Finding.{mode_of};
 ghost use Rattle.golog_ways.specs.Searched.{IsSearched};
 ghost use Rattle.golog_search.specs.Weighing.{lacks_fuel as lacks, some_weighs as weighs_some};

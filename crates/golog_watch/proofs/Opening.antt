@@ -20,12 +20,12 @@ use Rattle.golog_semantics.proofs.BestRuns.{same_way-eq}
 use Rattle.golog_semantics.proofs.NoBlocks.{not_so}
 use Rattle.golog_semantics.proofs.Tests.{and_both, and_cases}
 use Rattle.golog_semantics.proofs.WellNamed.{starts_in_sorts}
-use Rattle.golog_ways.specs.declared.front_lists.Front.{Front}
-use Rattle.golog_ways.specs.FrontBlock.{has_front_block}
-use Rattle.golog_ways.specs.FrontLists.{are_closed, guarded, guarded_of}
-use Rattle.golog_ways.specs.Lefts.{LeavesClosed}
-use Rattle.golog_ways.proofs.ClosedConds.{fits as cond_closed, fits-or}
-use Rattle.golog_ways.proofs.Ends.{so-or}
+use Rattle.golog_fronts.specs.declared.front_lists.Front.{Front}
+use Rattle.golog_fronts.specs.FrontBlock.{has_front_block}
+use Rattle.golog_fronts.specs.FrontLists.{are_closed, guarded, guarded_of}
+use Rattle.golog_fronts.specs.Lefts.{LeavesClosed}
+use Rattle.golog_fronts.proofs.ClosedConds.{fits as cond_closed, fits-or}
+use Rattle.golog_fronts.proofs.Ends.{so-or}
 use Rattle.golog_ways.proofs.SearchedWays.{free-of}
 use Rattle.golog_ways.proofs.Within.{into, within}
 use Rattle.golog_watch.specs.Watched.{Opens, conds_for}

@@ -29,12 +29,12 @@ use Rattle.golog_semantics.specs.WellFormed.{WellFormed}
 use Rattle.golog_semantics.proofs.CausesKeep.{steps_stay_in_sorts}
 use Rattle.golog_semantics.proofs.SameLaws.{same_prog-eq}
 use Rattle.golog_semantics.proofs.Tests.{and_both, and_cases}
-use Rattle.golog_memo.proofs.SamePrograms.{same-by, same_run-by, same_run-eq}
+use Rattle.golog_semantics.proofs.SamePrograms.{same-by, same_run-by, same_run-eq}
 use Rattle.golog_regress.specs.Size.{nodes}
 use Rattle.golog_regress.specs.Regression.{IsRegressed, after_event}
-use Rattle.golog_ways.proofs.Acting.{closed_cond}
-use Rattle.golog_ways.proofs.ClosedConds.{fits, fits-both}
-use Rattle.golog_ways.proofs.Ends.{so-both}
+use Rattle.golog_fronts.proofs.Acting.{closed_cond}
+use Rattle.golog_fronts.proofs.ClosedConds.{fits, fits-both}
+use Rattle.golog_fronts.proofs.Ends.{so-both}
 use Rattle.golog_watch.proofs.Opening.{by-bool}
 use Rattle.golog_watch.specs.Watched.{AreTold, IsNext, Opens, TellEach, Tells, events_of, is_left, is_whole, most_nodes, with_small}
 

@@ -27,8 +27,8 @@ use Rattle.golog_semantics.specs.World.{Refines}
 use Rattle.golog_regress.specs.Size.{nodes}
 use Rattle.golog_regress.specs.declared.event.Event.{Event}
 use Rattle.golog_regress.specs.declared.event.Event.TheVariants.{Did}
-use Rattle.golog_ways.specs.declared.front_lists.Front.{Front}
-use Rattle.golog_ways.specs.FrontLists.{guarded_of}
+use Rattle.golog_fronts.specs.declared.front_lists.Front.{Front}
+use Rattle.golog_fronts.specs.FrontLists.{guarded_of}
 use Rattle.golog_watch.specs.declared.watch.Watch.{Watch}
 use Rattle.golog_watch.specs.declared.watches.Watches.{Watches}
 

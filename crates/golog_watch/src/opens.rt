@@ -4,7 +4,7 @@ ghost use Rattle.golog_semantics.specs.ProgFits.{fits};
 ghost use Rattle.golog_semantics.specs.Same.{same_way};
 ghost use Rattle.golog_semantics.specs.Ways.{is_empty};
 ghost use Rattle.golog_semantics.specs.WellFormed.{WellFormed};
-ghost use Rattle.golog_ways.specs.FrontLists.{guarded_of};
+ghost use Rattle.golog_fronts.specs.FrontLists.{guarded_of};
 ghost use Rattle.golog_watch.specs.Watched.{Opens, conds_for};
 
 use crate::looks::is_light;

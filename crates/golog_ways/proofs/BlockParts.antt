@@ -11,7 +11,7 @@ use Rattle.golog_tree.specs.Tidy.{Layer}
 use Rattle.golog_semantics.specs.Fits.{nothing_bound}
 use Rattle.golog_semantics.specs.ProgFits.{Position, prog_fits, prog_step, way_step}
 use Rattle.golog_semantics.proofs.ProgPut.{at_scope, way_fits}
-use Rattle.golog_ways.specs.Closed.{IsClosed}
+use Rattle.golog_fronts.specs.Closed.{IsClosed}
 
 module _ (agent : Agent) where
   abbrev A : Type 0

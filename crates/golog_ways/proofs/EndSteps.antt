@@ -22,9 +22,9 @@ use Rattle.golog_semantics.specs.Ways.{final_step}
 use Rattle.golog_semantics.specs.Guarded.{IsGuarded, front}
 use Rattle.golog_semantics.proofs.FrontLaws.{holds-both, holds-either, holds-yes, holds-no}
 use Rattle.golog_semantics.proofs.Unfolded.{final-skips}
-use Rattle.golog_ways.specs.Ends.{EndsAs, EndsAsBoth, EndsAsOr}
+use Rattle.golog_fronts.specs.Ends.{EndsAs, EndsAsBoth, EndsAsOr}
 use Rattle.golog_ways.proofs.Holding.{is-No}
-use Rattle.golog_ways.proofs.Steps.{final-by}
+use Rattle.golog_fronts.proofs.Steps.{final-by}
 
 -- what is so far as sure as it can get stays so
 abbrev pub IsSettled : Truth → Truth → Bool

@@ -29,9 +29,9 @@ use Rattle.golog_semantics.specs.Guarded.{IsGuarded}
 use Rattle.golog_semantics.proofs.Unfolded.{moves_with-out}
 use Rattle.golog_ways.specs.First.{head_of}
 use Rattle.golog_ways.specs.FirstMove.{first_move, moved_in}
-use Rattle.golog_ways.specs.Precondition.{precondition}
+use Rattle.golog_fronts.specs.Precondition.{precondition}
 use Rattle.golog_ways.specs.Reach.{has_move}
-use Rattle.golog_ways.proofs.Acting.{holds-precondition}
+use Rattle.golog_fronts.proofs.Acting.{holds-precondition}
 use Rattle.golog_ways.proofs.ReachSteps.{any_of}
 
 -- the first that is there for these constants

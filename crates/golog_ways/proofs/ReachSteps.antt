@@ -28,9 +28,9 @@ use Rattle.golog_semantics.proofs.FrontLaws.{holds-no, holds-yes}
 use Rattle.golog_semantics.proofs.Tests.{and_cases}
 use Rattle.golog_semantics.proofs.Unfolded.{moves_with-out, final-skips}
 use Rattle.golog_ways.specs.declared.reaches.Reach.{Reach}
-use Rattle.golog_ways.specs.Precondition.{precondition}
+use Rattle.golog_fronts.specs.Precondition.{precondition}
 use Rattle.golog_ways.specs.Reach.{reaches, has_move, IsReach, IsReachOfEither, IsReachOr}
-use Rattle.golog_ways.proofs.Acting.{holds-precondition}
+use Rattle.golog_fronts.proofs.Acting.{holds-precondition}
 use Rattle.golog_ways.proofs.EndSteps.{absorbed}
 use Rattle.golog_ways.proofs.Holding.{is-No}
 use Rattle.golog_ways.proofs.Some.{SoFar, from, from-next, at-end, at-found, or_assoc}

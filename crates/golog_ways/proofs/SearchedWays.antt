@@ -23,8 +23,8 @@ use Rattle.golog_semantics.proofs.NoBlocks.{blockless_steps, blockless, not_so}
 use Rattle.golog_semantics.proofs.StepsFit.{AllFit}
 use Rattle.golog_semantics.proofs.StepsKeep.{OfLefts}
 use Rattle.golog_semantics.proofs.Tests.{and_both}
-use Rattle.golog_ways.specs.FrontBlock.{has_front_block}
-use Rattle.golog_ways.proofs.FrontBlocks.{block-held}
+use Rattle.golog_fronts.specs.FrontBlock.{has_front_block}
+use Rattle.golog_fronts.proofs.FrontBlocks.{block-held}
 use Rattle.golog_ways.specs.Searched.{IsSearched}
 use Rattle.golog_ways.proofs.Blockless.{lefts_blockless}
 

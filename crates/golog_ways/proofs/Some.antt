@@ -15,8 +15,8 @@ use Rattle.golog_semantics.specs.Truth.{Values, either}
 use Rattle.golog_semantics.specs.Program.{put_arg}
 use Rattle.golog_semantics.specs.Search.{final}
 use Rattle.golog_semantics.specs.Guarded.{IsGuarded}
-use Rattle.golog_ways.specs.Ends.{EndsAs}
-use Rattle.golog_ways.proofs.Steps.{final-by}
+use Rattle.golog_fronts.specs.Ends.{EndsAs}
+use Rattle.golog_fronts.proofs.Steps.{final-by}
 use Rattle.golog_semantics.proofs.FrontLaws.{holds-either, holds-no, holds-yes}
 
 -- one of the constants from this one on

@@ -1,17 +1,8 @@
-pub mod Closed
-pub mod Context
-pub mod Ends
 pub mod First
 pub mod FirstMove
 pub mod Following
-pub mod Fore
-pub mod FrontBlock
-pub mod FrontLists
 pub mod InWorlds
 pub mod Lacking
-pub mod Lefts
-pub mod Precondition
-pub mod Puts
 pub mod Reach
 pub mod Searched
 pub mod Walks

@@ -36,7 +36,7 @@ pub trait Blocks {
     ghost use Rattle.golog_semantics.specs.declared.Mode.TheVariants.{Must, Near};
     ghost use Rattle.golog_semantics.specs.Truth.{Values};
     ghost use Rattle.golog_semantics.specs.Ways.{Blocks as Steps, is_empty};
-    ghost use Rattle.golog_ways.specs.Closed.{IsFit, IsClosed};
+    ghost use Rattle.golog_fronts.specs.Closed.{IsFit, IsClosed};
     ghost use Rattle.golog_ways.specs.First.{head_of};
     ghost use Rattle.golog_ways.specs.Following.{followed, of_block};
     ghost use Rattle.golog_ways.specs.Lacking.{Wants};

@@ -1,8 +1,8 @@
 ghost use Rattle.std.specs.Prelude.{◌≡◌, [], IsTrue, map};
 ghost use Rattle.golog_semantics.specs.Fits.{cond_fits, nothing_bound};
 ghost use Rattle.golog_semantics.specs.Truth.{truth_of, env_of, arg_value};
-ghost use Rattle.golog_ways.specs.Closed.{IsClosed};
-ghost use Rattle.golog_ways.specs.Precondition.{precondition as precondition_of};
+ghost use Rattle.golog_fronts.specs.Closed.{IsClosed};
+ghost use Rattle.golog_fronts.specs.Precondition.{precondition as precondition_of};
 
 use crate::here::Here;
 use golog_known::{Env, value};

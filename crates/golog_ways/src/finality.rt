@@ -1,14 +1,13 @@
 ghost use Rattle.std.specs.Prelude.{◌≡◌, not, ◌&&◌, ◌||◌, IfOk};
 ghost use Rattle.golog_semantics.specs.Modes.{holds as holds_in};
 ghost use Rattle.golog_semantics.specs.Search.{final};
-ghost use Rattle.golog_ways.specs.Closed.{IsClosed};
-ghost use Rattle.golog_ways.specs.Ends.{EndsAs, EndsAsBoth, EndsAsOr};
+ghost use Rattle.golog_fronts.specs.Closed.{IsClosed};
+ghost use Rattle.golog_fronts.specs.Ends.{EndsAs, EndsAsBoth, EndsAsOr};
 
-use crate::blocks::may_skip;
-use crate::bodies::body_of;
 use crate::here::Here;
 use crate::modes::holds;
 use golog_base::NoMemory;
+use golog_fronts::{body_of, may_skip};
 use golog_known::{both, either, negation};
 use golog_semantics::Mode;
 use golog_tree::{Arg, Prog, Truth, put_arg, sort_size};

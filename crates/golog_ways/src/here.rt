@@ -1,19 +1,11 @@
 //! Where a walk over programs stands.
 ghost use Rattle.std.specs.Prelude.{◌≡◌, length};
 ghost use Rattle.golog_tree.specs.Ground.{ground_fluents};
-ghost use Rattle.golog_ways.specs.Closed.{IsFit};
+ghost use Rattle.golog_fronts.specs.Closed.{IsFit};
 
 use crate::answering::Blocks;
 use golog_tree::Agent;
 use std::alloc::Global;
-
-/// An agent whose programs are walked over.
-#[derive(Clone, Copy)]
-pub(crate) struct Fit<'a> {
-    pub alloc: Global,
-    pub agent: &'a Agent,
-    ghost fit: { IsFit agent.now },
-}
 
 /// An agent whose programs are walked over, and the value of each of its ground fluents.
 #[derive(Clone, Copy)]

@@ -5,13 +5,12 @@ ghost use Rattle.golog_semantics.specs.Search.{plain_ways};
 ghost use Rattle.golog_semantics.specs.SortLaws.{AreInSorts};
 ghost use Rattle.golog_semantics.specs.Ways.{is_so};
 ghost use Rattle.golog_semantics.specs.WellFormed.{WellFormed};
-ghost use Rattle.golog_ways.specs.FrontLists.{are_closed, guarded, guarded_of};
+ghost use Rattle.golog_fronts.specs.FrontLists.{are_closed, guarded, guarded_of};
 ghost use Rattle.golog_ways.specs.Searched.{IsSearched};
 
-use crate::front_lists::Front;
 use crate::modes::holds;
-use crate::opening::fronts;
 use golog_base::{List, NoMemory};
+use golog_fronts::{Front, fronts};
 use golog_known::{Env, value};
 use golog_progress::State;
 use golog_semantics::Mode;

@@ -1,16 +1,16 @@
 ghost use Rattle.std.specs.Prelude.{◌≡◌, false, IfOk, IfErr, length};
 ghost use Rattle.golog_tree.specs.Ground.{ground_fluents};
-ghost use Rattle.golog_ways.specs.Closed.{IsFit, IsClosed};
+ghost use Rattle.golog_fronts.specs.Closed.{IsFit, IsClosed};
 ghost use Rattle.golog_ways.specs.FirstMove.{IsFirst};
 ghost use Rattle.golog_ways.specs.Lacking.{StopsAt};
 ghost use Rattle.golog_ways.specs.Walks.{IsReadyWithin, IsFirstWithin, FirstStops};
 
 use crate::answering::{Blocks, Stop};
-use crate::bodies::body_of;
 use crate::following::Following;
 use crate::here::{Here, Within};
 use crate::modes::holds;
 use crate::placing::{before, first_beside, over, second_beside, under};
+use golog_fronts::body_of;
 use golog_semantics::{Mode, Move};
 use golog_tree::{Agent, Arg, Cond, Prog, Truth, Way, put_arg, sort_size};
 use std::alloc::Global;

@@ -1,10 +1,10 @@
 ghost use Rattle.std.specs.Prelude.{◌≡◌, IfOk, IfErr};
 ghost use Rattle.golog_tree.specs.Tidy.{tidy_seq, tidy_conc, tidy_prio};
-ghost use Rattle.golog_ways.specs.Context.{placed};
+ghost use Rattle.golog_fronts.specs.Context.{placed};
 ghost use Rattle.golog_ways.specs.FirstMove.{moved_in};
 
 use crate::answering::Stop;
-use crate::context::{Place, put_at};
+use golog_fronts::{Place, put_at};
 use golog_semantics::Move;
 use golog_tree::Prog;
 use std::alloc::Global;

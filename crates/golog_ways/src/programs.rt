@@ -5,11 +5,11 @@ ghost use Rattle.golog_semantics.specs.Search.{final};
 ghost use Rattle.golog_semantics.specs.SortLaws.{AreInSorts};
 ghost use Rattle.golog_semantics.specs.Ways.{is_empty};
 ghost use Rattle.golog_semantics.specs.WellFormed.{WellFormed};
-ghost use Rattle.golog_ways.specs.Closed.{IsClosed};
+ghost use Rattle.golog_fronts.specs.Closed.{IsClosed};
 ghost use Rattle.golog_ways.specs.First.{first_way, has_way, head_of};
-ghost use Rattle.golog_ways.specs.FrontBlock.{has_front_block};
+ghost use Rattle.golog_fronts.specs.FrontBlock.{has_front_block};
 ghost use Rattle.golog_ways.specs.InWorlds.{EndIsSo, StepIsSo, WayIsCertain};
-ghost use Rattle.golog_ways.specs.Lefts.{LeavesClosed};
+ghost use Rattle.golog_fronts.specs.Lefts.{LeavesClosed};
 
 use crate::here::Here;
 use crate::without::{any_without, first_without};

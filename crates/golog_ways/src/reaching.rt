@@ -1,16 +1,16 @@
 ghost use Rattle.std.specs.Prelude.{◌≡◌, true, IfOk, IfErr, length};
 ghost use Rattle.golog_tree.specs.Ground.{ground_fluents};
-ghost use Rattle.golog_ways.specs.Closed.{IsFit, IsClosed};
+ghost use Rattle.golog_fronts.specs.Closed.{IsFit, IsClosed};
 ghost use Rattle.golog_ways.specs.Lacking.{StopsAt};
 ghost use Rattle.golog_ways.specs.Reach.{IsReach};
 ghost use Rattle.golog_ways.specs.Walks.{IsReadyWithin, IsReachWithin, IsReachOfEitherWithin, IsReachOrWithin, ReachStops, ReachStopsAtEither};
 
 use crate::answering::{Blocks, Stop};
-use crate::bodies::body_of;
 use crate::following::Following;
 use crate::here::{Here, Within};
 use crate::modes::holds;
 use crate::reaches::{NOWHERE, Reach};
+use golog_fronts::body_of;
 use golog_known::negation;
 use golog_semantics::Mode;
 use golog_tree::{Agent, Arg, Cond, Prog, Truth, Way, put_arg, sort_size};

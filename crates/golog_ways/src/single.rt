@@ -1,5 +1,5 @@
 ghost use Rattle.golog_semantics.specs.Ways.{Blocks};
-ghost use Rattle.golog_ways.specs.Closed.{IsClosed};
+ghost use Rattle.golog_fronts.specs.Closed.{IsClosed};
 ghost use Rattle.golog_ways.specs.FirstMove.{IsFirst};
 
 use crate::here::Here;

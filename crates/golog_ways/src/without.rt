@@ -3,7 +3,7 @@ ghost use Rattle.std.specs.Option.{option_map};
 ghost use Rattle.golog_tree.specs.Ground.{ground_fluents};
 ghost use Rattle.golog_semantics.specs.Search.{no_blocks};
 ghost use Rattle.golog_semantics.specs.Ways.{way_of};
-ghost use Rattle.golog_ways.specs.Closed.{IsFit, IsClosed};
+ghost use Rattle.golog_fronts.specs.Closed.{IsFit, IsClosed};
 ghost use Rattle.golog_ways.specs.First.{first_way, has_way};
 
 use crate::answering::{Blocks, Stop};

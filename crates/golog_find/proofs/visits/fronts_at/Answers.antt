@@ -4,9 +4,9 @@ use Rattle.std.proofs.lemmas.Result.{IfOk-weaker}
 use Rattle.golog_tree.specs.declared.prog.Prog.{Prog}
 use Rattle.golog_tree.specs.declared.prog.Prog.TheVariants.{Nil}
 use Rattle.golog_semantics.specs.Fronts.{AreFronts, Guarded}
-use Rattle.golog_ways.specs.declared.front_lists.Front.{Front}
-use Rattle.golog_ways.specs.FrontLists.{are_closed, guarded}
-use Rattle.golog_ways.specs.Lefts.{LeavesClosed}
+use Rattle.golog_fronts.specs.declared.front_lists.Front.{Front}
+use Rattle.golog_fronts.specs.FrontLists.{are_closed, guarded}
+use Rattle.golog_fronts.specs.Lefts.{LeavesClosed}
 use Rattle.golog_find.specs.Visits.{AreFrontsOf, AreOpenedFronts, prog_at}
 use Rattle.golog_find.proofs.Visiting.{opened-fronts}
 use Rattle.golog_find.proofs.visits.fronts_at.Goals as goal

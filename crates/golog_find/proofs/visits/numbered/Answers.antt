@@ -1,6 +1,6 @@
 use Rattle.std.proofs.Common.{◌+◌, List, [], ◌∷◌, ◌++◌, sym, subst, take}
 use Rattle.golog_semantics.specs.Fronts.{Guarded}
-use Rattle.golog_ways.specs.FrontLists.{guarded, guarded_of}
+use Rattle.golog_fronts.specs.FrontLists.{guarded, guarded_of}
 use Rattle.golog_find.specs.Visits.{AreFrontsOf}
 use Rattle.golog_find.proofs.Numbering.{goes_on-further}
 use Rattle.golog_find.proofs.Visiting.{fronts-more, guarded-next}

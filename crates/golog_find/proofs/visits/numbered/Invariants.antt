@@ -1,6 +1,6 @@
 use Rattle.std.proofs.Common.{take}
 use Rattle.golog_memo.specs.Numbered.{AreOnce}
-use Rattle.golog_ways.specs.FrontLists.{guarded}
+use Rattle.golog_fronts.specs.FrontLists.{guarded}
 use Rattle.golog_find.specs.Numbers.{GoesOn}
 use Rattle.golog_find.specs.Visits.{AreFrontsOf}
 use Rattle.golog_find.proofs.visits.numbered.Given as goal

@@ -6,7 +6,7 @@ use Rattle.golog_search.specs.Decided.{IsAhead}
 use Rattle.golog_search.specs.Steady.{steady}
 use Rattle.golog_search.proofs.Choosing.{ends, first-at, first-lacks, lacks-at, searched-at, stepless, steps}
 use Rattle.golog_search.proofs.Steadies.{first-shallow}
-use Rattle.golog_ways.proofs.WellFormedFits.{well_formed_fits}
+use Rattle.golog_fronts.proofs.WellFormedFits.{well_formed_fits}
 use Rattle.golog_search.proofs.deciding.look_ahead.Goals as goal
 
 pub is_final-requires-clause-program : goal.is_final-requires-clause-program

@@ -4,7 +4,7 @@ use Rattle.golog_search.specs.declared.decision.Blocked.{Blocked}
 use Rattle.golog_search.specs.declared.decision.Decision.TheVariants.{Blocked as Blocking}
 use Rattle.golog_search.specs.Decided.{IsDecided}
 use Rattle.golog_search.proofs.Choosing.{by-reach, lacks-at, move-at, near-end, reach-lacks, searched-at}
-use Rattle.golog_ways.proofs.WellFormedFits.{well_formed_fits}
+use Rattle.golog_fronts.proofs.WellFormedFits.{well_formed_fits}
 use Rattle.golog_search.proofs.deciding.look_why.Goals as goal
 
 pub is_final-requires-clause-program : goal.is_final-requires-clause-program

@@ -4,8 +4,8 @@ use mathlib.Core.List.{append-nil}
 use Rattle.golog_tree.specs.declared.prog.Prog.{Prog}
 use Rattle.golog_tree.specs.declared.prog.Prog.TheVariants as prog
 use Rattle.golog_semantics.specs.Guarded.{front}
-use Rattle.golog_ways.proofs.Closing.{conc_parts, prio_parts, seq_parts, both_down, down}
-use Rattle.golog_ways.proofs.Moved.{one_same, two_same}
+use Rattle.golog_fronts.proofs.Closing.{conc_parts, prio_parts, seq_parts, both_down, down}
+use Rattle.golog_fronts.proofs.Moved.{one_same, two_same}
 use Rattle.golog_search.specs.declared.told.Told.{Told}
 use Rattle.golog_search.specs.Told.{told_at, told_in}
 use Rattle.golog_search.proofs.InBlocks.{follow_body}

@@ -1,6 +1,6 @@
 use Rattle.std.proofs.Common.{◌≡◌, ◌&&◌, true, false, sym, ap, ◌∙◌}
 use Rattle.golog_semantics.specs.Same.{same_label, same_prog}
-use Rattle.golog_memo.proofs.SamePrograms.{same-by}
+use Rattle.golog_semantics.proofs.SamePrograms.{same-by}
 use Rattle.golog_watch.proofs.opens.is_step.Goals as goal
 
 pub returns-then-is_same_label : goal.returns-then-is_same_label

@@ -2,7 +2,7 @@ use Rattle.std.proofs.Common.{ℕ, List, ap, ◌∙◌}
 use Rattle.golog_semantics.specs.declared.Mode.TheVariants.{Must}
 use Rattle.golog_semantics.specs.Modes.{holds}
 use Rattle.golog_semantics.specs.Truth.{truth_of}
-use Rattle.golog_ways.proofs.Acting.{closed_cond}
+use Rattle.golog_fronts.proofs.Acting.{closed_cond}
 use Rattle.golog_watch.proofs.watch.is_certain.Goals as goal
 
 pub value-requires-clause-fits : goal.value-requires-clause-fits

@@ -1,7 +1,7 @@
 use Rattle.std.proofs.Common.{◌≡◌, ◌&&◌, true, false, sym, ap, ◌∙◌}
 use Rattle.std.specs.Cmp.Lexicographic.{pointwise}
 use Rattle.golog_semantics.specs.Same.{same_prog, same_way}
-use Rattle.golog_memo.proofs.SamePrograms.{same-by, same_run-by}
+use Rattle.golog_semantics.proofs.SamePrograms.{same-by, same_run-by}
 use Rattle.golog_watch.proofs.watch.is_whole.Goals as goal
 
 pub returns-then-is_same_prog : goal.returns-then-is_same_prog

@@ -1,7 +1,7 @@
 use Rattle.std.proofs.Common.{◌≡◌, true, false, sym, ◌∙◌, arith}
 use Rattle.golog_semantics.specs.Same.{same_way}
 use Rattle.golog_ways.proofs.GoingThrough.{any-here, any-later}
-use Rattle.golog_memo.proofs.SamePrograms.{same_way-by}
+use Rattle.golog_semantics.proofs.SamePrograms.{same_way-by}
 use Rattle.golog_ways.proofs.going.is_among.Goals as goal
 
 pub returns-then-is_same_way : goal.returns-then-is_same_way

@@ -1,7 +1,7 @@
 use Rattle.std.proofs.Common.{ℕ, List, ap, ◌∙◌}
 use Rattle.golog_semantics.specs.Modes.{holds}
 use Rattle.golog_semantics.specs.Truth.{truth_of}
-use Rattle.golog_ways.proofs.Acting.{closed_cond}
+use Rattle.golog_fronts.proofs.Acting.{closed_cond}
 use Rattle.golog_ways.proofs.listing.is_open.Goals as goal
 
 pub value-requires-clause-fits : goal.value-requires-clause-fits

@@ -1,6 +1,6 @@
 use Rattle.std.proofs.Common.{◌≡◌}
 use Rattle.golog_semantics.specs.Fronts.{open_ways}
-use Rattle.golog_ways.specs.FrontLists.{guarded}
+use Rattle.golog_fronts.specs.FrontLists.{guarded}
 use Rattle.golog_ways.proofs.listing.open_ways.Given as goal
 
 -- the ways of the fronts so far whose condition holds

@@ -2,7 +2,7 @@ use Rattle.std.proofs.Common.{◌≡◌, ℕ, List, IfOk, length, ap, ◌∙◌,
 use Rattle.golog_ways.specs.First.{has_way}
 use Rattle.golog_ways.proofs.FirstsGiven.{any_of_all}
 use Rattle.golog_ways.proofs.InWorlds.{steps_in_worlds}
-use Rattle.golog_ways.proofs.WellFormedFits.{well_formed_fits}
+use Rattle.golog_fronts.proofs.WellFormedFits.{well_formed_fits}
 use Rattle.golog_ways.proofs.programs.any.Goals as goal
 
 pub any_without-requires-clause-fit : goal.any_without-requires-clause-fit

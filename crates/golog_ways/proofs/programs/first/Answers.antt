@@ -2,7 +2,7 @@ use Rattle.std.proofs.Common.{◌≡◌, ℕ, List, IfOk, length, ap, ◌∙◌,
 use Rattle.golog_ways.specs.First.{first_way}
 use Rattle.golog_ways.proofs.FirstsGiven.{first_left, first_of_all}
 use Rattle.golog_ways.proofs.InWorlds.{first_in_worlds}
-use Rattle.golog_ways.proofs.WellFormedFits.{well_formed_fits}
+use Rattle.golog_fronts.proofs.WellFormedFits.{well_formed_fits}
 use Rattle.golog_ways.proofs.programs.first.Goals as goal
 
 pub first_without-requires-clause-fit : goal.first_without-requires-clause-fit

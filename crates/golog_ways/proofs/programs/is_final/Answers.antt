@@ -1,7 +1,7 @@
 use Rattle.std.proofs.Common.{◌≡◌, ℕ, List, IfOk, length, ap, ◌∙◌, subst}
 use Rattle.golog_semantics.specs.Search.{final}
 use Rattle.golog_ways.proofs.InWorlds.{end_in_worlds}
-use Rattle.golog_ways.proofs.WellFormedFits.{well_formed_fits}
+use Rattle.golog_fronts.proofs.WellFormedFits.{well_formed_fits}
 use Rattle.golog_ways.proofs.programs.is_final.Goals as goal
 
 pub invariant_of-here-clause-fit : goal.invariant_of-here-clause-fit

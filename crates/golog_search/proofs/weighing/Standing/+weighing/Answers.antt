@@ -4,9 +4,9 @@ use Rattle.golog_tree.specs.declared.prog.Prog.TheVariants as prog
 use Rattle.golog_tree.specs.Ground.{sort_size}
 use Rattle.golog_semantics.specs.Guarded.{front}
 use Rattle.golog_semantics.specs.Program.{put_arg}
-use Rattle.golog_ways.proofs.Closing.{choice_parts, conc_parts, prio_parts, seq_parts, star_part, cstar_part, if_parts, while_parts, pick_part, call_part, call_few, both_down, branches, skipped, down, part_as, whole}
-use Rattle.golog_ways.proofs.Moved.{one_same, two_same}
-use Rattle.golog_ways.proofs.WellFormedFits.{well_formed_fits}
+use Rattle.golog_fronts.proofs.Closing.{choice_parts, conc_parts, prio_parts, seq_parts, star_part, cstar_part, if_parts, while_parts, pick_part, call_part, call_few, both_down, branches, skipped, down, part_as, whole}
+use Rattle.golog_fronts.proofs.Moved.{one_same, two_same}
+use Rattle.golog_fronts.proofs.WellFormedFits.{well_formed_fits}
 use Rattle.golog_search.specs.Weighing.{some_weighs}
 use Rattle.golog_search.proofs.InBlocks.{search_body, follow_body}
 use Rattle.golog_search.proofs.Weighs.{ok_as, nil_weighs, act_weighs, test_weighs, star_weighs, cstar_weighs, while_weighs, call_weighs, choice_weighs, if_weighs, conc_weighs, prio_weighs, seq_weighs, seq_first, search_weighs, follow_weighs, none_yet, none_more, pick_weighs, pick_none}

@@ -6,9 +6,9 @@ use Rattle.golog_semantics.specs.declared.Mode.TheVariants.{May}
 use Rattle.golog_semantics.specs.Guarded.{front}
 use Rattle.golog_semantics.specs.Truth.{either}
 use Rattle.golog_semantics.proofs.Unfolded.{final-skips}
-use Rattle.golog_ways.proofs.Closing.{choice_parts, conc_parts, prio_parts, seq_parts, search_part, follow_part, if_parts, while_parts, pick_part, call_part, call_few, seq_both, parts_both, both_one_lower, both_other_lower, down, part_as, whole}
+use Rattle.golog_fronts.proofs.Closing.{choice_parts, conc_parts, prio_parts, seq_parts, search_part, follow_part, if_parts, while_parts, pick_part, call_part, call_few, seq_both, parts_both, both_one_lower, both_other_lower, down, part_as, whole}
 use Rattle.golog_ways.proofs.EndSteps.{ends_as, nil_ends, act_ends, test_ends, star_ends, cstar_ends, seq_ends, conc_ends, prio_ends, choice_ends, if_ends, while_ends, search_ends, follow_ends, call_ends, both_more, both_none, or_settled, or_more}
-use Rattle.golog_ways.proofs.Moved.{gives, one_same, two_same}
+use Rattle.golog_fronts.proofs.Moved.{gives, one_same, two_same}
 use Rattle.golog_ways.proofs.Some.{none_ends, more_ends, pick_ends, pick_settled}
 use Rattle.golog_ways.proofs.here.Here.+ends.Goals as goal
 

@@ -1,7 +1,7 @@
 use Rattle.std.proofs.Common.{◌+◌, ◌*◌}
 use Rattle.golog_tree.specs.declared.prog.Prog.TheVariants as prog
 use Rattle.golog_semantics.specs.Guarded.{front}
-use Rattle.golog_ways.proofs.Closing.{both_height}
+use Rattle.golog_fronts.proofs.Closing.{both_height}
 use Rattle.golog_ways.proofs.Some.{EndsSoFar}
 use Rattle.golog_ways.proofs.here.Here.+ends.Given as goal
 

@@ -2,8 +2,8 @@ use Rattle.std.proofs.Common.{ℕ, List, map, refl, sym, ap, ◌∙◌, subst}
 use Rattle.golog_tree.specs.declared.prog.Prog.TheVariants as prog
 use Rattle.golog_tree.specs.Ground.{AreWithin, action_args, action_no, args_at, sizes}
 use Rattle.golog_semantics.specs.Truth.{Env, arg_value}
-use Rattle.golog_ways.proofs.Acting.{action_is}
-use Rattle.golog_ways.proofs.Closing.{act_fits-of}
+use Rattle.golog_fronts.proofs.Acting.{action_is}
+use Rattle.golog_fronts.proofs.Closing.{act_fits-of}
 use Rattle.golog_ways.proofs.MoveSteps.{act_taken, act_barred}
 use Rattle.golog_ways.proofs.here.Here.act_move.Goals as goal
 

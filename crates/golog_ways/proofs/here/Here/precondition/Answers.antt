@@ -3,8 +3,8 @@ use Rattle.std.proofs.lemmas.Option.{slice_get_read}
 use Rattle.golog_tree.specs.declared.agent.PossItem.{PossItem}
 use Rattle.golog_semantics.specs.Truth.{Env, arg_value, env_of}
 use Rattle.golog_known.specs.Fits.{CondFitsAt}
-use Rattle.golog_ways.proofs.Acting.{action_is, poss_at}
-use Rattle.golog_ways.proofs.Closing.{act_fits-of}
+use Rattle.golog_fronts.proofs.Acting.{action_is, poss_at}
+use Rattle.golog_fronts.proofs.Closing.{act_fits-of}
 use Rattle.golog_tree.specs.declared.prog.Prog.TheVariants as prog
 use Rattle.golog_ways.proofs.here.Here.precondition.Goals as goal
 

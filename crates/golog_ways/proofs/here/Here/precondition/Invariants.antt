@@ -1,6 +1,6 @@
 use Rattle.std.proofs.Common.{◌≡◌, [], map, drop}
 use Rattle.golog_semantics.specs.Truth.{arg_value, env_of}
-use Rattle.golog_ways.specs.Precondition.{precondition, precondition_by}
+use Rattle.golog_fronts.specs.Precondition.{precondition, precondition_by}
 use Rattle.golog_ways.proofs.here.Here.precondition.Given as goal
 
 -- the items still to be tried decide

@@ -1,6 +1,6 @@
 use Rattle.std.proofs.Common.{refl, sym, ◌∙◌}
 use Rattle.golog_tree.specs.declared.prog.Prog.TheVariants as prog
-use Rattle.golog_ways.proofs.Closing.{test_fits}
+use Rattle.golog_fronts.proofs.Closing.{test_fits}
 use Rattle.golog_ways.proofs.MoveSteps.{test_taken, test_barred}
 use Rattle.golog_ways.proofs.here.Here.test_move.Goals as goal
 

@@ -1,4 +1,4 @@
-use Rattle.golog_ways.proofs.Acting.{closed_cond}
+use Rattle.golog_fronts.proofs.Acting.{closed_cond}
 use Rattle.golog_ways.proofs.here.Here.truth.Goals as goal
 
 pub value-requires-clause-fits : goal.value-requires-clause-fits

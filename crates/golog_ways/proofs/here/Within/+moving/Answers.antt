@@ -14,9 +14,9 @@ use Rattle.golog_semantics.proofs.Unfolded.{final-skips}
 use Rattle.golog_ways.specs.FirstMove.{first_move, moved_in}
 use Rattle.golog_ways.proofs.Lackings.{lacks_as, part_lacks, parts_lack, stops_as, stops_above, stops_from, memory_stops, search_lacks, seq_one, seq_other, pick_lacks, prio_high, prio_low, lacks_higher}
 use Rattle.golog_ways.proofs.BlockParts.{search_begins}
-use Rattle.golog_ways.proofs.Closing.{skipped, choice_parts, conc_parts, prio_parts, seq_parts, star_part, cstar_part, if_parts, while_parts, pick_part, call_part, call_few, down, part_as, whole}
+use Rattle.golog_fronts.proofs.Closing.{skipped, choice_parts, conc_parts, prio_parts, seq_parts, star_part, cstar_part, if_parts, while_parts, pick_part, call_part, call_few, down, part_as, whole}
 use Rattle.golog_ways.proofs.MoveSteps.{first_as, move_as, nil_first, search_first, seq_first, seq_second, seq_neither, choice_first, choice_second, conc_first, conc_second, prio_first, prio_kept, prio_second, if_first, star_first, cstar_first, while_first, while_none, call_first, pick_from, pick_here, pick_next, pick_none}
-use Rattle.golog_ways.proofs.Moved.{one_same, two_same, closed_as}
+use Rattle.golog_fronts.proofs.Moved.{one_same, two_same, closed_as}
 use Rattle.golog_ways.proofs.here.Within.+moving.Goals as goal
 
 pub first_move-act_move-requires : goal.first_move-act_move-requires

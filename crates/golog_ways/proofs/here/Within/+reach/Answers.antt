@@ -8,9 +8,9 @@ use Rattle.golog_semantics.specs.Guarded.{front}
 use Rattle.golog_semantics.specs.Program.{put_arg, body_of}
 use Rattle.golog_ways.specs.Lacking.{Lacks}
 use Rattle.golog_ways.proofs.BlockParts.{search_begins}
-use Rattle.golog_ways.proofs.Closing.{skipped, choice_parts, conc_parts, prio_parts, seq_parts, star_part, cstar_part, test_fits, if_parts, while_parts, pick_part, call_part, call_few, both_down, down, part_as, whole}
+use Rattle.golog_fronts.proofs.Closing.{skipped, choice_parts, conc_parts, prio_parts, seq_parts, star_part, cstar_part, test_fits, if_parts, while_parts, pick_part, call_part, call_few, both_down, down, part_as, whole}
 use Rattle.golog_ways.proofs.Lackings.{lacks_as, part_lacks, parts_lack, stops_as, stops_at_either, stops_first, stops_from, stops_or, search_lacks, seq_one, seq_other, pick_lacks, prio_high, prio_low}
-use Rattle.golog_ways.proofs.Moved.{one_same, two_same, closed_as}
+use Rattle.golog_fronts.proofs.Moved.{one_same, two_same, closed_as}
 use Rattle.golog_ways.proofs.ReachSteps.{reach_as, same_gives, nil_reach, act_reach, test_reach, seq_gives, seq_reach_first, seq_settled, choice_gives, conc_gives, either_gives, prio_reach, prio_kept, star_gives, cstar_gives, search_gives, or_settled, or_more, skips, if_gives, while_gives, call_gives, some_none, some_more, pick_reach, pick_settled}
 use Rattle.golog_ways.proofs.here.Within.+reach.Goals as goal
 

@@ -1,0 +1,17 @@
+pub mod Acting
+pub mod AllFronts
+pub mod ClosedConds
+pub mod Closing
+pub mod Ends
+pub mod Fores
+pub mod FrontBlocks
+pub mod FrontLefts
+pub mod FrontSteps
+pub mod FrontsGiven
+pub mod LeftsClosed
+pub mod Moved
+pub mod Opened
+pub mod Preconditions
+pub mod PutTruth
+pub mod Steps
+pub mod WellFormedFits

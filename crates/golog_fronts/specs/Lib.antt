@@ -1,0 +1,9 @@
+pub mod Closed
+pub mod Context
+pub mod Ends
+pub mod Fore
+pub mod FrontBlock
+pub mod FrontLists
+pub mod Lefts
+pub mod Precondition
+pub mod Puts

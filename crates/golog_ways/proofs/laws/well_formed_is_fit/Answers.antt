@@ -1,5 +1,0 @@
-use Rattle.golog_ways.proofs.WellFormedFits.{well_formed_fits}
-use Rattle.golog_ways.proofs.laws.well_formed_is_fit.Goals as goal
-
-pub returns : goal.returns
-returns c = well_formed_fits

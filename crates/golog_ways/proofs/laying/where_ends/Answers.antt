@@ -1,6 +1,0 @@
-use Rattle.golog_ways.proofs.Opened.{ends_given}
-use Rattle.golog_ways.proofs.laying.where_ends.Goals as goal
-
-pub returns : goal.returns
-returns c =
-    ends_given c.args.agent.now c.args.one.now c.args.fronts.now c.in_ok-end.end c.fronts_where.result c.in_ok-end.ensures c.fronts_where.ensures
