@@ -31,7 +31,8 @@ use Rattle.golog_journal.specs.Boards.{IsBoardList}
 use Rattle.golog_journal.specs.Commits.{IsOfProgram}
 use Rattle.golog_journal.specs.Leading.{is_of_program}
 use Rattle.golog_journal.proofs.Lawful.{lawful-last, lawful-parts}
-use Rattle.golog_agent.specs.Keeping.{IsUnderWay, KeepsRules, begun_by}
+use Rattle.golog_lead.specs.Keeping.{KeepsRules, begun_by}
+use Rattle.golog_agent.specs.Keeping.{IsUnderWay}
 use Rattle.golog_agent.specs.Planned.{IsNextStep}
 use Rattle.golog_semantics.specs.Inline.{entry_for}
 use Rattle.golog_agent.specs.Turns.{LacksFuel, MayAnswer}

@@ -13,7 +13,8 @@ use Rattle.golog_journal.specs.Copies.{CopyIs, MoreIs}
 use Rattle.golog_journal.specs.Growing.{Called, Sight}
 use Rattle.golog_journal.specs.Leading.{is_of_program}
 use Rattle.golog_device.proofs.Asked.{lawful-prefix}
-use Rattle.golog_agent.specs.Turns.{Course, Follows, IsCurrent, IsOver}
+use Rattle.golog_lead.specs.Courses.{Course}
+use Rattle.golog_agent.specs.Turns.{Follows, IsCurrent, IsOver}
 use Rattle.golog_agent.proofs.Boarding.{called-follows, called-seen, compose, no-change, still-over}
 
 drop-front : {A : Type 0} (front rest : List A) → drop (length front) (front ++ rest) ≡ rest

@@ -1,6 +1,6 @@
 -- What is kept of a program under way, with one more entry.
 use Rattle.std.proofs.Common.{◌≡◌, ℕ, ◌<◌, Bool, true, false, not, ◌&&◌, ◌||◌, List, [], ◌∷◌, ◌++◌, length, Option, Some, None, refl, sym, ap, ◌∙◌, subst, arith}
-use Rattle.std.specs.Prelude.{IsSome, slice_get, option_and_then, unwrap_or, nat_lt}
+use Rattle.std.specs.Prelude.{slice_get, option_and_then, unwrap_or, nat_lt}
 use Rattle.std.specs.List.{list_any}
 use Rattle.std.specs.Option.{option_map_or}
 use Rattle.std.proofs.lemmas.Bool.{and_parts}
@@ -24,7 +24,7 @@ use Rattle.golog_semantics.specs.Progress.{values_after, left_after}
 use Rattle.golog_semantics.specs.WellFormed.{WellFormed}
 use Rattle.golog_semantics.specs.Online.{IsOnlineSoFar, first_fault, is_first, is_result, keeps_step}
 use Rattle.golog_semantics.specs.OneMore.{and_then}
-use Rattle.golog_semantics.specs.InlineText.{begun_runs, report_of}
+use Rattle.golog_semantics.specs.InlineText.{report_of}
 use Rattle.golog_semantics.specs.Reports.{fits_entry, is_device, is_exogenous, is_value}
 use Rattle.golog_semantics.specs.Blocks.{moves}
 use Rattle.golog_semantics.proofs.Grown.{entries_grow, progress_grows}
@@ -36,12 +36,12 @@ use Rattle.golog_journal.specs.Boards.{AgentJournal, IsBoardList}
 use Rattle.golog_journal.proofs.Lawful.{lawful-last, lawful-parts}
 use Rattle.golog_journal.proofs.Serving.{well_formed_serves}
 use Rattle.golog_agent.specs.Configuration.{Configuration, IsSound, configuration_after, with_entry}
-use Rattle.golog_agent.specs.Keeping.{EndsBy, IsUnderWay, KeepsRules, KeepsUp, awaited_by, begun_by, ended_by}
-use Rattle.golog_agent.specs.Run.{is_step_entry}
-use Rattle.golog_agent.specs.Turns.{Course}
+use Rattle.golog_lead.specs.Keeping.{EndsBy, KeepsRules}
+use Rattle.golog_agent.specs.Keeping.{IsUnderWay, KeepsUp, awaited_by, ended_by}
+use Rattle.golog_lead.specs.Courses.{Course}
 use Rattle.golog_agent.proofs.Awaiting.{awaits-after}
 use Rattle.golog_agent.proofs.StepsKept.{keeps_its_step}
-use Rattle.golog_agent.proofs.BegunRuns.{begun-steps, few-runs, online-grows}
+use Rattle.golog_lead.proofs.BegunRuns.{online-grows}
 
 module _ (agent : Agent) (journal : Journal) where
   -- ---- an entry of the agent
@@ -165,16 +165,6 @@ kept-then held after value e known later given awaited next ended last is k lawf
     (keeps-up held.agent held.entries e known given awaited ended k (lawful-inside held.agent held.entries value e is lawful)
     (subst (λ (v : Course). KeepsRules v.agent v.list e) (sym is) online)
     (subst (λ (v : Course). left_after v.agent (v.list ++ e ∷ []) ≡ unwrap_or given (left_after v.agent v.list)) (sym is) goes))
-
--- there is room for the run that begins
-pub run-room : (agent : Agent) (list : Journal) (e : Entry) (runs : List PlacedRun) (run : Option (List Label))
-    → runs ≡ begun_runs agent list → (is_step_entry e ≡ true → count list < limit) → run ≡ begun_by agent list e
-    → IsSome run → length runs < limit
-run-room agent list e runs run runs_so room begins some =
-    let few = few-runs agent list in
-    let many : length runs ≡ length (begun_runs agent list) = ap (λ rs. length rs) runs_so in
-    let below : count list < limit = room (begun-steps agent list e (subst IsSome begins some)) in
-    omega (arith, few, many, below)
 
 -- the same, where the configuration is
 pub kept-same : (agent : Agent) (list : Journal) (known later : Configuration) (awaited : Option ℕ) (ended : Option Answer) → later ≡ known

@@ -27,17 +27,19 @@ use Rattle.golog_semantics.specs.Inline.{entry_for, lead, step_by}
 use Rattle.golog_semantics.specs.Online.{IsOnlineSoFar, is_first, keeps_step, may_step}
 use Rattle.golog_semantics.specs.InlineText.{report_of}
 use Rattle.golog_journal.specs.Growing.{Sight}
+use Rattle.golog_lead.specs.Short.{EndsShort, IsShort}
 use Rattle.golog_agent.specs.declared.driver.Stepped.{Stepped}
 use Rattle.golog_agent.specs.declared.driver.Stepped.TheVariants.{Step, Waiting, Ended}
 use Rattle.golog_agent.specs.Leading.{AddsOneAlone, LeadsAlone}
-use Rattle.golog_agent.specs.Keeping.{KeepsRules}
-use Rattle.golog_agent.specs.Run.{is_step_entry}
-use Rattle.golog_agent.specs.Short.{EndsShort}
+use Rattle.golog_lead.specs.Keeping.{KeepsRules}
+use Rattle.golog_lead.specs.Run.{is_step_entry}
+use Rattle.golog_agent.specs.Laws.{lead_stays}
 use Rattle.golog_agent.specs.Waiting.{has_no_step, waits}
+use Rattle.golog_lead.specs.Courses.{Course}
 use Rattle.golog_agent.specs.Turns.{CommitsEnd, CommitsStep, EndStood, MayAnswer, StillWaits, TurnIs}
-use Rattle.golog_agent.proofs.StepEntries.{each-step}
+use Rattle.golog_lead.proofs.StepEntries.{each-step}
 use Rattle.golog_agent.proofs.StepsKept.{keeps_its_step, not_or, step-unended}
-use Rattle.golog_agent.proofs.BegunRuns.{keeps-rules}
+use Rattle.golog_lead.proofs.BegunRuns.{keeps-rules}
 use Rattle.golog_agent.proofs.Turning.{alone-grows, alone-stays}
 
 -- ---- the answer where a step may be taken
@@ -131,9 +133,6 @@ module _ (agent : Agent) (journal : Journal) where
 
   -- ---- the program's turn in a round
 
-  lead-ended : has_end journal ≡ true → lead agent journal ≡ journal
-  lead-ended h = ap (λ b. if b then journal else option_map_or (λ a. journal ++ End a ∷ []) (answer_after agent journal) (step_by agent journal M)) h
-
   lead-goes : (o : Option Answer) → has_end journal ≡ false → answer_after agent journal ≡ o → lead agent journal ≡ option_map_or (λ a. journal ++ End a ∷ []) o (step_by agent journal M)
   lead-goes o h e =
       ap (λ b. if b then journal else option_map_or (λ a. journal ++ End a ∷ []) (answer_after agent journal) (step_by agent journal M)) h
@@ -184,7 +183,7 @@ module _ (old new : Sight) (alone : old.alone ≡ true) where
       (subst (λ seen. MayAnswer old.agent seen a) (ap (λ xs. old.seen ++ xs) none ∙ append-nil old.seen) may)
 
   by-end : (agent : Agent) (a : Answer) → has_end old.seen ≡ false → MayAnswer agent old.seen a → new.seen ≡ old.seen ++ End a ∷ []
-      → (new.seen ≡ lead agent old.seen) ⊎ EndsShort old.seen new.seen
+      → (new.seen ≡ lead agent old.seen) ⊎ EndsShort IsShort old.seen new.seen
   by-end agent a goes (inl is) e = inr (record { answer = a; short = inl is; is = e })
   by-end agent a goes (inr (inl lacks)) e = inr (record { answer = a; short = inr lacks.is; is = e })
   by-end agent a goes (inr (inr is)) e = inl (e ∙ sym (lead-goes agent old.seen (Some a) goes is))
@@ -201,19 +200,27 @@ module _ (old new : Sight) (alone : old.alone ≡ true) where
         let w = ap (λ g. waits g old.seen) (same ∙ sym t.follows.same_agent) ∙ ap (waits new.agent) (sym none) ∙ t.is_waiting in
         none ∙ sym (waiting-leads agent old.seen (ap has_end (sym none) ∙ t.goes_on) w)
 
-    by-ended : (a : Answer) → EndStood old new ⊎ CommitsEnd a old new → (new.seen ≡ lead agent old.seen) ⊎ EndsShort old.seen new.seen
-    by-ended a (inl e) = inl (alone-stays old new e.follows alone ∙ sym (lead-ended agent old.seen e.ended))
+    by-ended : (a : Answer) → EndStood old new ⊎ CommitsEnd a old new → (new.seen ≡ lead agent old.seen) ⊎ EndsShort IsShort old.seen new.seen
+    by-ended a (inl e) = inl (alone-stays old new e.follows alone ∙ sym (lead_stays agent old.seen e.ended))
     by-ended a (inr e) =
         by-end agent a e.goes_on (answered-here agent a e.follows.others same (e.follows.are_others.none alone) e.answered)
         (alone-grows old new (End a ∷ []) e.follows alone)
 
-    by-turn : (s : Stepped) → TurnIs old new s → IsOnlineSoFar agent (report_of agent new.seen) → (new.seen ≡ lead agent old.seen) ⊎ EndsShort old.seen new.seen
+    by-turn : (s : Stepped) → TurnIs old new s → IsOnlineSoFar agent (report_of agent new.seen) → (new.seen ≡ lead agent old.seen) ⊎ EndsShort IsShort old.seen new.seen
     by-turn Step t online = inl (by-step t online)
     by-turn Waiting t online = inl (by-waiting t)
     by-turn (Ended a) t online = by-ended a t.how
 
 pub leads-alone : LeadsAlone
 leads-alone agent old new stepped same alone turn online = by-turn old new alone agent same stepped turn online
+
+-- so of a lead that has copied all
+pub alone-so : (first later : Course) (old new : Sight) (stepped : Stepped) → first.agent ≡ old.agent → later.agent ≡ first.agent → later.list ≡ new.seen
+    → IsOnlineSoFar later.agent (report_of later.agent later.list) → TurnIs old new stepped → old.alone ≡ true
+    → (new.seen ≡ lead first.agent old.seen) ⊎ EndsShort IsShort old.seen new.seen
+alone-so first later old new stepped agent same whole online turn alone =
+    leads-alone first.agent old new stepped agent alone turn
+    (subst (λ g. IsOnlineSoFar g (report_of g new.seen)) same (subst (λ seen. IsOnlineSoFar later.agent (report_of later.agent seen)) whole online))
 
 pub adds-one : AddsOneAlone
 adds-one old new alone = record {

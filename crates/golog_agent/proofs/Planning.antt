@@ -31,7 +31,7 @@ use Rattle.golog_agent.specs.Deciding.{plan_by}
 use Rattle.golog_agent.specs.Keeping.{AwaitsFrom, AwaitsOne, IsUnderWay}
 use Rattle.golog_agent.proofs.Awaiting.{settled-none, settled-one, unanswered-closed, unanswered-none, unanswered-open}
 use Rattle.golog_agent.specs.Planned.{IsNextStep, PlanIs}
-use Rattle.golog_agent.specs.Turns.{Course}
+use Rattle.golog_lead.specs.Courses.{Course}
 use Rattle.golog_agent.specs.Waiting.{has_no_step, waits}
 use Rattle.golog_agent.proofs.Growth.{seen_as}
 use Rattle.golog_agent.proofs.Resting.{rest-is-answered}

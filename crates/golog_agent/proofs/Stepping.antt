@@ -19,10 +19,12 @@ use Rattle.golog_journal.specs.Growing.{Sight}
 use Rattle.golog_agent.specs.declared.plan.Plan.{Plan}
 use Rattle.golog_agent.specs.declared.plan.Plan.TheVariants as plan
 use Rattle.golog_agent.specs.declared.driver.Stepped.TheVariants.{Step, Waiting, Ended}
-use Rattle.golog_agent.specs.Keeping.{IsUnderWay, KeepsRules, begun_by}
+use Rattle.golog_lead.specs.Keeping.{KeepsRules, begun_by}
+use Rattle.golog_agent.specs.Keeping.{IsUnderWay}
 use Rattle.golog_agent.specs.Planned.{IsNextStep, PlanIs}
-use Rattle.golog_agent.specs.Run.{is_step_entry}
-use Rattle.golog_agent.specs.Turns.{AttemptIs, CommitGives, Course, IsCommitted, IsCurrent, MayAnswer}
+use Rattle.golog_lead.specs.Run.{is_step_entry}
+use Rattle.golog_lead.specs.Courses.{Course}
+use Rattle.golog_agent.specs.Turns.{AttemptIs, CommitGives, IsCommitted, IsCurrent, MayAnswer}
 use Rattle.golog_semantics.specs.Inline.{entry_for}
 use Rattle.golog_agent.specs.UnderWay.{left_of}
 use Rattle.golog_agent.specs.Waiting.{waits}

@@ -20,11 +20,11 @@ use Rattle.golog_semantics.specs.Progress.{values_after, left_after}
 use Rattle.golog_semantics.specs.InlineText.{begun_runs}
 use Rattle.golog_semantics.specs.Text.{run_at}
 use Rattle.golog_semantics.specs.Online.{fault_among, is_first, may_step, keeps_after, keeps_poster, keeps_place, keeps_taken, keeps_step, keeps_run, keeps_answer, keeps_close, keeps_text}
-use Rattle.golog_agent.specs.Keeping.{KeepsRules}
-use Rattle.golog_agent.specs.Run.{is_step_entry}
+use Rattle.golog_lead.specs.Keeping.{KeepsRules}
+use Rattle.golog_lead.specs.Run.{is_step_entry}
 use Rattle.golog_agent.specs.Waiting.{has_no_step, waits}
-use Rattle.golog_agent.proofs.StepEntries.{each-step}
-use Rattle.golog_agent.proofs.BegunRuns.{run-kept}
+use Rattle.golog_lead.proofs.StepEntries.{each-step}
+use Rattle.golog_lead.proofs.BegunRuns.{run-kept}
 
 -- none fails exactly where each is kept
 pub all_kept : (n : ℕ) (a b c d e f g h i : Bool) → a ≡ true → b ≡ true → c ≡ true → d ≡ true → e ≡ true → f ≡ true → g ≡ true → h ≡ true → i ≡ true

@@ -9,12 +9,12 @@ use Rattle.golog_semantics.specs.Journal.{Journal, count, limit}
 use Rattle.golog_semantics.specs.Progress.{left_after}
 use Rattle.golog_journal.specs.Boards.{IsBoardList}
 use Rattle.golog_journal.specs.Leading.{is_of_program}
-use Rattle.golog_agent.specs.Keeping.{KeepsRules, begun_by}
-use Rattle.golog_agent.specs.Run.{is_step_entry}
-use Rattle.golog_agent.specs.Turns.{Course}
+use Rattle.golog_lead.specs.Keeping.{KeepsRules, begun_by}
+use Rattle.golog_lead.specs.Run.{is_step_entry}
+use Rattle.golog_lead.specs.Courses.{Course}
 use Rattle.golog_agent.proofs.Committing.{device-left, device-online}
 use Rattle.golog_device.proofs.Asked.{lawful-prefix}
-use Rattle.golog_agent.proofs.BegunRuns.{begun-none}
+use Rattle.golog_lead.proofs.BegunRuns.{begun-none}
 use Rattle.golog_agent.proofs.Growth.{seen_as}
 
 any-at : (p : Entry → Bool) (xs : Journal) (i : ℕ) (d : Entry) → list_any p xs ≡ false → i < length xs → p (get_or xs i d) ≡ false

@@ -1,5 +1,5 @@
 -- What came of a turn, from what came of its parts.
-use Rattle.std.proofs.Common.{◌≡◌, ◌≢◌, ◌↔◌, ◌-◌, ◌≤◌, ◌<◌, Bool, true, false, ◌||◌, ◌⊎◌, inl, inr, [], ◌∷◌, ◌++◌, length, length-append, Option, Some, None, refl, sym, ap, ◌∙◌, subst, arith, append_assoc}
+use Rattle.std.proofs.Common.{◌≡◌, ◌≢◌, ◌↔◌, ◌+◌, ◌-◌, ◌≤◌, ◌<◌, Bool, true, false, ◌||◌, ◌⊎◌, inl, inr, [], ◌∷◌, ◌++◌, length, length-append, Option, Some, None, refl, sym, ap, ◌∙◌, subst, arith, append_assoc}
 use Rattle.std.specs.Prelude.{IsTrue, IfSome, Contains}
 use Rattle.std.specs.List.{list_all}
 use Rattle.std.proofs.lemmas.Bool.{and_from}
@@ -16,17 +16,18 @@ use Rattle.golog_journal.specs.Growing.{Sight, program}
 use Rattle.golog_journal.specs.Leading.{AddsEndAtMost, IsBehind, Leads, Mind, SameMind, TakesTurn, Watches, may_come}
 use Rattle.golog_agent.specs.declared.driver.Stepped.{Stepped}
 use Rattle.golog_agent.specs.declared.driver.Stepped.TheVariants.{Step, Waiting, Ended}
-use Rattle.golog_agent.specs.Keeping.{EndsBy}
+use Rattle.golog_lead.specs.Keeping.{EndsBy}
 use Rattle.golog_agent.specs.Leading.{led_for}
-use Rattle.golog_agent.specs.Run.{is_step_entry}
+use Rattle.golog_lead.specs.Run.{is_step_entry}
 use Rattle.golog_agent.specs.Waiting.{waits}
-use Rattle.golog_agent.specs.Turns.{AttemptIs, CommitsEnd, Course, EndStood, Follows, HasEnded, IsCurrent, IsOver, IsOvertaken, LacksFuel, MayAnswer, StillWaits, TurnIs}
+use Rattle.golog_lead.specs.Courses.{Course}
+use Rattle.golog_agent.specs.Turns.{AttemptIs, CommitsEnd, EndStood, Follows, HasEnded, IsCurrent, IsOver, IsOvertaken, LacksFuel, MayAnswer, StillWaits, TurnIs}
 use Rattle.golog_semantics.specs.Online.{IsOnlineSoFar}
 use Rattle.golog_semantics.specs.InlineText.{report_of}
 use Rattle.golog_semantics.proofs.Among.{among-contains, any-among}
-use Rattle.golog_agent.proofs.StepEntries.{each-step}
+use Rattle.golog_lead.proofs.StepEntries.{each-step}
 use Rattle.golog_agent.proofs.StepsKept.{step-unended, stepping-ends-waits}
-use Rattle.golog_agent.proofs.BegunRuns.{keeps-rules}
+use Rattle.golog_lead.proofs.BegunRuns.{keeps-rules}
 use Rattle.golog_agent.proofs.Boarding.{compose, end-as-before, no-change, others-come, over-whole, seen-so}
 
 -- ---- after others have added entries
@@ -219,10 +220,29 @@ module _ (old new : Sight) where
           go (inl e) = inl (alone-stays e.follows alone)
           go (inr e) = inr (answer, alone-grows (End answer ∷ []) e.follows alone)
 
+  -- it adds one at most
+  one-more : (e : Entry) → Follows old new (e ∷ []) → old.alone ≡ true → length new.seen ≤ length old.seen + 1
+  one-more e f alone =
+      let more = ap (λ seen. length seen) (alone-grows (e ∷ []) f alone) ∙ length-append old.seen (e ∷ []) in
+      omega (arith, more)
+
+  none-more : Follows old new [] → old.alone ≡ true → length new.seen ≤ length old.seen + 1
+  none-more f alone = let same = ap (λ seen. length seen) (alone-stays f alone) in omega (arith, same)
+
+  one-at-most : (s : Stepped) → TurnIs old new s → old.alone ≡ true → length new.seen ≤ length old.seen + 1
+  one-at-most Step t alone = one-more t.entry t.follows alone
+  one-at-most Waiting t alone = none-more t.follows alone
+  one-at-most (Ended answer) t alone = go t.how
+    where
+      go : EndStood old new ⊎ CommitsEnd answer old new → length new.seen ≤ length old.seen + 1
+      go (inl e) = none-more e.follows alone
+      go (inr e) = one-more (End answer) e.follows alone
+
   pub takes-turn : (mind : Mind) (s : Stepped) → mind.agent ≡ old.agent → mind.waits ≡ waits mind.agent → TurnIs old new s → IsOnlineSoFar mind.agent (report_of mind.agent new.seen) → TakesTurn mind old new
   takes-turn mind s same is t online = record {
     goes = λ alone whole w. goes-on whole alone mind.agent same s t (ap (λ f. f old.seen) (sym is) ∙ w);
     rests = λ alone whole w. rests-so whole alone mind.agent same s t online (ap (λ f. f old.seen) (sym is) ∙ w);
+    one = λ alone. one-at-most s t alone;
   }
 
   -- it answers that the program has ended exactly where the end stands
@@ -242,10 +262,10 @@ module _ (old new : Sight) where
 
 -- a runner as a lead
 abbrev pub mind_of : Course → Mind
-mind_of course = record { agent = course.agent; list = course.list; waits = waits course.agent; outlet = None }
+mind_of course = record { agent = course.agent; bounds = (0, 0); list = course.list; waits = waits course.agent; outlet = None }
 
 pub same-mind : (first later : Course) → later.agent ≡ first.agent → SameMind (mind_of first) (mind_of later)
-same-mind first later same = record { same_agent = same; same_waits = ap waits same; same_outlet = refl }
+same-mind first later same = record { same_agent = same; same_bounds = refl; same_waits = ap waits same; same_outlet = refl }
 
 pub whole-behind : (course : Course) (sight : Sight) → course.list ≡ sight.seen → IsBehind course.list sight.seen
 whole-behind course sight whole = record { since = []; front = sym whole ∙ sym (append-nil course.list); of_devices = refl }

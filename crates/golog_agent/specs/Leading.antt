@@ -10,10 +10,10 @@ use Rattle.golog_semantics.specs.InlineText.{report_of}
 use Rattle.golog_journal.specs.declared.lead.Led.{Led}
 use Rattle.golog_journal.specs.declared.lead.Led.TheVariants as led
 use Rattle.golog_journal.specs.Growing.{Sight}
+use Rattle.golog_lead.specs.Short.{EndsShort, IsShort}
 use Rattle.golog_agent.specs.declared.driver.Stepped.{Stepped}
 use Rattle.golog_agent.specs.declared.driver.Stepped.TheVariants.{Step, Waiting, Ended}
-use Rattle.golog_agent.specs.Run.{is_step_entry}
-use Rattle.golog_agent.specs.Short.{EndsShort}
+use Rattle.golog_lead.specs.Run.{is_step_entry}
 use Rattle.golog_agent.specs.Turns.{CommitsEnd, CommitsStep, EndStood, StillWaits, TurnIs}
 
 -- the turn is that of the program in a round, or memory or fuel was wanted
@@ -21,7 +21,7 @@ abbrev pub LeadsAlone : Type 0
 LeadsAlone =
     (agent : Agent) (old new : Sight) (stepped : Stepped)
     → agent ≡ old.agent → old.alone ≡ true → TurnIs old new stepped → IsOnlineSoFar agent (report_of agent new.seen)
-    → (new.seen ≡ lead agent old.seen) ⊎ EndsShort old.seen new.seen
+    → (new.seen ≡ lead agent old.seen) ⊎ EndsShort IsShort old.seen new.seen
 
 -- a step was added and no more
 pub record AddsStep (old new : Sight) : Type 0 where

@@ -1,4 +1,3 @@
-pub mod Run
 pub mod UnderWay
 pub mod Laws
 pub mod Waiting
@@ -6,10 +5,5 @@ pub mod Turns
 pub mod Keeping
 pub mod Planned
 pub mod Deciding
-pub mod Moments
-pub mod Short
-pub mod Rounds
 pub mod Leading
 pub mod Configuration
-pub mod Written
-pub mod Recording

@@ -11,15 +11,11 @@ use Rattle.golog_semantics.specs.Progress.{values_after, left_after}
 use Rattle.golog_semantics.specs.Answer.{answer_after, is_unanswered}
 use Rattle.golog_journal.specs.Growing.{Sight, AreOthers, program}
 use Rattle.golog_journal.specs.Leading.{IsBehind}
+use Rattle.golog_lead.specs.Courses.{Course}
 use Rattle.golog_agent.specs.declared.driver.Stepped.{Stepped}
 use Rattle.golog_agent.specs.declared.driver.Stepped.TheVariants.{Step, Waiting, Ended}
-use Rattle.golog_agent.specs.Run.{is_step_entry}
+use Rattle.golog_lead.specs.Run.{is_step_entry}
 use Rattle.golog_agent.specs.Waiting.{waits}
-
--- a program under way: its agent, and the entries so far
-pub record Course : Type 0 where
-  pub agent : Agent
-  pub list : Journal
 
 -- a board of its agent that holds the program; what it lacks of the board's list are entries of devices
 pub record IsOver (course : Course) (sight : Sight) : Type 0 where

@@ -19,6 +19,7 @@ use golog_tree::{Agent, Prog, copy_prog};
 use golog_watch::Watches;
 use std::alloc::Global;
 use std::marker::Model;
+use std::mem;
 
 /// Whether these are the values, if there are any.
 fn is_at(at: &Option<Bytes>, values: &[u8]) -> bool
@@ -135,9 +136,9 @@ impl<'a> Decider<'a> {
     {
         self.state.roll(self.agent, &[entry]);
         if let Some(left) = left {
-            self.left = left;
             self.shallow = true;
-            self.at = None;
+            drop(mem::replace(&mut self.at, None));
+            drop(mem::replace(&mut self.left, left));
         }
     }
 
@@ -191,8 +192,9 @@ impl<'a> Decider<'a> {
         requires { IsAhead self.old.agent self.old.values self.old.left true ahead }
         ensures { self.new ≡ self.old }
     {
-        self.at = copied(alloc, self.state.values());
-        self.ahead = ahead;
+        let at = copied(alloc, self.state.values());
+        drop(mem::replace(&mut self.at, at));
+        drop(mem::replace(&mut self.ahead, ahead));
     }
 
     /// Why the program neither certainly ends nor steps.

@@ -9,19 +9,19 @@ ghost use Rattle.golog_journal.specs.Boards.{IsBoardList};
 ghost use Rattle.golog_journal.specs.Commits.{IsOfProgram};
 ghost use Rattle.golog_journal.specs.Growing.{program};
 ghost use Rattle.golog_journal.specs.Leading.{IsBehind, is_of_program};
-ghost use Rattle.golog_agent.specs.Keeping.{begun_by, KeepsRules};
+ghost use Rattle.golog_lead.specs.Keeping.{begun_by, KeepsRules};
 ghost use Rattle.golog_agent.specs.Planned.{IsNextStep};
-ghost use Rattle.golog_agent.specs.Recording.{Records};
-ghost use Rattle.golog_agent.specs.Run.{is_step_entry};
+ghost use Rattle.golog_lead.specs.Recording.{Records};
+ghost use Rattle.golog_lead.specs.Run.{is_step_entry};
 ghost use Rattle.golog_semantics.specs.Inline.{entry_for};
 ghost use Rattle.golog_agent.specs.UnderWay.{left_of, step_run};
 ghost use Rattle.golog_agent.specs.Turns.{AttemptIs, CommitGives, Follows, IsCurrent, IsOver, MayAnswer, TurnIs};
 
 use crate::plan::Plan;
-use crate::record::Record;
 use crate::under_way::Core;
 use golog_base::List;
 use golog_journal::{Board, Commit};
+use golog_lead::{Record, UnderWay};
 use golog_semantics::{Answer, Entry, Move};
 use golog_tree::{Label, Prog};
 

@@ -24,4 +24,9 @@ impl<'a> Pen<'a> {
         let (line, core) = both(Line::new(alloc), Core::new(alloc, agent))?;
         Ok(Pen { core, line })
     }
+
+    /// Lets it go, where nothing is to be run.
+    pub fn let_go(self) {
+        drop(self)
+    }
 }

@@ -10,12 +10,11 @@ ghost use Rattle.golog_agent.specs.Keeping.{IsUnderWay};
 ghost use Rattle.golog_agent.specs.Leading.{led_for};
 ghost use Rattle.golog_agent.specs.Turns.{TurnIs};
 
-use crate::OnlineLead;
 use crate::driver::{Driver, Stepped};
-use crate::kept::Kept;
 use crate::under_way::Core;
 use golog_base::{NoMemory, both};
 use golog_journal::{Board, Lead, Led, Report};
+use golog_lead::{Kept, RoundLead};
 use golog_tree::Agent;
 use std::alloc::Global;
 use std::marker::Model;
@@ -28,8 +27,8 @@ pub struct Runner<'a> {
 }
 
 impl<'a> Model for Runner<'a> {
-    ghost use Rattle.golog_agent.specs.Turns.{Course};
-    ghost use Rattle.golog_agent.specs.Recording.{IsKept};
+    ghost use Rattle.golog_lead.specs.Courses.{Course};
+    ghost use Rattle.golog_lead.specs.Recording.{IsKept};
     ghost use Rattle.std.specs.Coded.{codes};
     ghost use Rattle.golog_tree.specs.contracts.cond.Cond as cond;
     ghost use Rattle.golog_tree.specs.contracts.cond.Term as term;
@@ -78,6 +77,11 @@ impl<'a> Runner<'a> {
         let Driver { core, record } = self.driver;
         drop(core);
         record.into_report()
+    }
+
+    /// Lets it go, where nothing is to be run.
+    pub fn let_go(self) {
+        drop(self)
     }
 
     // What is so of the entries.
@@ -130,6 +134,7 @@ impl<'a> Lead for Runner<'a> {
 
     ghost mind = { λ runner. record {
       agent = runner.agent;
+      bounds = (0, 0);
       list = runner.list;
       waits = waits runner.agent;
       outlet = None;
@@ -151,9 +156,21 @@ impl<'a> Lead for Runner<'a> {
     ghost goes_on = { λ runner journal quiet. quiet_goes_on runner.agent journal quiet };
 }
 
-impl<'a> OnlineLead for Runner<'a> {
-    fn step<B: Board>(&mut self, board: &mut B) -> Stepped {
-        Runner::turn(self, board)
+impl<'a> RoundLead for Runner<'a> {
+    ghost use Rattle.golog_semantics.specs.Inline.{lead};
+    ghost use Rattle.golog_semantics.specs.InlineText.{report_of};
+    ghost use Rattle.golog_semantics.specs.Online.{IsOnlineSoFar};
+    ghost use Rattle.golog_lead.specs.Short.{IsShort};
+    ghost use Rattle.golog_agent.specs.Laws.{lead_adds, lead_stays};
+
+    ghost keeps = { λ bounds agent journal. IsOnlineSoFar agent (report_of agent journal) };
+
+    ghost alone = { λ bounds. lead };
+
+    ghost short = { IsShort };
+
+    fn step<B: Board>(&mut self, board: &mut B) {
+        Runner::turn(self, board);
     }
 
     fn has_ended(&self) -> bool {
@@ -167,4 +184,8 @@ impl<'a> OnlineLead for Runner<'a> {
     fn keeps_rules(&self) {
         Runner::keeps_rules(self);
     }
+
+    ghost adds = { λ bounds. lead_adds };
+
+    ghost stays = { λ bounds. lead_stays };
 }

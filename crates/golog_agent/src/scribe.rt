@@ -4,16 +4,16 @@ ghost use Rattle.golog_semantics.specs.InlineText.{report_of};
 ghost use Rattle.golog_semantics.specs.Online.{IsOnlineSoFar};
 ghost use Rattle.golog_journal.specs.Growing.{program};
 ghost use Rattle.golog_journal.specs.Leading.{IsBehind};
-ghost use Rattle.golog_agent.specs.Keeping.{EndsBy};
+ghost use Rattle.golog_lead.specs.Keeping.{EndsBy};
 ghost use Rattle.golog_agent.specs.Turns.{TurnIs};
-ghost use Rattle.golog_agent.specs.Written.{HasWritten};
+ghost use Rattle.golog_lead.specs.Written.{HasWritten};
 
+use crate::Pen;
 use crate::driver::{Driver, Stepped};
-use crate::printed::Printed;
 use crate::runner::led_by;
-use crate::{OnlineLead, Pen};
 use golog_base::Sink;
 use golog_journal::{Board, Lead, Led};
+use golog_lead::{Printed, RoundLead};
 use golog_semantics::Answer;
 use std::snapshot::Snapshot;
 
@@ -106,10 +106,11 @@ impl<'a, K: Sink> Lead for Scribe<'a, K> {
     ghost use Rattle.std.specs.Prelude.{Some};
     ghost use Rattle.golog_agent.specs.Waiting.{waits};
     ghost use Rattle.golog_agent.specs.Laws.{quiet_goes_on};
-    ghost use Rattle.golog_agent.specs.Written.{HasWritten};
+    ghost use Rattle.golog_lead.specs.Written.{HasWritten};
 
     ghost mind = { λ scribe. record {
       agent = scribe.driver.core.agent;
+      bounds = (0, 0);
       list = scribe.driver.core.list;
       waits = waits scribe.driver.core.agent;
       outlet = Some (record {
@@ -138,9 +139,21 @@ impl<'a, K: Sink> Lead for Scribe<'a, K> {
     ghost goes_on = { λ scribe journal quiet. quiet_goes_on scribe.driver.core.agent journal quiet };
 }
 
-impl<'a, K: Sink> OnlineLead for Scribe<'a, K> {
-    fn step<B: Board>(&mut self, board: &mut B) -> Stepped {
-        Scribe::turn(self, board)
+impl<'a, K: Sink> RoundLead for Scribe<'a, K> {
+    ghost use Rattle.golog_semantics.specs.Inline.{lead};
+    ghost use Rattle.golog_semantics.specs.InlineText.{report_of};
+    ghost use Rattle.golog_semantics.specs.Online.{IsOnlineSoFar};
+    ghost use Rattle.golog_lead.specs.Short.{IsShort};
+    ghost use Rattle.golog_agent.specs.Laws.{lead_adds, lead_stays};
+
+    ghost keeps = { λ bounds agent journal. IsOnlineSoFar agent (report_of agent journal) };
+
+    ghost alone = { λ bounds. lead };
+
+    ghost short = { IsShort };
+
+    fn step<B: Board>(&mut self, board: &mut B) {
+        Scribe::turn(self, board);
     }
 
     fn has_ended(&self) -> bool {
@@ -154,4 +167,8 @@ impl<'a, K: Sink> OnlineLead for Scribe<'a, K> {
     fn keeps_rules(&self) {
         self.driver.core.keeps_rules();
     }
+
+    ghost adds = { λ bounds. lead_adds };
+
+    ghost stays = { λ bounds. lead_stays };
 }

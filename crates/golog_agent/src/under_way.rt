@@ -6,18 +6,19 @@ ghost use Rattle.golog_semantics.specs.Journal.{has_end, is_open, is_full, is_qu
 ghost use Rattle.golog_semantics.specs.Answer.{is_unanswered};
 ghost use Rattle.golog_semantics.specs.Progress.{values_after, left_after};
 ghost use Rattle.golog_semantics.specs.Search.{final, nest_limit};
-ghost use Rattle.golog_semantics.specs.SortLaws.{AreInSorts};
 ghost use Rattle.golog_semantics.specs.Ways.{is_empty};
 ghost use Rattle.golog_semantics.specs.WellFormed.{WellFormed};
 ghost use Rattle.golog_search.specs.Decided.{IsAhead};
 ghost use Rattle.golog_journal.specs.Boards.{IsBoardList};
-ghost use Rattle.golog_agent.specs.Keeping.{awaited_by, ended_by, EndsBy, IsUnderWay, KeepsRules};
+ghost use Rattle.golog_lead.specs.Keeping.{EndsBy, KeepsRules};
+ghost use Rattle.golog_agent.specs.Keeping.{awaited_by, ended_by, IsUnderWay};
 ghost use Rattle.golog_agent.specs.Planned.{PlanIs, IsNextStep};
 
 use crate::decider::Decider;
 use crate::plan::{Plan, planned};
 use golog_base::{NoMemory, both};
 use golog_journal::Counts;
+use golog_lead::UnderWay;
 use golog_progress::State;
 use golog_search::Decision;
 use golog_semantics::{Answer, Entry, Mode, Move};
@@ -40,7 +41,7 @@ pub struct Core<'a> {
 }
 
 impl<'a> Model for Core<'a> {
-    ghost use Rattle.golog_agent.specs.Turns.{Course};
+    ghost use Rattle.golog_lead.specs.Courses.{Course};
     ghost use Rattle.golog_agent.specs.Keeping.{KeepsUp};
     ghost use Rattle.std.specs.Coded.{codes};
     ghost use Rattle.golog_tree.specs.contracts.cond.Cond as cond;
@@ -110,29 +111,6 @@ impl<'a> Core<'a> {
         ensures short { length self.now.list ≤ longest }
     {
         let _length = self.counts.len();
-    }
-
-    /// The number of entries.
-    pub(crate) fn len(&self) -> u32
-        ensures number { result ≡ length self.now.list }
-        ensures most { length self.now.list ≤ longest }
-    {
-        self.counts.len()
-    }
-
-    /// The agent that it was made with.
-    pub(crate) fn agent(&self) -> &'a Agent
-        ensures { result.now ≡ self.now.agent }
-    {
-        self.decider.agent()
-    }
-
-    /// What is known after the entries.
-    pub(crate) fn state(&self) -> &State
-        ensures values { result.now ≡ values_after self.now.agent self.now.list }
-        ensures sorts { AreInSorts self.now.agent result.now }
-    {
-        self.decider.state()
     }
 
     /// Takes one more entry, which keeps the rules, and the program that it leaves, if that is another.
@@ -250,5 +228,21 @@ impl<'a> Core<'a> {
             Some(_) => Plan::End(Answer::Unanswered),
             None => self.decided_plan(),
         }
+    }
+}
+
+impl<'a> UnderWay for Core<'a> {
+    ghost course = { λ core. core };
+
+    fn agent(&self) -> &Agent {
+        self.decider.agent()
+    }
+
+    fn len(&self) -> u32 {
+        self.counts.len()
+    }
+
+    fn state(&self) -> &State {
+        self.decider.state()
     }
 }

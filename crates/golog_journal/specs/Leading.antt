@@ -1,5 +1,5 @@
 -- What the lead of a program does with a board. (This project's own.)
-use Rattle.std.specs.Prelude.{◌≡◌, ◌≢◌, ◌⊎◌, ℕ, Bool, true, false, not, ◌||◌, Option, is_some, List, [], ◌∷◌, ◌++◌}
+use Rattle.std.specs.Prelude.{◌≡◌, ◌≢◌, ◌⊎◌, ℕ, ◌+◌, ◌≤◌, Bool, true, false, not, ◌||◌, Option, is_some, List, [], ◌∷◌, ◌++◌, length}
 use Rattle.std.specs.Borrow.{GName}
 use Rattle.std.specs.List.{list_any, list_all}
 use Rattle.golog_tree.specs.declared.agent.Agent.{Agent}
@@ -16,10 +16,15 @@ pub record Outlet : Type 0 where
   pub base : Option (List ℕ)
   pub faults : ℕ
 
--- what a lead means: the agent that it was made with, the entries that it has copied, whether it waits for a device
--- where these are all the entries, and what it writes to, if anything
+-- two numbers that bound what a lead looks for, as how many steps ahead and how much work
+abbrev pub Bounds : Type 0
+Bounds = ℕ × ℕ
+
+-- what a lead means: the agent that it was made with, the bounds of what it looks for, the entries that it has copied,
+-- whether it waits for a device where these are all the entries, and what it writes to, if anything
 pub record Mind : Type 0 where
   pub agent : Agent
+  pub bounds : Bounds
   pub list : Journal
   pub waits : Journal → Bool
   pub outlet : Option Outlet
@@ -34,9 +39,10 @@ pub record IsBehind (list seen : Journal) : Type 0 where
   pub front : seen ≡ list ++ since
   pub of_devices : list_any is_of_program since ≡ false
 
--- the agent, the lists at which it waits and what it writes to stay
+-- the agent, the bounds, the lists at which it waits and what it writes to stay
 pub record SameMind (old new : Mind) : Type 0 where
   pub same_agent : new.agent ≡ old.agent
+  pub same_bounds : new.bounds ≡ old.bounds
   pub same_waits : new.waits ≡ old.waits
   pub same_outlet : new.outlet ≡ old.outlet
 
@@ -62,8 +68,9 @@ pub record Watches (old new : Sight) : Type 0 where
 abbrev pub AddsEndAtMost : Journal → Journal → Type 0
 AddsEndAtMost old new = (new ≡ old) ⊎ ((answer : Answer) × (new ≡ old ++ End answer ∷ []))
 
--- Where no one else adds entries and the program has not ended, a turn adds an entry unless the lead waits, and
--- then none but the end.
+-- Where no one else adds entries, a turn adds one at most. Where the program has not ended either, it adds one unless
+-- the lead waits, and then none but the end.
 pub record TakesTurn (mind : Mind) (old new : Sight) : Type 0 where
   pub goes : old.alone ≡ true → has_end old.seen ≡ false → mind.waits old.seen ≡ false → new.seen ≢ old.seen
   pub rests : old.alone ≡ true → has_end old.seen ≡ false → mind.waits old.seen ≡ true → AddsEndAtMost old.seen new.seen
+  pub one : old.alone ≡ true → length new.seen ≤ length old.seen + 1

@@ -19,14 +19,16 @@ pub enum Led {
 /// What drives a program: it copies what devices post, and commits what it decides. Its copy is a prefix of what
 /// the board has seen, and misses only entries of devices. A lead that writes its copy out says what it has written.
 pub trait Lead {
-    // The agent that it was made with, its copy, the lists at which it waits for a device, and what it writes to.
+    // The agent that it was made with, the bounds of what it looks for, its copy, the lists at which it waits for a
+    // device, and what it writes to.
     ghost mind: { Self → Mind };
 
     // What it has written is its copy, over what stood there before.
     ghost stands: { Self → Type 0 };
 
     /// Commits what the program does next, or nothing. Answers whether the program has ended. Where no one else
-    /// adds entries and the program has not ended, it adds one unless the lead waits, and then none but the end.
+    /// adds entries, it adds one at most; where the program has not ended either, it adds one unless the lead waits,
+    /// and then none but the end.
     fn turn<B: Board>(&mut self, board: &mut B) -> Led
         requires agent { (mind self.old).agent ≡ (B.sight board.old).agent }
         requires held { (B.sight board.old).holds program ≡ true }

@@ -1,5 +1,5 @@
 -- What a lead that looked at a board does in the same turn.
-use Rattle.std.proofs.Common.{◌≡◌, ◌≢◌, ◌<◌, Bool, true, false, not, ◌||◌, [], ◌∷◌, ◌++◌, length, length-append, append_assoc, append-nil, refl, sym, ap, ◌∙◌, subst, arith}
+use Rattle.std.proofs.Common.{◌≡◌, ◌≢◌, ◌+◌, ◌≤◌, ◌<◌, Bool, true, false, not, ◌||◌, [], ◌∷◌, ◌++◌, length, length-append, append_assoc, append-nil, refl, sym, ap, ◌∙◌, subst, arith}
 use Rattle.std.specs.List.{list_any, list_all}
 use Rattle.std.proofs.lemmas.Bool.{and_from, or_from, or_parts}
 use Rattle.std.proofs.lemmas.List.Folds.{list_any-append, list_all-append}
@@ -126,6 +126,8 @@ module _ (a b c : Sight) (looked : Looks a b) where
     rests = λ alone goes waits.
         subst (λ seen. AddsEndAtMost seen c.seen) (looked.watches.alone_same alone)
         (turn.rests (f.same_alone ∙ alone) (looked.goes_on goes) (ap mind.waits (looked.watches.alone_same alone) ∙ waits));
+    one = λ alone.
+        subst (λ seen. length c.seen ≤ length seen + 1) (looked.watches.alone_same alone) (turn.one (f.same_alone ∙ alone));
   }
 
   -- another look

@@ -257,6 +257,7 @@ impl Lead for Host<'_> {
 
     ghost mind = { λ host. record {
       agent = host.runner.agent;
+      bounds = (0, 0);
       list = host.runner.list;
       waits = waits host.runner.agent;
       outlet = None;

@@ -5,12 +5,13 @@ use Rattle.golog_semantics.specs.InlineText.{report_of}
 use Rattle.golog_semantics.specs.Journal.{Journal, is_open}
 use Rattle.golog_semantics.specs.Online.{IsOnline}
 use Rattle.golog_semantics.specs.Reports.{IsReport}
+use Rattle.golog_semantics.proofs.LaterRuns.{whole_is_online}
 use Rattle.golog_journal.specs.Boards.{AgentJournal, IsBoardList}
 use Rattle.golog_journal.specs.Leading.{IsBehind}
 use Rattle.golog_journal.specs.Taken.{IsReady}
 use Rattle.golog_device.proofs.Refused.{ready-first}
-use Rattle.golog_agent.specs.Turns.{Course}
-use Rattle.golog_agent.proofs.RunsFit.{is-report}
+use Rattle.golog_lead.specs.Courses.{Course}
+use Rattle.golog_lead.proofs.RunsFit.{is-report}
 use Rattle.golog_embedded.proofs.run.Goals as goal
 
 -- ---- an empty journal
@@ -55,4 +56,5 @@ returns-clause-fits g c =
 pub returns-clause-online : goal.returns-clause-online
 returns-clause-online g c =
     let is = of-journal c.args.agent.now _ _ _ _ c.report.ensures.entries (c.run_inline.ensures.same.same_agent ∙ ap (λ (r : Course). r.agent) c.in_ok-runner.ensures) c.run_inline.ensures.whole in
-    subst (IsOnline c.args.agent.now) (sym is) c.run_inline.ensures.ran.online
+    subst (IsOnline c.args.agent.now) (sym is)
+    ((whole_is_online c.args.agent.now (report_of c.args.agent.now _)).whole c.run_inline.ensures.ran.kept c.run_inline.ensures.ran.whole)

@@ -1,6 +1,6 @@
 use Rattle.std.proofs.Common.{sym, ap, subst, ◌∙◌}
 use Rattle.golog_journal.specs.Boards.{AgentJournal, IsBoardList}
-use Rattle.golog_agent.specs.Turns.{Course}
+use Rattle.golog_lead.specs.Courses.{Course}
 use Rattle.golog_thread_tests.proofs.Starting.{no-entries, none-ready, none-behind}
 use Rattle.golog_thread_tests.proofs.written.written.Goals as goal
 

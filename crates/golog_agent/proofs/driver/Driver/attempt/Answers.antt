@@ -1,5 +1,5 @@
 use Rattle.golog_agent.proofs.Turning.{attempt-goes, attempt-stands, attempt-unended, current-over}
-use Rattle.golog_agent.proofs.Recorded.{records-then}
+use Rattle.golog_lead.proofs.Recorded.{records-then}
 use Rattle.golog_agent.proofs.driver.Driver.attempt.Goals as goal
 
 pub returns-in-Some-clause-attempt : goal.returns-in-Some-clause-attempt

@@ -1,5 +1,5 @@
 use Rattle.std.proofs.Common.{◌-◌, length}
-use Rattle.golog_agent.specs.Recording.{Records}
+use Rattle.golog_lead.specs.Recording.{Records}
 use Rattle.golog_agent.proofs.Copying.{Copies}
 use Rattle.golog_agent.proofs.driver.Driver.catch_up.Given as goal
 

@@ -1,8 +1,9 @@
 use Rattle.std.proofs.Common.{sym, subst}
-use Rattle.golog_agent.specs.Turns.{Course, IsOver}
+use Rattle.golog_lead.specs.Courses.{Course}
+use Rattle.golog_agent.specs.Turns.{IsOver}
 use Rattle.golog_agent.proofs.Placing.{may-commit, moved-over, moved-overtaken, taken-commits, taken-lawful, taken-over, taken-whole}
-use Rattle.golog_agent.proofs.BegunRuns.{step-counts}
-use Rattle.golog_agent.proofs.Recorded.{records-same}
+use Rattle.golog_lead.proofs.BegunRuns.{step-counts}
+use Rattle.golog_lead.proofs.Recorded.{records-same}
 use Rattle.golog_agent.proofs.driver.Driver.commit.Goals as goal
 
 pub commit-requires-clause-allowed : goal.commit-requires-clause-allowed

@@ -1,9 +1,10 @@
 use Rattle.std.proofs.Common.{refl, sym, ap, ◌∙◌, subst}
 use Rattle.golog_agent.specs.Planned.{IsNextStep}
-use Rattle.golog_agent.specs.Turns.{Course, IsCurrent, IsOver, MayAnswer}
+use Rattle.golog_lead.specs.Courses.{Course}
+use Rattle.golog_agent.specs.Turns.{IsCurrent, IsOver, MayAnswer}
 use Rattle.golog_agent.proofs.Stepping.{plan-answers, plan-steps, plan-waits}
 use Rattle.golog_agent.proofs.Turning.{current-over}
-use Rattle.golog_agent.proofs.Recorded.{records-as, records-same}
+use Rattle.golog_lead.proofs.Recorded.{records-as, records-same}
 use Rattle.golog_agent.proofs.driver.Driver.go_on.Goals as goal
 
 pub returns-in-Wait-clause-attempt : goal.returns-in-Wait-clause-attempt

@@ -3,7 +3,7 @@ use Rattle.std.specs.Prelude.{IfSome, unwrap_or}
 use Rattle.golog_tree.specs.Nest.{nest}
 use Rattle.golog_semantics.specs.Progress.{left_after}
 use Rattle.golog_semantics.specs.Search.{nest_limit}
-use Rattle.golog_agent.specs.Turns.{Course}
+use Rattle.golog_lead.specs.Courses.{Course}
 use Rattle.golog_agent.proofs.Stepping.{left-nests}
 use Rattle.golog_agent.proofs.driver.Driver.take.Goals as goal
 

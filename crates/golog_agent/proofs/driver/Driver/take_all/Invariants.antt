@@ -1,5 +1,5 @@
 use Rattle.std.proofs.Common.{◌≡◌, ◌++◌, take}
-use Rattle.golog_agent.specs.Recording.{Records}
+use Rattle.golog_lead.specs.Recording.{Records}
 use Rattle.golog_agent.proofs.driver.Driver.take_all.Given as goal
 
 abbrev pub invariant-loop-entry : goal.invariant-loop-entry

@@ -1,6 +1,6 @@
 use Rattle.std.proofs.Common.{refl}
 use Rattle.golog_agent.proofs.Turning.{attempts-first, attempts-next, attempts-shorter, attempts-turn, attempts-whole}
-use Rattle.golog_agent.proofs.Recorded.{records-same, records-then}
+use Rattle.golog_lead.proofs.Recorded.{records-same, records-then}
 use Rattle.golog_agent.proofs.driver.Driver.turn.Goals as goal
 
 pub loop-stepped-init : goal.loop-stepped-init

@@ -1,5 +1,5 @@
 use Rattle.std.proofs.Common.{◌-◌, length}
-use Rattle.golog_agent.specs.Recording.{Records}
+use Rattle.golog_lead.specs.Recording.{Records}
 use Rattle.golog_agent.proofs.Turning.{Attempts}
 use Rattle.golog_agent.proofs.driver.Driver.turn.Given as goal
 

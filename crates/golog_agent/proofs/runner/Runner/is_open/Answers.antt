@@ -1,6 +1,6 @@
 use Rattle.std.proofs.Common.{◌<◌, length, sym, ap, ◌∙◌, subst}
 use Rattle.golog_semantics.specs.Journal.{is_open}
-use Rattle.golog_agent.specs.Turns.{Course}
+use Rattle.golog_lead.specs.Courses.{Course}
 use Rattle.golog_agent.proofs.runner.Runner.is_open.Goals as goal
 
 pub is_open-requires : goal.is_open-requires

@@ -1,8 +1,8 @@
 use Rattle.std.proofs.Common.{◌≡◌, [], sym, subst}
 use Rattle.std.specs.Prelude.{IfOk}
-use Rattle.golog_agent.specs.declared.kept.Kept.{Kept}
-use Rattle.golog_agent.specs.Recording.{IsKept}
-use Rattle.golog_agent.specs.Turns.{Course}
+use Rattle.golog_lead.specs.declared.kept.Kept.{Kept}
+use Rattle.golog_lead.specs.Recording.{IsKept}
+use Rattle.golog_lead.specs.Courses.{Course}
 use Rattle.golog_agent.proofs.runner.Runner.new.Goals as goal
 
 pub invariant_of-result : goal.invariant_of-result

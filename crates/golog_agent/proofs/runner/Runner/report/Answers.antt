@@ -1,8 +1,8 @@
 use Rattle.std.proofs.Common.{sym, ◌∙◌, subst}
 use Rattle.golog_semantics.specs.Online.{IsOnlineSoFar}
-use Rattle.golog_agent.specs.Recording.{IsKept}
-use Rattle.golog_agent.specs.Turns.{Course}
-use Rattle.golog_agent.proofs.Recorded.{reported}
+use Rattle.golog_lead.specs.Recording.{IsKept}
+use Rattle.golog_lead.specs.Courses.{Course}
+use Rattle.golog_lead.proofs.Recorded.{reported}
 use Rattle.golog_agent.proofs.runner.Runner.report.Goals as goal
 
 pub returns-clause-entries : goal.returns-clause-entries

@@ -1,6 +1,6 @@
 use Rattle.std.proofs.Common.{sym, ap, ◌∙◌, subst}
 use Rattle.golog_journal.specs.Leading.{IsBehind}
-use Rattle.golog_agent.specs.Turns.{Course}
+use Rattle.golog_lead.specs.Courses.{Course}
 use Rattle.golog_agent.proofs.runner.Runner.turn.Goals as goal
 
 pub turn-requires-clause-agent : goal.turn-requires-clause-agent

@@ -1,7 +1,8 @@
 use Rattle.std.proofs.Common.{◌≤◌, length, sym, ap, ◌∙◌, subst}
 use Rattle.golog_semantics.specs.Journal.{Journal, longest}
 use Rattle.golog_journal.specs.Boards.{IsBoardList}
-use Rattle.golog_agent.specs.Turns.{Course, IsOver}
+use Rattle.golog_lead.specs.Courses.{Course}
+use Rattle.golog_agent.specs.Turns.{IsOver}
 use Rattle.golog_agent.proofs.Turning.{same-mind, watches}
 use Rattle.golog_agent.proofs.runner.RunnerLead.gather.Goals as goal
 

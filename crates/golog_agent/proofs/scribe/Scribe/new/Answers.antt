@@ -1,5 +1,5 @@
 use Rattle.std.proofs.Common.{sym, ap}
-use Rattle.golog_agent.proofs.Writing.{first-written}
+use Rattle.golog_lead.proofs.Writing.{first-written}
 use Rattle.golog_agent.proofs.scribe.Scribe.new.Goals as goal
 
 pub returns-clause-stands : goal.returns-clause-stands

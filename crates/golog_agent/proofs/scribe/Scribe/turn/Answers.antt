@@ -1,5 +1,5 @@
 use Rattle.std.proofs.Common.{ap}
-use Rattle.golog_agent.proofs.Minds.{outlet-was}
+use Rattle.golog_lead.proofs.Minds.{outlet-was}
 use Rattle.golog_journal.specs.Leading.{Outlet}
 use Rattle.golog_agent.proofs.scribe.Scribe.turn.Goals as goal
 

@@ -1,4 +1,4 @@
-use Rattle.std.proofs.Common.{◌≤◌, length, ap, subst}
+use Rattle.std.proofs.Common.{◌≤◌, length, refl, ap, subst}
 use Rattle.golog_semantics.specs.Journal.{Journal, longest}
 use Rattle.golog_journal.specs.Boards.{IsBoardList}
 use Rattle.golog_agent.specs.Waiting.{waits}
@@ -13,7 +13,7 @@ returns g c =
     let t = c.catch_up.ensures in
     let u = c.keeps_rules.ensures in
     record {
-      same = record { same_agent = t.same; same_waits = ap waits t.same; same_outlet = t.recorded.same_outlet };
+      same = record { same_agent = t.same; same_bounds = refl; same_waits = ap waits t.same; same_outlet = t.recorded.same_outlet };
       stands = t.recorded.stands_still;
       whole = t.current.whole;
       watches = watches (g.B.Board.sight c.args.board.now) (g.B.Board.sight c.catch_up.new.board) t.follows;

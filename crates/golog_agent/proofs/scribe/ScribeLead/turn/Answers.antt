@@ -5,7 +5,7 @@ use Rattle.golog_journal.specs.declared.lead.Led.{Led}
 use Rattle.golog_journal.specs.declared.lead.Led.TheVariants as led
 use Rattle.golog_journal.specs.Boards.{IsBoardList}
 use Rattle.golog_agent.specs.Waiting.{waits}
-use Rattle.golog_agent.proofs.Minds.{outlet-still, takes-as}
+use Rattle.golog_lead.proofs.Minds.{outlet-still, takes-as}
 use Rattle.golog_agent.proofs.Turning.{lead-so, lead-turn, mind_of, turn-leads, whole-behind}
 use Rattle.golog_agent.proofs.scribe.ScribeLead.turn.Goals as goal
 
@@ -21,6 +21,7 @@ returns g c =
     record {
       same = record {
         same_agent = t.same;
+        same_bounds = refl;
         same_waits = ap waits t.same;
         same_outlet = outlet-still _ _ t.same_reference t.same_base t.same_faults;
       };

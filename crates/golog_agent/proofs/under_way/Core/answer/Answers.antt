@@ -1,6 +1,6 @@
 use Rattle.std.proofs.Common.{subst}
-use Rattle.golog_agent.specs.Keeping.{EndsBy}
-use Rattle.golog_agent.specs.Turns.{Course}
+use Rattle.golog_lead.specs.Keeping.{EndsBy}
+use Rattle.golog_lead.specs.Courses.{Course}
 use Rattle.golog_agent.proofs.under_way.Core.answer.Goals as goal
 
 pub returns : goal.returns

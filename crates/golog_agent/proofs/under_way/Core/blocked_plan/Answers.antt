@@ -8,7 +8,7 @@ use Rattle.golog_search.specs.Decided.{IsDecided}
 use Rattle.golog_agent.specs.Configuration.{Configuration}
 use Rattle.golog_agent.specs.Keeping.{IsUnderWay}
 use Rattle.golog_agent.specs.Planned.{PlanIs}
-use Rattle.golog_agent.specs.Turns.{Course}
+use Rattle.golog_lead.specs.Courses.{Course}
 use Rattle.golog_agent.proofs.Growth.{sound}
 use Rattle.golog_agent.proofs.Planning.{blocked-plan, known-inside, known-seen}
 use Rattle.golog_agent.proofs.under_way.Core.blocked_plan.Goals as goal

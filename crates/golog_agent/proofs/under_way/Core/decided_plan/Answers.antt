@@ -8,7 +8,7 @@ use Rattle.golog_semantics.specs.Search.{final}
 use Rattle.golog_semantics.specs.Ways.{is_empty}
 use Rattle.golog_search.specs.Decided.{IsAhead}
 use Rattle.golog_agent.specs.Planned.{PlanIs}
-use Rattle.golog_agent.specs.Turns.{Course}
+use Rattle.golog_lead.specs.Courses.{Course}
 use Rattle.golog_agent.proofs.Planning.{ahead-plan, blocked-waits, none-ahead}
 use Rattle.golog_agent.proofs.under_way.Core.decided_plan.Goals as goal
 

@@ -1,6 +1,6 @@
 use Rattle.std.proofs.Common.{ap, ◌∙◌}
 use Rattle.golog_semantics.specs.Journal.{is_quiet}
-use Rattle.golog_agent.specs.Turns.{Course}
+use Rattle.golog_lead.specs.Courses.{Course}
 use Rattle.golog_agent.proofs.under_way.Core.is_quiet.Goals as goal
 
 pub returns : goal.returns

@@ -1,6 +1,6 @@
 use Rattle.std.proofs.Common.{◌≤◌, length, subst}
 use Rattle.golog_agent.specs.Keeping.{IsUnderWay}
-use Rattle.golog_agent.specs.Turns.{Course}
+use Rattle.golog_lead.specs.Courses.{Course}
 use Rattle.golog_agent.proofs.under_way.Core.keeps_rules.Goals as goal
 
 pub returns-clause-under_way : goal.returns-clause-under_way

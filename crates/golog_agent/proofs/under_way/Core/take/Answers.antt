@@ -1,6 +1,6 @@
 use Rattle.std.proofs.Common.{◌≤◌, ◌∷◌, [], ◌++◌, ap, ◌∙◌, subst}
 use Rattle.golog_journal.specs.Boards.{AgentJournal}
-use Rattle.golog_agent.specs.Turns.{Course}
+use Rattle.golog_lead.specs.Courses.{Course}
 use Rattle.golog_agent.proofs.Growth.{entries-fit, kept-then, lawful-inside, seen_as, sound}
 use Rattle.golog_agent.proofs.under_way.Core.take.Goals as goal
 

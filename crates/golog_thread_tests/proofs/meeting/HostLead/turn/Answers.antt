@@ -1,7 +1,7 @@
 use Rattle.std.proofs.Common.{None, ◌∙◌, ap, subst}
 use Rattle.golog_journal.specs.Growing.{program}
 use Rattle.golog_journal.specs.Leading.{TakesTurn}
-use Rattle.golog_agent.specs.Turns.{Course}
+use Rattle.golog_lead.specs.Courses.{Course}
 use Rattle.golog_agent.specs.Waiting.{waits}
 use Rattle.golog_thread_tests.proofs.Looking.{leads-then, turn-then}
 use Rattle.golog_thread_tests.proofs.meeting.HostLead.turn.Goals as goal
@@ -16,5 +16,5 @@ pub returns-clause-turn : goal.returns-clause-turn
 returns-clause-turn g c =
     turn-then _ _ _ c.welcome.ensures.looks _
     (subst
-    (λ (r : Course). TakesTurn (record { agent = r.agent; list = r.list; waits = waits r.agent; outlet = None }) (g.B.Board.sight c.welcome.new.board) (g.B.Board.sight c.turn.new.board))
+    (λ (r : Course). TakesTurn (record { agent = r.agent; bounds = (0, 0); list = r.list; waits = waits r.agent; outlet = None }) (g.B.Board.sight c.welcome.new.board) (g.B.Board.sight c.turn.new.board))
     c.welcome.ensures.runner c.turn.ensures.turn)

@@ -1,9 +1,0 @@
-use Rattle.std.proofs.Common.{◌≤◌, length, ap, subst, ◌∙◌}
-use Rattle.golog_agent.specs.Turns.{Course}
-use Rattle.golog_agent.proofs.under_way.Core.len.Goals as goal
-
-pub returns-clause-number : goal.returns-clause-number
-returns-clause-number c = c.len.ensures.number ∙ ap (λ (v : Course). length v.list) c.self.view_is
-
-pub returns-clause-most : goal.returns-clause-most
-returns-clause-most c = subst (λ (v : Course). length v.list ≤ 65553) c.self.view_is c.len.ensures.most
