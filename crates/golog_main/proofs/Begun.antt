@@ -1,40 +1,28 @@
 -- What devices that have begun with the texts of scripts have before them.
-use Rattle.std.proofs.Common.{◌≡◌, ℕ, zero, suc, ◌+◌, ◌<◌, ◌≤◌, List, [], ◌∷◌, length, map, get_or, Option, Some, None, Bool, true, false, refl, sym, ap, ◌∙◌, subst, arith, inl, inr, ◌⊎◌, IsSome, All, IsSomeAnd}
+use Rattle.std.proofs.Common.{◌≡◌, ℕ, zero, suc, ◌+◌, ◌<◌, ◌≤◌, List, [], ◌∷◌, length, map, get_or, Option, Some, None, Bool, true, false, refl, sym, ap, ◌∙◌, subst, arith, inl, inr, ◌⊎◌, IsSome, IsSomeAnd}
 use Rattle.std.specs.Prelude.{◌==◌, IfSome, slice_get, nat_lt, is_some}
-use Rattle.std.specs.List.{list_any, list_all, flat_map, enumerate_from}
+use Rattle.std.specs.List.{flat_map, enumerate_from}
 use Rattle.std.proofs.lemmas.Bool.{eqb-true, lt-ltb}
 use Rattle.std.proofs.lemmas.Bool.Decides.{leb_tells}
 use Rattle.std.proofs.lemmas.List.{length-map}
 use Rattle.golog_tree.specs.declared.agent.Agent.{Agent}
-use Rattle.golog_semantics.specs.declared.journal.Entry.TheVariants.{Do, Test, Exo, Sense, Rest, Close, End}
-use Rattle.golog_semantics.specs.Journal.{Journal, is_close, is_open}
+use Rattle.golog_semantics.specs.Journal.{Journal, is_open}
 use Rattle.golog_semantics.specs.Text.{Text}
 use Rattle.golog_semantics.specs.Dealt.{Script, WasDealtWith}
 use Rattle.golog_semantics.proofs.Tests.{or_cases}
-use Rattle.golog_journal.specs.Leading.{IsBehind, is_of_program}
 use Rattle.golog_device.specs.Devices.{Restarts}
 use Rattle.golog_device.specs.Scripts.{script_spelled}
-use Rattle.golog_device.specs.Slots.{Standing, Both, EachSlot, ChangesIf, FreshBelow, BeginsUnless, BeginsBelow, HaveBegun, refusal}
+use Rattle.golog_device.specs.Slots.{Standing, Both, EachSlot, ChangesIf, BeginsUnless, BeginsBelow, HaveBegun, refusal}
 use Rattle.golog_device.specs.Dealing.{DealtNow, HasLeft}
 use Rattle.golog_device.proofs.DealtFirst.{dealt_at_first}
-use Rattle.golog_device.proofs.Refused.{refusals-close}
-use Rattle.golog_agent.specs.Rounds.{IsDealtWith, TellLeft}
+use Rattle.golog_lead.specs.Rounds.{IsDealtWith, TellLeft}
 use Rattle.golog_threads.specs.Driving.{has_refused}
 use Rattle.golog_threads.proofs.Refusals.{open-unrefused}
-use Rattle.golog_main.specs.Runs.{AreTextsOf, AreDealtWith, AllTellLeft, HaveRun, IsDealt, Serves}
+use Rattle.golog_commands.specs.Runs.{AreTextsOf, AreDealtWith, AllTellLeft, IsDealt}
+use Rattle.golog_main.specs.Runs.{HaveRun, Serves}
+use Rattle.golog_commands.proofs.Begun.{as-many}
 
 -- ---- texts
-
-pub as-many : (texts : List Text) (scripts : List Script) → AreTextsOf texts scripts → length texts ≡ length scripts
-as-many texts scripts are = sym (length-map texts script_spelled) ∙ ap length are ∙ length-map scripts Some
-
-pub all-spelled : (texts : List Text) (scripts : List Script) → AreTextsOf texts scripts → All (λ text. IsSome (script_spelled text)) texts
-all-spelled [] scripts are k d within = absurd (omega (arith, within))
-all-spelled (text ∷ texts) [] are k d within = absurd (cc)
-all-spelled (text ∷ texts) (script ∷ scripts) are zero d within =
-    let e : script_spelled text ≡ Some script = cc in
-    ap is_some e
-all-spelled (text ∷ texts) (script ∷ scripts) are (suc k) d within = all-spelled texts scripts (cc) k d (omega (arith, within))
 
 -- the text of a slot spells its script
 spelled-at : (texts : List Text) (scripts : List Script) → AreTextsOf texts scripts → (slot : ℕ) → slot < length texts
@@ -45,16 +33,6 @@ spelled-at (text ∷ texts) (script ∷ scripts) are zero within = cc
 spelled-at (text ∷ texts) (script ∷ scripts) are (suc slot) within = spelled-at texts scripts (cc) slot (omega (arith, within))
 
 -- ---- refusals
-
-no-program : (journal : Journal) → list_all is_close journal ≡ true → list_any is_of_program journal ≡ false
-no-program [] closes = refl
-no-program (Close p r t ∷ journal) closes = no-program journal closes
-no-program (Do a ∷ journal) closes = absurd (cc)
-no-program (Test ∷ journal) closes = absurd (cc)
-no-program (Exo p a ∷ journal) closes = absurd (cc)
-no-program (Sense p at f v ∷ journal) closes = absurd (cc)
-no-program (Rest p t ∷ journal) closes = absurd (cc)
-no-program (End a ∷ journal) closes = absurd (cc)
 
 -- nothing stands where no device refused
 none-refused : (n : ℕ) (refused : List Bool) → ((slot : ℕ) → slot < length refused → get_or refused slot false ≡ false)
@@ -97,17 +75,7 @@ same-length P [] (y ∷ news) each = absurd (each.at 0)
 same-length P (x ∷ olds) [] each = absurd (each.at 0)
 same-length P (x ∷ olds) (y ∷ news) each = ap suc (same-length (λ slot. P (suc slot)) olds news (record { at = λ slot. each.at (suc slot) }))
 
-pub first-fresh : (count : ℕ) (standings : List Standing) → count ≤ 16 → FreshBelow 16 standings → FreshBelow count standings
-first-fresh count standings few fresh = λ slot within. fresh slot (omega (arith, few, within))
-
 -- ---- where the run begins
-
-pub is-behind : (count : ℕ) (texts : List Text) (journal : Journal) (olds mids : List Standing) → HaveBegun count texts journal olds mids → IsBehind [] journal
-is-behind count texts journal olds mids begun = record {
-  since = journal;
-  front = refl;
-  of_devices = no-program journal (ap (list_all is_close) begun.closed ∙ refusals-close begun.refused);
-}
 
 -- the boxes of the agent's devices are all there still
 pub enough-boxes : {A : Type 0} (stand : A → Standing) (olds mids : List A) (k count : ℕ) (texts : List Text) (journal : Journal)

@@ -1,6 +1,6 @@
 -- Devices that are all fresh, and the script that is found among others.
-use Rattle.std.proofs.Common.{◌≡◌, ℕ, suc, ◌<◌, ◌≤◌, List, [], ◌∷◌, Bool, true, false, length, get_or, Some, ap, ◌∙◌, subst, sym, refl, arith, All, inl, inr, ◌⊎◌}
-use Rattle.std.specs.Prelude.{slice_get, IsSomeAnd, None, find, cond}
+use Rattle.std.proofs.Common.{◌≡◌, ℕ, ◌<◌, ◌≤◌, List, Bool, true, length, get_or, Some, ap, ◌∙◌, sym, arith, All, inl, inr, ◌⊎◌}
+use Rattle.std.specs.Prelude.{slice_get, IsSomeAnd, None}
 use Rattle.std.proofs.lemmas.Option.{slice_get_cases, slice_get-map}
 use Rattle.golog_semantics.specs.Dealt.{Meaning}
 use Rattle.golog_device.specs.Slots.{Standing, FreshBelow, standings}
@@ -21,15 +21,3 @@ fresh-below {A} fresh meaning devices count long all slot within = by (slice_get
         let so : fresh x ≡ true = ap fresh (sym at) ∙ all slot x inside in
         rw (slice_get-map {B = Standing} (λ (d : A). record { fresh = fresh d; meaning = meaning d }) devices slot, is) so
     by (inr (past, is)) = absurd (omega (arith, long, within, past))
-
--- what is found has what all have
-pub found-so : {A : Type 0} (P : A → Type 0) (test : A → Bool) (xs : List A) (x : A) → All P xs → Some x ≡ find test xs → P x
-found-so P test [] x all e = let no : ⊥ = cc in absurd no
-found-so {A} P test (y ∷ xs) x all e = by (test y) refl (found-so P test xs x (λ k d within. all (suc k) d (omega (arith, within))))
-  where
-    by : (b : Bool) → test y ≡ b → (Some x ≡ find test xs → P x) → P x
-    by true t further =
-        let k : Some x ≡ Some y = e ∙ ap (λ c. cond c (Some y) (find test xs)) t in
-        let same : y ≡ x = cc in
-        subst P same (all 0 y (omega arith))
-    by false t further = further (e ∙ ap (λ c. cond c (Some y) (find test xs)) t)

@@ -5,20 +5,20 @@ use Rattle.golog_tree.specs.declared.agent.Agent.{Agent}
 use Rattle.golog_semantics.specs.Execution.{IsOnlineRun, status_of as answer_status}
 use Rattle.golog_semantics.specs.Text.{Text}
 use Rattle.golog_semantics.specs.WellFormed.{WellFormed}
-use Rattle.golog_text.specs.Reads.{journal_of}
+use Rattle.golog_reports.specs.Reads.{journal_of}
 use Rattle.golog_replay.specs.Laws.{OnlineIsAnOnlineRun}
-use Rattle.golog_replay.specs.Verdicts.{VerdictIs}
-use Rattle.golog_replay.specs.declared.verdict.Verdict.{Verdict}
-use Rattle.golog_replay.specs.declared.verdict.Verdict.TheVariants.{Online, Not}
+use Rattle.golog_semantics.specs.Verdicts.{VerdictIs}
+use Rattle.golog_semantics.specs.declared.journal.Verdict.{Verdict}
+use Rattle.golog_semantics.specs.declared.journal.Verdict.TheVariants.{Online, Not}
 use Rattle.golog_words.specs.Commands.{replay}
-use Rattle.golog_main.specs.declared.outcome.Outcome.{Outcome}
-use Rattle.golog_main.specs.declared.outcome.Outcome.TheVariants.{Judged}
-use Rattle.golog_main.specs.declared.ready.Told.{Told}
-use Rattle.golog_main.specs.Exact.{Writes}
-use Rattle.golog_main.specs.Inputs.{Reads, ReadsAgent, SpellsJournal}
-use Rattle.golog_main.specs.Outcome.{unread, refused, holds, Judges, OfJournal, Outside, Reports, outcome_status, outcome_text, verdict_line}
+use Rattle.golog_commands.specs.declared.outcome.Outcome.{Outcome}
+use Rattle.golog_commands.specs.declared.outcome.Outcome.TheVariants.{Judged}
+use Rattle.golog_commands.specs.declared.ready.Told.{Told}
+use Rattle.golog_commands.specs.Exact.{Writes}
+use Rattle.golog_commands.specs.Inputs.{Reads, ReadsAgent, SpellsJournal}
+use Rattle.golog_commands.specs.Outcome.{unread, refused, holds, Judges, OfJournal, Outside, Reports, outcome_status, outcome_text, verdict_line}
 use Rattle.golog_main.specs.Replayed.{OnlineReplaysRun, ReplaysRun}
-use Rattle.golog_main.proofs.Causes.{IsCaused}
+use Rattle.golog_commands.proofs.Causes.{IsCaused}
 
 -- neither a refusal nor a fault has the status 0
 nonzero : {P : Type 0} (n : ℕ) → 0 ≡ n → (n ≡ 0 → ⊥) → P

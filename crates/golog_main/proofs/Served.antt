@@ -10,14 +10,16 @@ use Rattle.golog_semantics.specs.declared.journal.Reason.TheVariants.{Refused}
 use Rattle.golog_semantics.specs.declared.journal.Report.{Report}
 use Rattle.golog_semantics.specs.Journal.{Journal, is_open, longest}
 use Rattle.golog_semantics.specs.Dealt.{Meaning}
-use Rattle.golog_semantics.specs.Online.{is_whole}
+use Rattle.golog_semantics.specs.Online.{is_whole, IsOnlineSoFar}
 use Rattle.golog_semantics.specs.InlineText.{report_of}
 use Rattle.golog_semantics.proofs.Among.{Among, among-contains, among-either, any-among}
+use Rattle.golog_semantics.specs.Inline.{lead}
+use Rattle.golog_semantics.proofs.LaterRuns.{whole_is_online}
+use Rattle.golog_lead.specs.Short.{IsShort}
 use Rattle.golog_journal.specs.Boards.{IsBoardList}
 use Rattle.golog_device.specs.Slots.{Standing, Both, ChangesIf, standings}
-use Rattle.golog_agent.specs.Rounds.{HasServed, RunsToEnd, is_refusal}
-use Rattle.golog_threads.specs.Driving.{HaveServed, RunsOverThreads, has_refused, is_refusal_of}
-use Rattle.golog_threads.specs.Driving.{HasServed as ServedAt}
+use Rattle.golog_lead.specs.Rounds.{HasServed, RunsToEnd, is_refusal}
+use Rattle.golog_threads.specs.Driving.{HaveServed, RunsOverThreads, has_refused, is_refusal_of, HasServed as ServedAt}
 use Rattle.golog_main.specs.Runs.{HaveRun, RunsOn, ServedOn, Serves}
 
 module _ (agent : Agent) (old new : Journal) where
@@ -41,20 +43,20 @@ module _ (agent : Agent) (old new : Journal) where
     slot-serves device true (Some a) (Some b) both = record { served = both; refused = refused-before device }
     slot-serves device false (Some a) (Some b) both = both
 
-  rounds-run : (olds news : List Standing) → RunsToEnd agent old new olds news → HaveRun agent old new olds news
+  rounds-run : (olds news : List Standing) → RunsToEnd (λ j. IsOnlineSoFar agent (report_of agent j)) (lead agent) IsShort agent old new olds news → HaveRun agent old new olds news
   rounds-run olds news ran = record {
     at = λ slot.
         slot-serves ran.since ran.grows ran.unrefused slot (nat_lt slot (length agent.devices)) (slice_get olds slot) (slice_get news slot) (ran.run.at slot);
   }
 
   pub of-rounds : (olds news : List Standing) (report : Report) → report ≡ report_of agent new → IsBoardList agent new → length new ≤ longest
-      → RunsToEnd agent old new olds news → RunsOn agent true old olds news report
+      → RunsToEnd (λ j. IsOnlineSoFar agent (report_of agent j)) (lead agent) IsShort agent old new olds news → RunsOn agent true old olds news report
   of-rounds olds news report is lawful short ran = record {
     journal = new;
     is = is;
     lawful = lawful;
     short = short;
-    online = ran.online;
+    online = (whole_is_online agent (report_of agent new)).whole ran.kept ran.whole;
     run = rounds-run olds news ran;
     scripted = λ rounds. ran.scripted;
   }

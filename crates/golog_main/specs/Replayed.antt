@@ -4,11 +4,11 @@ use Rattle.golog_tree.specs.declared.agent.Agent.{Agent}
 use Rattle.golog_semantics.specs.declared.journal.Answer.{Answer}
 use Rattle.golog_semantics.specs.Execution.{IsOnlineRun, status_of}
 use Rattle.golog_semantics.specs.Text.{Text}
-use Rattle.golog_replay.specs.declared.verdict.Verdict.TheVariants.{Online}
+use Rattle.golog_semantics.specs.declared.journal.Verdict.TheVariants.{Online}
 use Rattle.golog_words.specs.Commands.{replay}
-use Rattle.golog_main.specs.Exact.{Writes}
-use Rattle.golog_main.specs.Inputs.{Reads, ReadsAgent}
-use Rattle.golog_main.specs.Outcome.{CallEnds, Outside, verdict_line}
+use Rattle.golog_commands.specs.Exact.{Writes}
+use Rattle.golog_commands.specs.Inputs.{Reads, ReadsAgent}
+use Rattle.golog_commands.specs.Outcome.{CallEnds, Outside, verdict_line}
 
 -- the agent file spells an agent, the journal file has the text of an online execution of it, and what was written
 -- tells how that ends

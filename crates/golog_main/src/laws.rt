@@ -1,5 +1,5 @@
-ghost use Rattle.golog_main.specs.Exact.{StatusesAreExact};
-ghost use Rattle.golog_main.specs.CutShort.{CutShortBeginsOnline};
+ghost use Rattle.golog_commands.specs.Exact.{StatusesAreExact};
+ghost use Rattle.golog_commands.specs.CutShort.{CutShortBeginsOnline};
 ghost use Rattle.golog_main.specs.Replayed.{OnlineReplaysRun};
 ghost use Rattle.golog_main.specs.Searchless.{FuelIsHeavy, SearchlessEnds};
 

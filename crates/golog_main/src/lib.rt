@@ -6,20 +6,17 @@ mod demos;
 mod devices;
 mod judged;
 mod laws;
-mod outcome;
-mod ready;
 mod run;
 mod top;
 mod words;
-mod writing;
 
 pub use commands::is_threaded;
 pub use devices::script_devices;
+pub use golog_commands::{Input, NO_MEMORY, Outcome};
 pub use golog_journal::DEVICES;
 pub use laws::{
     cut_short_begins_online, each_status_where_its_cause_is, fuel_is_heavy, online_replays_run,
     searchless_runs_end_plainly,
 };
-pub use outcome::{Input, Outcome};
-pub use top::{NO_MEMORY, golog, serve_inline};
+pub use top::{golog, serve_inline};
 pub use words::words_of;

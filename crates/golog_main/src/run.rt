@@ -1,28 +1,23 @@
 // A run of an agent whose devices follow scripts, or are handed in.
-ghost use Rattle.std.specs.Prelude.{◌≡◌, ◌≤◌, true, false, All, IfOk, OnErr, IsSome, Contains, Some, [], length, find};
-ghost use Rattle.std.specs.Option.{option_copied};
-ghost use Rattle.golog_semantics.specs.declared.journal.Entry.TheVariants.{End};
-ghost use Rattle.golog_semantics.specs.Journal.{has_end};
+ghost use Rattle.std.specs.Prelude.{◌≡◌, ◌≤◌, true, false, All, IfOk, OnErr, [], length};
 ghost use Rattle.golog_semantics.specs.WellFormed.{WellFormed};
-ghost use Rattle.golog_semantics.specs.Same.{same_values};
-ghost use Rattle.golog_device.specs.Scripts.{script_spelled};
 ghost use Rattle.golog_device.specs.Slots.{standings, FreshBelow};
 ghost use Rattle.golog_journal.specs.Boards.{IsBoardList};
 ghost use Rattle.golog_journal.specs.Leading.{IsBehind};
-ghost use Rattle.golog_agent.specs.Rounds.{AreReady};
-ghost use Rattle.golog_script.specs.declared.scripts.Script.{Script};
+ghost use Rattle.golog_lead.specs.Rounds.{AreReady};
 ghost use Rattle.golog_script.specs.ScriptTexts.{HasTexts};
-ghost use Rattle.golog_main.specs.Inputs.{empty_script, script_under, scripts_for};
-ghost use Rattle.golog_main.specs.Runs.{AreTextsOf, HasBegun, HasBegunWith, IsReportOf, RunsOn, ServedOn};
-ghost use Rattle.golog_main.specs.Writing.{WritesReport};
+ghost use Rattle.golog_commands.specs.Inputs.{scripts_for};
+ghost use Rattle.golog_commands.specs.Runs.{IsReportOf};
+ghost use Rattle.golog_commands.specs.Writing.{WritesReport};
+ghost use Rattle.golog_main.specs.Runs.{RunsOn, ServedOn};
 
-use crate::writing::run_status;
-use golog_agent::{OnlineLead, Pen, Runner, Scribe, run_inline};
-use golog_base::{Bytes, List, NoMemory, Sink, Word};
-use golog_device::{Device, begin_all};
+use golog_agent::{Pen, RoundLead, Runner, Scribe, run_inline};
+use golog_base::{NoMemory, Sink};
+use golog_commands::{begun_with, ended_len, run_status};
+use golog_device::Device;
 use golog_journal::Journal;
-use golog_script::{Script, script_text};
-use golog_semantics::{Answer, Entry, Report};
+use golog_script::Script;
+use golog_semantics::Report;
 use golog_threads::run_threads;
 use golog_tree::Agent;
 use std::alloc::Global;
@@ -54,7 +49,7 @@ pub fn run_in_rounds<K: Sink, D: Device>(
     match begun_with(alloc, agent, listed, devices) {
         Ok(journal) => Ok(written_in_rounds(agent, pen, journal, out, devices)),
         Err(fault) => {
-            drop(pen);
+            pen.let_go();
             Err(fault)
         }
     }
@@ -84,7 +79,7 @@ pub fn run_on_threads<R: Threads + Wait + Sync, K: Sink, D: Device + Send>(
     match begun_with(alloc, agent, listed, devices) {
         Ok(journal) => written_on_threads(rt, alloc, agent, pen, journal, out, devices),
         Err(fault) => {
-            drop(pen);
+            pen.let_go();
             Err(fault)
         }
     }
@@ -109,99 +104,7 @@ pub fn reported_in_rounds<D: Device>(
     match begun_with(alloc, agent, listed, devices) {
         Ok(journal) => Ok(in_rounds(agent, runner, journal, devices)),
         Err(fault) => {
-            drop(runner);
-            Err(fault)
-        }
-    }
-}
-
-// The journal of a run whose devices have begun, each with its script among these, or else with the empty one.
-fn begun_with<D: Device>(
-    alloc: Global,
-    agent: &Agent,
-    listed: &[Script],
-    devices: &mut [D],
-) -> Result<Journal, NoMemory>
-    requires formed { WellFormed agent.now }
-    requires texts { All HasTexts listed.now }
-    requires boxes { 16 ≤ length devices.old }
-    requires fresh { FreshBelow 16 (standings D.fresh D.meaning devices.old) }
-    ensures { IfOk result (HasBegunWith agent.now (scripts_for agent.now listed.now)
-        (standings D.fresh D.meaning devices.old) (standings D.fresh D.meaning devices.new)) }
-{
-    let texts = texts_for(alloc, agent, listed)?;
-    let journal = begun(alloc, agent, &texts, devices);
-    drop(texts);
-    journal
-}
-
-// The texts of the scripts of the agent's devices.
-fn texts_for(alloc: Global, agent: &Agent, listed: &[Script]) -> Result<List<Bytes>, NoMemory>
-    requires { All HasTexts listed.now }
-    ensures { IfOk result (λ texts. AreTextsOf texts (scripts_for agent.now listed.now)) }
-{
-    let mut texts = List::new(alloc);
-    for name in agent.devices.as_slice() {
-        let text = text_under(alloc, listed, *name)?;
-        texts.push(text)?;
-    }
-    Ok(texts)
-}
-
-// The text of the script under this name, of the empty one where there is none.
-fn text_under(alloc: Global, listed: &[Script], name: Word) -> Result<Bytes, NoMemory>
-    requires { All HasTexts listed.now }
-    ensures { IfOk result (λ text. script_spelled text ≡ Some (script_under listed.now name)) }
-{
-    match found_under(listed, name) {
-        Some(script) => script_text(alloc, script),
-        None => empty_text(alloc, name),
-    }
-}
-
-// The script under this name.
-fn found_under(listed: &[Script], name: Word) -> Option<&Script>
-    ensures { option_copied result ≡ find (λ (s : Script). same_values name s.name) listed.now }
-{
-    listed
-        .iter()
-        .find(|script| name.as_bytes() == script.name.as_bytes())
-}
-
-// The text of the empty script.
-fn empty_text(alloc: Global, name: Word) -> Result<Bytes, NoMemory>
-    ensures { IfOk result (λ text. script_spelled text ≡ Some empty_script) }
-{
-    let script = Script {
-        name,
-        answers: List::new(alloc),
-        idle: List::new(alloc),
-    };
-    let text = script_text(alloc, &script);
-    drop(script);
-    text
-}
-
-// The journal of a run whose devices have begun.
-fn begun<D: Device>(
-    alloc: Global,
-    agent: &Agent,
-    texts: &List<Bytes>,
-    devices: &mut [D],
-) -> Result<Journal, NoMemory>
-    requires formed { WellFormed agent.now }
-    requires boxes { 16 ≤ length devices.old }
-    requires fresh { FreshBelow 16 (standings D.fresh D.meaning devices.old) }
-    requires one_each { length texts.now ≡ length agent.now.devices }
-    requires spelled { All (λ text. IsSome (script_spelled text)) texts.now }
-    ensures { IfOk result (HasBegun agent.now texts.now
-        (standings D.fresh D.meaning devices.old) (standings D.fresh D.meaning devices.new)) }
-{
-    let mut journal = Journal::new(alloc, agent)?;
-    match begin_all(alloc, devices, agent, texts, &mut journal) {
-        Ok(()) => Ok(journal),
-        Err(fault) => {
-            drop(journal);
+            runner.let_go();
             Err(fault)
         }
     }
@@ -225,8 +128,7 @@ fn in_rounds<D: Device>(
 {
     run_inline(&mut runner, devices, agent, &mut journal);
     // Says to the proof that the journal is short enough for a report.
-    let _length = journal.len();
-    drop(journal);
+    let _length = ended_len(journal);
     runner.report()
 }
 
@@ -252,8 +154,7 @@ fn written_in_rounds<K: Sink, D: Device>(
     let mut scribe = Scribe::new(pen, out);
     run_inline(&mut scribe, devices, agent, &mut journal);
     // Says to the proof that the journal is short enough for a report.
-    let _length = journal.len();
-    drop(journal);
+    let _length = ended_len(journal);
     let status = run_status(scribe.faulted(), scribe.answer());
     let _out = scribe.into_sink();
     status
@@ -320,17 +221,4 @@ fn served_on_threads<R: Threads + Wait + Sync, K: Sink, D: Device + Send>(
             Err(fault)
         }
     }
-}
-
-/// The answer in a report of a program that has ended.
-pub fn answer_in(report: &Report) -> Answer
-    requires { has_end report.now.entries ≡ true }
-    ensures { Contains report.now.entries (End result) }
-{
-    for entry in report.entries.as_slice() {
-        if let Entry::End { answer } = entry {
-            return *answer;
-        }
-    }
-    unreachable!()
 }

@@ -3,22 +3,18 @@ ghost use Rattle.std.specs.Prelude.{◌≡◌, ◌≤◌, map, string_bytes, fal
 ghost use Rattle.golog_device.specs.Slots.{standings, FreshBelow};
 ghost use Rattle.golog_words.specs.Answers.{command_of};
 ghost use Rattle.golog_words.specs.Commands.{command_in};
-ghost use Rattle.golog_main.specs.CutShort.{LinesBegin};
-ghost use Rattle.golog_main.specs.InWorlds.{RunsAreSo};
-ghost use Rattle.golog_main.specs.Outcome.{CallEnds, IsReported, is_threaded, outside};
+ghost use Rattle.golog_commands.specs.CutShort.{LinesBegin};
+ghost use Rattle.golog_commands.specs.InWorlds.{RunsAreSo};
+ghost use Rattle.golog_commands.specs.Outcome.{CallEnds, IsReported, is_threaded, outside};
 
 use crate::commands::{over_threads, served};
-use crate::outcome::Outcome;
-use crate::writing::report;
 use golog_base::{Files, NoMemory, Sink};
+use golog_commands::{Outcome, call_status, report};
 use golog_device::Device;
 use golog_words::{Order, WordsFault, order_of};
 use std::alloc::Global;
 use std::sync::Wait;
 use std::thread::Threads;
-
-/// The exit status where memory ran out.
-pub const NO_MEMORY: u8 = 6;
 
 /// Does what the words say over these files and devices, writes what comes of it to `out`, and answers the
 /// exit status. The devices of the agent are the first of those given, in the order of its file; the others
@@ -46,7 +42,7 @@ pub const NO_MEMORY: u8 = 6;
 /// - 4, `read fault INPUT`: the file is not there, or a call of `files` failed. INPUT is `agent`, `devices` or
 ///   `journal`.
 /// - 3, `refused INPUT CODE at PLACE`: the input spells nothing of its kind; the code and the place are those of
-///   its first refusal, as of `golog_file::read_agent`, `golog_script::scripts_of`, `golog_text::read_journal` and
+///   its first refusal, as of `golog_file::read_agent`, `golog_script::scripts_of`, `golog_reports::read_journal` and
 ///   `golog_file::read_condition`, or 5 at its limit where it has more bytes. INPUT may be `condition` too.
 /// - 0, the text of `check`, `ask` or `demo`; or of `replay`, `online ANSWER`, where the journal is online.
 /// - 17, the text of `replay`, `not online PLACE RULE`, where it is not.
@@ -86,10 +82,7 @@ pub fn golog<R: Threads + Wait + Sync, F: Files, K: Sink, D: Device + Send>(
         (outside F.held F.faults K.taken K.faults D.fresh D.meaning files.old out.old devices.old)
         (outside F.held F.faults K.taken K.faults D.fresh D.meaning files.new out.new devices.new) }
 {
-    match answered(rt, alloc, words, files, out, devices) {
-        Ok(status) => status,
-        Err(NoMemory) => NO_MEMORY,
-    }
+    call_status(answered(rt, alloc, words, files, out, devices))
 }
 
 /// The same without a runtime, for an order that is no run over threads.
@@ -113,10 +106,7 @@ pub fn serve_inline<F: Files, K: Sink, D: Device>(
         (outside F.held F.faults K.taken K.faults D.fresh D.meaning files.old out.old devices.old)
         (outside F.held F.faults K.taken K.faults D.fresh D.meaning files.new out.new devices.new) }
 {
-    match served(alloc, order, files, out, devices) {
-        Ok(status) => status,
-        Err(NoMemory) => NO_MEMORY,
-    }
+    call_status(served(alloc, order, files, out, devices))
 }
 
 // Does what the words say, and answers the exit status.

@@ -1,7 +1,7 @@
 use Rattle.std.proofs.Common.{true, refl}
 use Rattle.std.specs.Prelude.{option_map}
-use Rattle.golog_main.specs.Outcome.{outside}
-use Rattle.golog_main.proofs.Reporting.{runs-reported, unready-nothing, unready-reported}
+use Rattle.golog_commands.specs.Outcome.{outside}
+use Rattle.golog_commands.proofs.Reporting.{runs-reported, unready-nothing, unready-reported}
 use Rattle.golog_main.proofs.commands.over_rounds.Goals as goal
 
 pub run_in_rounds-status-requires-clause-texts : goal.run_in_rounds-status-requires-clause-texts

@@ -1,7 +1,7 @@
 use Rattle.std.proofs.Common.{false, refl}
 use Rattle.std.specs.Prelude.{option_map}
-use Rattle.golog_main.specs.Outcome.{outside}
-use Rattle.golog_main.proofs.Reporting.{runs-reported, unready-nothing, unready-reported}
+use Rattle.golog_commands.specs.Outcome.{outside}
+use Rattle.golog_commands.proofs.Reporting.{runs-reported, unready-nothing, unready-reported}
 use Rattle.golog_main.proofs.commands.over_threads.Goals as goal
 
 pub run_on_threads-status-requires-clause-formed : goal.run_on_threads-status-requires-clause-formed

@@ -1,7 +1,7 @@
 use Rattle.std.proofs.Common.{Some, refl}
 use Rattle.golog_words.specs.Commands.{check, replay, ask}
-use Rattle.golog_main.specs.Outcome.{outside}
-use Rattle.golog_main.proofs.Reporting.{demo-reported, outcome-nothing, plain-reported}
+use Rattle.golog_commands.specs.Outcome.{outside}
+use Rattle.golog_commands.proofs.Reporting.{demo-reported, outcome-nothing, plain-reported}
 use Rattle.golog_main.proofs.commands.served.Goals as goal
 
 pub returns-in-Check-clause-reported : goal.returns-in-Check-clause-reported

@@ -1,9 +1,9 @@
 use Rattle.golog_tree.specs.declared.agent.Agent.{Agent}
 use Rattle.golog_file.specs.Spelled.{SpellsAgent, IsFirstRefusal}
-use Rattle.golog_main.specs.declared.outcome.Outcome.{Outcome}
-use Rattle.golog_main.specs.declared.outcome.Input.TheVariants.{Agent as AgentFile}
-use Rattle.golog_main.specs.Outcome.{Judges, OfJournal}
-use Rattle.golog_main.proofs.OutcomeLemmas.{agent-comes, file-ends, journal-since}
+use Rattle.golog_commands.specs.declared.outcome.Outcome.{Outcome}
+use Rattle.golog_commands.specs.declared.outcome.Input.TheVariants.{Agent as AgentFile}
+use Rattle.golog_commands.specs.Outcome.{Judges, OfJournal}
+use Rattle.golog_commands.proofs.OutcomeLemmas.{agent-comes, file-ends, journal-since}
 use Rattle.golog_main.proofs.judged.replayed.Goals as goal
 
 pub returns-in-Ok : goal.returns-in-Ok

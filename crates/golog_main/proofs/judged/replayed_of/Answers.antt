@@ -1,7 +1,7 @@
-use Rattle.golog_main.specs.declared.outcome.Input.TheVariants.{Journal as JournalFile}
-use Rattle.golog_main.specs.Inputs.{RefusesJournal, SpellsJournal}
-use Rattle.golog_main.specs.Outcome.{Judges}
-use Rattle.golog_main.proofs.OutcomeLemmas.{file-ends, told-comes}
+use Rattle.golog_commands.specs.declared.outcome.Input.TheVariants.{Journal as JournalFile}
+use Rattle.golog_commands.specs.Inputs.{RefusesJournal, SpellsJournal}
+use Rattle.golog_commands.specs.Outcome.{Judges}
+use Rattle.golog_commands.proofs.OutcomeLemmas.{file-ends, told-comes}
 use Rattle.golog_main.proofs.judged.replayed_of.Goals as goal
 
 pub returns-in-Ok : goal.returns-in-Ok

@@ -1,4 +1,4 @@
-use Rattle.golog_main.proofs.CutShort.{cut_short}
+use Rattle.golog_commands.proofs.CutShort.{cut_short}
 use Rattle.golog_main.proofs.laws.cut_short_begins_online.Goals as goal
 
 pub returns : goal.returns

@@ -1,4 +1,4 @@
-use Rattle.golog_main.proofs.ExactLemmas.{exact}
+use Rattle.golog_commands.proofs.ExactLemmas.{exact}
 use Rattle.golog_main.proofs.laws.each_status_where_its_cause_is.Goals as goal
 
 pub returns : goal.returns

@@ -1,8 +1,9 @@
 use Rattle.std.proofs.Common.{◌≤◌, false, length}
 use Rattle.std.proofs.lemmas.List.{length-map}
 use Rattle.golog_device.specs.Slots.{standings}
-use Rattle.golog_main.specs.Inputs.{script_under, scripts_for}
-use Rattle.golog_main.specs.Runs.{IsReportOf, RunsOn}
+use Rattle.golog_commands.specs.Inputs.{script_under, scripts_for}
+use Rattle.golog_commands.specs.Runs.{IsReportOf}
+use Rattle.golog_main.specs.Runs.{RunsOn}
 use Rattle.golog_main.proofs.Begun.{enough-boxes}
 use Rattle.golog_main.proofs.Reported.{reports-run}
 use Rattle.golog_main.proofs.Reporting.{writes-more}

@@ -3,7 +3,7 @@ use Rattle.golog_semantics.specs.InlineText.{report_of}
 use Rattle.golog_semantics.specs.Online.{IsOnline, IsOnlineSoFar}
 use Rattle.golog_semantics.proofs.LaterRuns.{whole_is_online}
 use Rattle.golog_journal.specs.Leading.{Mind, Outlet}
-use Rattle.golog_agent.specs.Turns.{Course}
+use Rattle.golog_lead.specs.Courses.{Course}
 use Rattle.golog_main.specs.Runs.{ServedOn}
 use Rattle.golog_main.proofs.Served.{threads-whole}
 use Rattle.golog_main.proofs.Reporting.{has-answer, nothing-written, same-outlet, scribe-writes, written-of}
@@ -20,7 +20,7 @@ returns-in-Ok-clause-written g c =
     let list = c.run_threads.new.lead.driver.core.list in
     let same = c.run_threads.ensures.same.same_agent ∙ ap (λ (p : Course). p.agent) (c.new-scribe.ensures.core ∙ c.requires.pen) in
     let whole = threads-whole agent g.D.Device.fresh meaning before list c.args.devices.now c.run_threads.new.devices c.requires.boxes c.in-Ok.ensures.ran in
-    let so_far : IsOnlineSoFar agent (report_of agent list) = subst (λ a. IsOnlineSoFar a (report_of a list)) same c.keeps_rules.ensures.under_way.online in
+    let so_far : IsOnlineSoFar agent (report_of agent list) = subst (λ a. IsOnlineSoFar a (report_of a list)) same c.keeps_rules.ensures.keeps in
     let online : IsOnline agent (report_of agent list) = (whole_is_online agent (report_of agent list)).whole so_far whole in
     let last = c.run_threads.new.lead in
     let taken = g.K.Sink.taken in

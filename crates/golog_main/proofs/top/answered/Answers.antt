@@ -1,6 +1,6 @@
 use Rattle.std.proofs.Common.{refl}
-use Rattle.golog_main.specs.Outcome.{outside}
-use Rattle.golog_main.proofs.Reporting.{words-reported}
+use Rattle.golog_commands.specs.Outcome.{outside}
+use Rattle.golog_commands.proofs.Reporting.{words-reported}
 use Rattle.golog_main.proofs.top.answered.Goals as goal
 
 pub returns-in-Err-Refused-clause-reported : goal.returns-in-Err-Refused-clause-reported

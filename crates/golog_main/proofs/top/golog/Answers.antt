@@ -1,24 +1,15 @@
-use Rattle.std.proofs.Common.{inl, inr, refl}
-use Rattle.golog_main.proofs.CutShort.{lines-begin}
-use Rattle.golog_main.proofs.InWorlds.{runs-so}
+use Rattle.golog_commands.proofs.CutShort.{lines-begin}
+use Rattle.golog_commands.proofs.InWorlds.{runs-so}
+use Rattle.golog_commands.proofs.Reporting.{call-ends}
 use Rattle.golog_main.proofs.top.golog.Goals as goal
 
-pub returns-in-Ok-clause-ends : goal.returns-in-Ok-clause-ends
-returns-in-Ok-clause-ends g c = inl c.in-Ok.ensures.reported
+pub returns-clause-ends : goal.returns-clause-ends
+returns-clause-ends g c =
+    call-ends _ _ _ c.answered.result c.call_status.result c.answered.ensures.reported c.answered.ensures.command c.answered.ensures.nothing c.call_status.ensures.status
+    c.call_status.ensures.memory
 
-pub returns-in-Ok-clause-so : goal.returns-in-Ok-clause-so
-returns-in-Ok-clause-so g c = runs-so _ _ _ _ (inl c.in-Ok.ensures.reported)
+pub returns-clause-so : goal.returns-clause-so
+returns-clause-so g c = runs-so _ _ _ _ (returns-clause-ends g c)
 
-pub returns-in-Ok-clause-lines : goal.returns-in-Ok-clause-lines
-returns-in-Ok-clause-lines g c = lines-begin _ _ _ _ (inl c.in-Ok.ensures.reported)
-
-pub returns-in-Err-clause-ends : goal.returns-in-Err-clause-ends
-returns-in-Err-clause-ends g c = inr (record { answered = refl; command = c.in-Err.ensures.command; nothing = c.in-Err.ensures.nothing })
-
-pub returns-in-Err-clause-so : goal.returns-in-Err-clause-so
-returns-in-Err-clause-so g c =
-    runs-so _ _ _ _ (inr (record { answered = refl; command = c.in-Err.ensures.command; nothing = c.in-Err.ensures.nothing }))
-
-pub returns-in-Err-clause-lines : goal.returns-in-Err-clause-lines
-returns-in-Err-clause-lines g c =
-    lines-begin 6 _ _ _ (inr (record { answered = refl; command = c.in-Err.ensures.command; nothing = c.in-Err.ensures.nothing }))
+pub returns-clause-lines : goal.returns-clause-lines
+returns-clause-lines g c = lines-begin _ _ _ _ (returns-clause-ends g c)

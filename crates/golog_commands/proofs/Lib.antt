@@ -1,0 +1,12 @@
+pub mod Causes
+pub mod InputLemmas
+pub mod OutcomeLemmas
+pub mod OneVerdict
+pub mod ExactLemmas
+pub mod InWorlds
+pub mod CutShort
+pub mod Begun
+pub mod Inlined
+pub mod Reported
+pub mod Reporting
+pub mod DemoLemmas

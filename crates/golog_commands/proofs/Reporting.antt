@@ -1,0 +1,123 @@
+-- From what the parts of a call write of what they come to, to how the call ends.
+use Rattle.std.proofs.Common.{◌≡◌, ℕ, Bool, true, false, List, Result, Ok, Err, IfOk, Option, Some, None, IsSome, inl, inr, refl, sym, ap, ◌∙◌, subst}
+use Rattle.std.specs.Prelude.{OnErr}
+use Rattle.golog_semantics.specs.Text.{Text, report_text}
+use Rattle.golog_device.specs.Slots.{Standing}
+use Rattle.golog_words.specs.Commands.{CommandLine, run, demo}
+use Rattle.golog_commands.specs.declared.outcome.Outcome.{Outcome}
+use Rattle.golog_commands.specs.declared.outcome.Outcome.TheVariants.{WordsRefused, Ran}
+use Rattle.golog_commands.specs.declared.ready.Ready.{Ready}
+use Rattle.golog_commands.specs.declared.ready.Unready.{Unready}
+use Rattle.golog_commands.specs.declared.ready.Unready.TheVariants.{Ended, Memory}
+use Rattle.golog_commands.specs.Demos.{Demonstrates}
+use Rattle.golog_commands.specs.Inputs.{scripts_for}
+use Rattle.golog_commands.specs.Outcome.{CallEnds, HoldsRun, IfEnded, IsUntouched, Never, OfAgent, OfScripts, Outside, IsReported, Reports, outcome_status, outcome_text, uses_devices}
+use Rattle.golog_commands.proofs.Causes.{IsCaused}
+use Rattle.golog_commands.specs.Runs.{IsReportOf}
+use Rattle.golog_commands.specs.Writing.{IfReported, ReportsUnready, WritesReport}
+use Rattle.golog_commands.proofs.OutcomeLemmas.{never-comes, run-comes}
+use Rattle.golog_commands.proofs.Reported.{run-of}
+
+-- devices that had no part
+untouched : {E : Type 0} (olds news : List Standing) (r : Result Outcome E) → news ≡ olds → IfOk r (IsUntouched olds news)
+untouched olds news (Ok outcome) same = λ none. same
+untouched olds news (Err e) same = tt
+
+-- a demo has the devices take part
+demo-untouched : {E : Type 0} (size : ℕ) (olds news : List Standing) (r : Result Outcome E) → IfOk r (Demonstrates size olds news) → IfOk r (IsUntouched olds news)
+demo-untouched size olds news (Ok outcome) made = λ none. let no : true ≡ false = sym (ap uses_devices made.is) ∙ none in absurd (cc)
+demo-untouched size olds news (Err e) made = made
+
+pub outcome-nothing : {E F : Type 0} (r : Result Outcome E) (s : Result ℕ F) (old new : Option Text) (before after : ℕ) → IfReported r s old new before after → OnErr s (new ≡ old)
+outcome-nothing (Ok outcome) (Ok status) old new before after reports = tt
+outcome-nothing (Ok outcome) (Err f) old new before after reports = absurd reports
+outcome-nothing (Err e) (Ok status) old new before after reports = absurd reports
+outcome-nothing (Err e) (Err f) old new before after reports = reports
+
+pub unready-nothing : {F : Type 0} (fault : Unready) (s : Result ℕ F) (old new : Option Text) (before after : ℕ) → ReportsUnready fault s old new before after → OnErr s (new ≡ old)
+unready-nothing (Ended outcome) (Ok status) old new before after reports = tt
+unready-nothing (Ended outcome) (Err f) old new before after reports = absurd reports
+unready-nothing Memory (Ok status) old new before after reports = absurd reports
+unready-nothing Memory (Err f) old new before after reports = reports
+
+module _ (before after : Outside) where
+  -- what a command comes to
+  outcome-reported : {E F : Type 0} (spelled : Option CommandLine) (r : Result Outcome E) (s : Result ℕ F) → IfOk r (IsCaused spelled before after)
+      → IfOk r (IsUntouched before.devices after.devices) → IfReported r s before.taken after.taken before.sink_faults after.sink_faults
+      → IfOk s (λ status. IsReported status spelled before after)
+  outcome-reported spelled (Ok outcome) (Ok status) cause still reports = record { outcome = outcome; cause = cause; untouched = still; report = reports }
+  outcome-reported spelled (Ok outcome) (Err f) cause still reports = absurd reports
+  outcome-reported spelled (Err e) (Ok status) cause still reports = absurd reports
+  outcome-reported spelled (Err e) (Err f) cause still reports = tt
+
+  -- of one in which the devices have no part
+  pub plain-reported : {E F : Type 0} (spelled : Option CommandLine) (r : Result Outcome E) (s : Result ℕ F) → after.devices ≡ before.devices → IfOk r (IsCaused spelled before after)
+      → IfReported r s before.taken after.taken before.sink_faults after.sink_faults → IfOk s (λ status. IsReported status spelled before after)
+  plain-reported spelled r s same cause reports = outcome-reported spelled r s cause (untouched before.devices after.devices r same) reports
+
+  -- and of a demo
+  pub demo-reported : {E F : Type 0} (size : ℕ) (r : Result Outcome E) (s : Result ℕ F) → IfOk r (Demonstrates size before.devices after.devices)
+      → IfReported r s before.taken after.taken before.sink_faults after.sink_faults → IfOk s (λ status. IsReported status (Some (demo size)) before after)
+  demo-reported size r s made reports =
+      outcome-reported (Some (demo size)) r s made (demo-untouched size before.devices after.devices r made) reports
+
+  -- words that are no command
+  pub words-reported : (spelled : Option CommandLine) (status : ℕ) → spelled ≡ None → after.devices ≡ before.devices
+      → Reports status (outcome_text WordsRefused) (outcome_status WordsRefused) before.taken after.taken before.sink_faults after.sink_faults
+      → IsReported status spelled before after
+  words-reported None status none same reports = record { outcome = WordsRefused; cause = refl; untouched = λ no. same; report = reports }
+  words-reported (Some command) status none same reports = let no : ⊥ = cc in absurd no
+
+  -- ---- a run
+
+  module _ (name : Text) (named : Option Text) (inline : Bool) where
+    -- why its files hold none
+    pub unready-reported : {F : Type 0} (fault : Unready) (s : Result ℕ F)
+        → IfEnded fault (OfAgent before.held before.file_faults after.file_faults name (λ a. OfScripts before.held before.file_faults after.file_faults a named Never))
+        → after.devices ≡ before.devices → ReportsUnready fault s before.taken after.taken before.sink_faults after.sink_faults
+        → IfOk s (λ status. IsReported status (Some (run name named inline)) before after)
+    unready-reported (Ended outcome) (Ok status) ended same reports = record {
+      outcome = outcome;
+      cause = never-comes before.held before.file_faults after.file_faults before.devices after.devices name named inline outcome ended;
+      untouched = λ none. same;
+      report = reports;
+    }
+    unready-reported (Ended outcome) (Err f) ended same reports = absurd reports
+    unready-reported Memory (Ok status) ended same reports = absurd reports
+    unready-reported Memory (Err f) ended same reports = tt
+
+    module _ (ready : Ready) (has : HoldsRun before.held name named ready) where
+      abbrev Reports-it : ℕ → Type 0
+      Reports-it =
+          WritesReport (IsReportOf ready.agent (scripts_for ready.agent ready.scripts) inline before.devices after.devices) ready.agent
+          before.taken after.taken before.sink_faults after.sink_faults
+
+      run-reported : (status : ℕ) → Reports-it status → IsReported status (Some (run name named inline)) before after
+      run-reported status writes =
+          let text = report_text ready.agent writes.report in
+          let ran = run-of ready.agent (scripts_for ready.agent ready.scripts) inline before.devices after.devices writes.report text writes.answer has.formed writes.so refl writes.ended in
+          record {
+            outcome = Ran text writes.answer;
+            cause =
+                run-comes before.held before.file_faults after.file_faults before.devices after.devices name named inline ready has (Ran text writes.answer) ran;
+            untouched = λ none. let no : true ≡ false = none in absurd (cc);
+            report = writes.written;
+          }
+
+      -- the run of what they hold
+      pub runs-reported : {E : Type 0} (r : Result ℕ E) → IfOk r Reports-it → IfOk r (λ status. IsReported status (Some (run name named inline)) before after)
+      runs-reported (Ok status) writes = run-reported status writes
+      runs-reported (Err e) writes = tt
+
+-- ---- a call
+
+-- what is so is so where there is nothing
+pub on-err : {A E : Type 0} (r : Result A E) (P : Type 0) → P → OnErr r P
+on-err (Ok a) P so = tt
+on-err (Err e) P so = so
+
+-- what a call comes to that has answered, or lacked memory
+pub call-ends : {E : Type 0} (spelled : Option CommandLine) (before after : Outside) (r : Result ℕ E) (status : ℕ) → IfOk r (λ answer. IsReported answer spelled before after)
+    → OnErr r (IsSome spelled) → OnErr r (after.taken ≡ before.taken) → IfOk r (λ answer. status ≡ answer) → OnErr r (status ≡ 6) → CallEnds status spelled before after
+call-ends spelled before after (Ok answer) status reported command nothing is six = inl (subst (λ s. IsReported s spelled before after) (sym is) reported)
+call-ends spelled before after (Err e) status reported command nothing is six = inr (record { answered = six; command = command; nothing = nothing })

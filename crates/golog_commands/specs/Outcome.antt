@@ -1,0 +1,251 @@
+-- What a call of the program comes to: each outcome with its cause, its text and its status.
+use Rattle.std.specs.Prelude.{◌≡◌, ◌⊎◌, ℕ, ◌<◌, Bool, true, false, not, List, [], ◌++◌, All, Option, None, Some, IsSome, codes, decimal, length}
+use Rattle.golog_base.specs.Faults.{Rose}
+use Rattle.golog_base.specs.Known.{and_then_bytes, AddsPrefix}
+use Rattle.golog_base.specs.declared.mem_files.HeldFile.{HeldFile}
+use Rattle.golog_tree.specs.declared.agent.Agent.{Agent}
+use Rattle.golog_tree.specs.declared.cond.Cond.{Cond}
+use Rattle.golog_tree.specs.declared.cond.Truth.{Truth}
+use Rattle.golog_tree.specs.declared.cond.Truth.TheVariants.{Yes, No, Unknown}
+use Rattle.golog_tree.specs.declared.draft.DraftTheory.{DraftTheory}
+use Rattle.golog_semantics.specs.Text.{Text, answer_text}
+use Rattle.golog_semantics.specs.Verdicts.{why_text, VerdictIs}
+use Rattle.golog_semantics.specs.Execution.{status_of as answer_status}
+use Rattle.golog_semantics.specs.Progress.{values_after}
+use Rattle.golog_semantics.specs.Truth.{env_of, truth_of}
+use Rattle.golog_semantics.specs.WellFormed.{WellFormed}
+use Rattle.golog_semantics.specs.Dealt.{Meaning}
+use Rattle.golog_device.specs.Slots.{Standing, standings}
+use Rattle.golog_script.specs.declared.scripts.Script.{Script}
+use Rattle.golog_script.specs.ScriptTexts.{HasTexts}
+use Rattle.golog_file.specs.Spelled.{SpellsAgent, IsFirstRefusal}
+use Rattle.golog_file.specs.Conditions.{SpellsCond, RefusesCond}
+use Rattle.golog_file.specs.declared.reading.Understood.{Understood}
+use Rattle.golog_check_text.specs.Counts.{check_text}
+use Rattle.golog_semantics.specs.declared.journal.Verdict.{Verdict}
+use Rattle.golog_semantics.specs.declared.journal.Verdict.TheVariants.{Online, Not}
+use Rattle.golog_words.specs.Commands.{CommandLine, run, check, replay, ask, demo}
+use Rattle.golog_commands.specs.declared.outcome.Input.{Input}
+use Rattle.golog_commands.specs.declared.outcome.Input.TheVariants.{Agent as AgentFile, Devices as DevicesFile, Journal as JournalFile, Condition}
+use Rattle.golog_commands.specs.declared.outcome.Outcome.{Outcome}
+use Rattle.golog_commands.specs.declared.outcome.Outcome.TheVariants.{WordsRefused, ReadFault, Refused, Ran, Checked, Judged, Asked, Demonstrated}
+use Rattle.golog_commands.specs.declared.ready.Ready.{Ready}
+use Rattle.golog_commands.specs.declared.ready.Told.{Told}
+use Rattle.golog_commands.specs.declared.ready.Unready.{Unready}
+use Rattle.golog_commands.specs.declared.ready.Unready.TheVariants.{Ended, Memory}
+use Rattle.golog_commands.specs.Inputs.{line, fault_text, input_limit, scripts_for, SpellsScripts, RefusesScripts, SpellsJournal, RefusesJournal, SpellsBoth, ReadsAgent, ReadsScripts, Reads, Tells, IsUnread}
+use Rattle.golog_commands.specs.Demos.{Demonstrates}
+use Rattle.golog_commands.specs.Runs.{IsRunOf}
+
+-- ---- what is written, and the status
+
+-- the line that tells a truth
+abbrev pub truth_line : Truth → Text
+truth_line Yes = line (codes "true")
+truth_line No = line (codes "false")
+truth_line Unknown = line (codes "unknown")
+
+-- the line that tells what a replay finds
+abbrev pub verdict_line : Verdict → Text
+verdict_line (Online answer) = line (codes "online " ++ answer_text answer)
+verdict_line (Not place why) = line (codes "not online " ++ decimal place ++ codes " " ++ why_text why)
+
+-- the status that tells it
+abbrev pub verdict_status : Verdict → ℕ
+verdict_status (Online answer) = 0
+verdict_status (Not place why) = 17
+
+abbrev pub outcome_text : Outcome → Text
+outcome_text WordsRefused = line (codes "words refused")
+outcome_text (ReadFault input) = fault_text input
+outcome_text (Refused input text) = text
+outcome_text (Ran text answer) = text
+outcome_text (Checked text) = text
+outcome_text (Judged verdict text) = text
+outcome_text (Asked truth) = truth_line truth
+outcome_text (Demonstrated text) = text
+
+abbrev pub outcome_status : Outcome → ℕ
+outcome_status WordsRefused = 2
+outcome_status (ReadFault input) = 4
+outcome_status (Refused input text) = 3
+outcome_status (Ran text answer) = answer_status answer
+outcome_status (Checked text) = 0
+outcome_status (Judged verdict text) = verdict_status verdict
+outcome_status (Asked truth) = 0
+outcome_status (Demonstrated text) = 0
+
+-- ---- the causes
+
+-- What comes of an input: it can't be read, it is refused, or it holds a value, and the outcome is of that.
+pub data ComesOf {A : Type 0} (input : Input) (Unread : Type 0) (Refuses : Text → Type 0) (Holds : A → Type 0)
+    (Next : A → Outcome → Type 0) (outcome : Outcome) : Type 0 where
+  unread : outcome ≡ ReadFault input → Unread → ComesOf input Unread Refuses Holds Next outcome
+  refused : (text : Text) → outcome ≡ Refused input text → Refuses text
+      → ComesOf input Unread Refuses Holds Next outcome
+  holds : (x : A) → Holds x → Next x outcome → ComesOf input Unread Refuses Holds Next outcome
+
+-- what a run of the agent with these scripts comes to: its text is that of an online execution
+abbrev pub RunOf : Agent → List Script → Bool → List Standing → List Standing → Outcome → Type 0
+RunOf agent listed inline olds news (Ran text answer) =
+    IsRunOf agent (scripts_for agent listed) inline olds news text (answer_status answer)
+RunOf agent listed inline olds news outcome = ⊥
+
+-- what a replay of a journal that was read finds, and its line
+pub record Judges (agent : Agent) (told : Told) (outcome : Outcome) : Type 0 where
+  pub formed : WellFormed agent
+  pub verdict : Verdict
+  pub so : VerdictIs agent told.bytes told.report verdict
+  pub is : outcome ≡ Judged verdict (verdict_line verdict)
+
+-- the truth of a condition after the entries of a journal
+abbrev pub TruthOf : Agent → Told → Cond → Outcome → Type 0
+TruthOf agent told cond outcome =
+    outcome ≡ Asked (truth_of agent (values_after agent told.report.entries) cond (env_of []))
+
+-- What is held under names, and how often a call of the files had failed before and after the call.
+module _ (held : Option (List HeldFile)) (faults_before faults_after : ℕ) where
+  -- what comes of a file: no such file is held or a call failed, its bytes are refused, or they spell a value
+  abbrev pub OfFile : {A : Type 0} → Input → Text → (Text → ℕ → ℕ → Type 0) → (Text → A → Type 0)
+      → (A → Outcome → Type 0) → Outcome → Type 0
+  OfFile input name Refuses Spells =
+      ComesOf input (IsUnread held name faults_before faults_after)
+      (λ text. Reads held name (λ bytes. Tells input (Refuses bytes) text))
+      (λ x. Reads held name (λ bytes. Spells bytes x))
+
+  -- what comes of the agent file
+  abbrev pub OfAgent : Text → (Agent → Outcome → Type 0) → Outcome → Type 0
+  OfAgent name = OfFile AgentFile name IsFirstRefusal SpellsAgent
+
+  -- the same, with its theory, over which conditions are read
+  abbrev pub OfBoth : Text → (Understood → Outcome → Type 0) → Outcome → Type 0
+  OfBoth name = OfFile AgentFile name IsFirstRefusal SpellsBoth
+
+  -- what comes of the devices file, if there is one; without it there are no scripts
+  abbrev pub OfScripts : Agent → Option Text → (List Script → Outcome → Type 0) → Outcome → Type 0
+  OfScripts agent None Next = Next []
+  OfScripts agent (Some name) Next = OfFile DevicesFile name (RefusesScripts agent) (SpellsScripts agent) Next
+
+  -- what comes of the journal file
+  abbrev pub OfJournal : Agent → Text → (Told → Outcome → Type 0) → Outcome → Type 0
+  OfJournal agent name = OfFile JournalFile name (RefusesJournal agent) (SpellsJournal agent)
+
+-- what comes of the condition, whose bytes stand among the words
+abbrev pub OfCondition : DraftTheory → Agent → Text → (Cond → Outcome → Type 0) → Outcome → Type 0
+OfCondition theory agent bytes =
+    ComesOf Condition ⊥ (Tells Condition (RefusesCond theory agent bytes)) (SpellsCond theory agent bytes)
+
+-- The cause of each outcome of a command, its inputs in the order in which they are read. The standings are those of
+-- the devices before and after the call.
+module _ (held : Option (List HeldFile)) (faults_before faults_after : ℕ) (olds news : List Standing) where
+  abbrev pub Comes : Option CommandLine → Outcome → Type 0
+  Comes None = λ outcome. outcome ≡ WordsRefused
+  Comes (Some (run agent devices inline)) =
+      OfAgent held faults_before faults_after agent (λ a.
+      OfScripts held faults_before faults_after a devices (λ listed.
+      RunOf a listed inline olds news))
+  Comes (Some (check agent)) =
+      OfAgent held faults_before faults_after agent (λ a outcome. outcome ≡ Checked (check_text a))
+  Comes (Some (replay agent journal)) =
+      OfAgent held faults_before faults_after agent (λ a.
+      OfJournal held faults_before faults_after a journal (Judges a))
+  Comes (Some (ask agent journal condition)) =
+      OfBoth held faults_before faults_after agent (λ u.
+      OfJournal held faults_before faults_after u.agent journal (λ told.
+      OfCondition u.theory u.agent condition (λ cond.
+      TruthOf u.agent told cond)))
+  Comes (Some (demo size)) = Demonstrates size olds news
+
+-- ---- the call
+
+-- what the files, the sink and the devices mean at one moment
+pub record Outside : Type 0 where
+  pub held : Option (List HeldFile)
+  pub file_faults : ℕ
+  pub taken : Option Text
+  pub sink_faults : ℕ
+  pub devices : List Standing
+
+-- what these files, this sink and these devices mean
+abbrev pub outside : {F K D : Type 0} → (F → Option (List HeldFile)) → (F → ℕ) → (K → Option Text) → (K → ℕ)
+    → (D → Bool) → (D → Meaning) → F → K → List D → Outside
+outside held file_faults taken sink_faults fresh meaning files out devices = record {
+  held = held files;
+  file_faults = file_faults files;
+  taken = taken out;
+  sink_faults = sink_faults out;
+  devices = standings fresh meaning devices;
+}
+
+-- whether the devices had a part in an outcome
+abbrev pub uses_devices : Outcome → Bool
+uses_devices (Ran text answer) = true
+uses_devices (Demonstrated text) = true
+uses_devices outcome = false
+
+-- the devices are as they were, unless they had a part
+abbrev pub IsUntouched : List Standing → List Standing → Outcome → Type 0
+IsUntouched olds news outcome = uses_devices outcome ≡ false → news ≡ olds
+
+-- the text was written whole and the status answered, or a write failed and a prefix of the text was written
+abbrev pub Reports : ℕ → Text → ℕ → Option Text → Option Text → ℕ → ℕ → Type 0
+Reports answered text status old new faults_before faults_after =
+    ((answered ≡ status) × (new ≡ and_then_bytes old text))
+    ⊎ ((answered ≡ 5) × AddsPrefix old new text × Rose faults_before faults_after)
+
+-- the outcome has its cause, and was reported
+pub record IsReported (status : ℕ) (spelled : Option CommandLine) (before after : Outside) : Type 0 where
+  pub outcome : Outcome
+  pub cause : Comes before.held before.file_faults after.file_faults before.devices after.devices spelled outcome
+  pub untouched : IsUntouched before.devices after.devices outcome
+  pub report : Reports status (outcome_text outcome) (outcome_status outcome)
+      before.taken after.taken before.sink_faults after.sink_faults
+
+-- memory ran out while a command was done, and nothing was written
+pub record LacksMemory (status : ℕ) (spelled : Option CommandLine) (before after : Outside) : Type 0 where
+  pub answered : status ≡ 6
+  pub command : IsSome spelled
+  pub nothing : after.taken ≡ before.taken
+
+-- how a call ends whose words spell this command, or none: with an outcome that has its cause, or for want of memory
+abbrev pub CallEnds : ℕ → Option CommandLine → Outside → Outside → Type 0
+CallEnds status spelled before after = IsReported status spelled before after ⊎ LacksMemory status spelled before after
+
+-- ---- what the parts of a call come to
+
+-- whether the command is a run over threads
+abbrev pub is_threaded : CommandLine → Bool
+is_threaded (run agent devices inline) = not inline
+is_threaded command = false
+
+-- where a file is refused or can't be read, and memory didn't run out, this is so of what is said
+abbrev pub IfEnded : Unready → (Outcome → Type 0) → Type 0
+IfEnded (Ended outcome) P = P outcome
+IfEnded Memory P = Unit {0}
+
+-- nothing comes of a value
+abbrev pub Never : {A : Type 0} → A → Outcome → Type 0
+Never x outcome = ⊥
+
+-- bytes above the limit of an input, its code, and the limit
+abbrev pub IsTooLong : Input → Text → ℕ → ℕ → Type 0
+IsTooLong input bytes code at = (input_limit input < length bytes) × (code ≡ 5) × (at ≡ input_limit input)
+
+-- what is said of a file that cannot be read, or whose bytes are refused so
+abbrev pub FileFails : Input → (Text → ℕ → ℕ → Type 0) → Option (List HeldFile) → Text → ℕ → ℕ → Outcome → Type 0
+FileFails input Refuses held name faults_before faults_after outcome =
+    ((outcome ≡ ReadFault input) × IsUnread held name faults_before faults_after)
+    ⊎ ((text : Text) × (outcome ≡ Refused input text) × Reads held name (λ bytes. Tells input (Refuses bytes) text))
+
+-- what is said of a condition whose bytes are refused
+abbrev pub CondFails : DraftTheory → Agent → Text → Outcome → Type 0
+CondFails theory agent bytes outcome =
+    (text : Text) × (outcome ≡ Refused Condition text) × Tells Condition (RefusesCond theory agent bytes) text
+
+-- the files spell this agent and these scripts of its devices
+pub record HoldsRun (held : Option (List HeldFile)) (agent : Text) (devices : Option Text) (ready : Ready)
+    : Type 0 where
+  pub formed : WellFormed ready.agent
+  pub texts : All HasTexts ready.scripts
+  pub agent_so : ReadsAgent held agent ready.agent
+  pub scripts_so : ReadsScripts held ready.agent devices ready.scripts

@@ -1,0 +1,39 @@
+-- What the parts of a call write of what they come to.
+use Rattle.std.specs.Prelude.{◌≡◌, ℕ, Option, Result, Ok, Err, Contains}
+use Rattle.golog_tree.specs.declared.agent.Agent.{Agent}
+use Rattle.golog_semantics.specs.declared.journal.Answer.{Answer}
+use Rattle.golog_semantics.specs.declared.journal.Entry.TheVariants.{End}
+use Rattle.golog_semantics.specs.declared.journal.Report.{Report}
+use Rattle.golog_semantics.specs.Execution.{status_of as answer_status}
+use Rattle.golog_semantics.specs.Text.{Text, report_text}
+use Rattle.golog_commands.specs.declared.outcome.Outcome.{Outcome}
+use Rattle.golog_commands.specs.declared.ready.Unready.{Unready}
+use Rattle.golog_commands.specs.declared.ready.Unready.TheVariants.{Ended, Memory}
+use Rattle.golog_commands.specs.Outcome.{Reports, outcome_status, outcome_text}
+
+-- what an outcome says was reported; without one nothing was written
+abbrev pub IfReported : {E F : Type 0} → Result Outcome E → Result ℕ F → Option Text → Option Text → ℕ → ℕ → Type 0
+IfReported (Ok outcome) (Ok status) old new faults_before faults_after =
+    Reports status (outcome_text outcome) (outcome_status outcome) old new faults_before faults_after
+IfReported (Err e) (Err f) old new faults_before faults_after = new ≡ old
+IfReported (Ok outcome) (Err f) old new faults_before faults_after = ⊥
+IfReported (Err e) (Ok status) old new faults_before faults_after = ⊥
+
+-- the same of why an input holds nothing
+abbrev pub ReportsUnready : {F : Type 0} → Unready → Result ℕ F → Option Text → Option Text → ℕ → ℕ → Type 0
+ReportsUnready (Ended outcome) (Ok status) old new faults_before faults_after =
+    Reports status (outcome_text outcome) (outcome_status outcome) old new faults_before faults_after
+ReportsUnready Memory (Err f) old new faults_before faults_after = new ≡ old
+ReportsUnready (Ended outcome) (Err f) old new faults_before faults_after = ⊥
+ReportsUnready Memory (Ok status) old new faults_before faults_after = ⊥
+
+-- A report of which this is so was written: its text whole, and the status is that of its end; or a write failed, the
+-- status is that of a fault, and a prefix of its text was written.
+pub record WritesReport (P : Report → Type 0) (agent : Agent) (old new : Option Text)
+    (faults_before faults_after status : ℕ) : Type 0 where
+  pub report : Report
+  pub so : P report
+  pub answer : Answer
+  pub ended : Contains report.entries (End answer)
+  pub written : Reports status (report_text agent report) (answer_status answer)
+      old new faults_before faults_after
