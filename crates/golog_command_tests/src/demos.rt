@@ -3,7 +3,7 @@ ghost use Rattle.golog_semantics.specs.WellFormed.{WellFormed};
 
 use crate::asserting::same;
 use golog_base::{Bytes, NoMemory};
-use golog_check_text::{add_count, check_text};
+use golog_check_text::add_count;
 use golog_demo::{DemoFiles, demo_files};
 use golog_file::read_agent;
 use golog_script::scripts_of;
@@ -81,38 +81,6 @@ fn each_button_is_pushed(rt: HostRuntime) -> Result<(), NoMemory> {
     same(&rt, "one", has_devices(rt.alloc(), 1, one)?, true);
     same(&rt, "three", has_devices(rt.alloc(), 3, three)?, true);
     Ok(())
-}
-
-/// Whether the line of the agent is this text.
-fn has_line(alloc: Global, agent: &Agent, text: &[u8]) -> bool
-    requires { WellFormed agent.now }
-{
-    match check_text(alloc, agent) {
-        Ok(line) => line.as_slice() == text,
-        Err(NoMemory) => false,
-    }
-}
-
-/// The same of the agent that a file spells.
-fn file_has_line(alloc: Global, file: &[u8], text: &[u8]) -> bool {
-    let read = read_agent(alloc, file);
-    let answer = match &read {
-        Ok(agent) => has_line(alloc, agent, text),
-        Err(_fault) => false,
-    };
-    drop(read);
-    answer
-}
-
-#[test]
-fn ground_things_are_counted(rt: HostRuntime) {
-    // `interrupts_running`, and two fluents of four ground things together; two actions built in, and five more.
-    let file = b"(agent (sort level 1 3) (device panel)
-        (fluent floor () level) (fluent on (level) bool)
-        (action up ()) (action off (level) panel) (exo quit () panel)
-        (proc wait () nil) (main nil))";
-    let line = b"ok fluents 5 actions 7 procedures 1 devices 1\n";
-    same(&rt, "counts", file_has_line(rt.alloc(), file, line), true);
 }
 
 /// Whether a text is so once what is counted, and how many there are, is added to it.

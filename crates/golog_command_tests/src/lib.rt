@@ -2,13 +2,9 @@
 #![tactic(auto)]
 
 #[cfg(test)]
-mod asks;
-#[cfg(test)]
 mod asserting;
 #[cfg(test)]
 mod demos;
-#[cfg(test)]
-mod replays;
 #[cfg(test)]
 mod scripts;
 #[cfg(test)]

@@ -9,8 +9,6 @@ mod files;
 #[cfg(test)]
 mod forms;
 #[cfg(test)]
-mod limits;
-#[cfg(test)]
 mod parts;
 #[cfg(test)]
 mod programs;
@@ -20,7 +18,5 @@ mod reading;
 mod refusals;
 #[cfg(test)]
 mod sinks;
-#[cfg(test)]
-mod theories;
 #[cfg(test)]
 mod words;

@@ -1,6 +1,5 @@
 use crate::asserting::same;
-use crate::limits::text_of;
-use crate::reading::{code_and_place, condition_in, theory_in};
+use crate::reading::{condition_in, theory_in};
 use golog_base::Word;
 use golog_tree::{DraftArg, DraftCond, DraftStart, DraftTheory};
 use std::alloc::Global;
@@ -11,9 +10,6 @@ const WORLD: &[u8] =
   (poss (go x) (not (blocked x))) (causes (block x) (blocked x) true)
   (causes (block a) (floor) (- (floor) 1) (blocked y))
   (senses (go x) (blocked x)) (proc p) (main nil))";
-
-/// A binder around a condition.
-const BOUND: &str = "(all (x bool) ";
 
 fn is_word(word: Option<&Word>, text: &[u8]) -> bool {
     match word {
@@ -137,42 +133,6 @@ fn a_theory_is_read_whole(rt: HostRuntime) {
     let (sizes, parts) = world(rt.alloc(), WORLD);
     same(&rt, "sizes", sizes, [3, 1, 3, 4, 1, 4, 1, 4]);
     same(&rt, "parts", parts, [true; 5]);
-}
-
-/// The code and the place of the refusal of a condition over a theory, zeros where it is read.
-fn refusal_over(alloc: Global, theory: &DraftTheory, text: &[u8]) -> (u8, u32) {
-    let read = condition_in(alloc, theory, text);
-    let answer = match &read {
-        Ok(_cond) => (0, 0),
-        Err(fault) => code_and_place(fault),
-    };
-    drop(read);
-    answer
-}
-
-/// The same over the theory of `WORLD`, of these parts one after another, each so many times.
-fn refusal(alloc: Global, parts: &[(&str, u32)]) -> (u8, u32) {
-    let text = text_of(alloc, parts);
-    let read = theory_in(alloc, WORLD);
-    let answer = match (&text, &read) {
-        (Ok(text), Ok(theory)) => refusal_over(alloc, theory, text.as_slice()),
-        _ => (255, 0),
-    };
-    drop(read);
-    drop(text);
-    answer
-}
-
-#[test]
-fn what_is_no_condition_is_refused(rt: HostRuntime) {
-    let texts: [(&[(&str, u32)], u8, u32); 3] = [
-        (&[("(or true (blocked))", 1)], 24, 9),
-        (&[(BOUND, 32), ("true", 1), (")", 32)], 0, 0),
-        (&[(BOUND, 33), ("true", 1), (")", 33)], 25, 32 * 14),
-    ];
-    for (parts, code, at) in texts {
-        same(&rt, parts, refusal(rt.alloc(), parts), (code, at));
-    }
 }
 
 /// Whether a condition over a theory is `some`, over its second sort, at the place 0.

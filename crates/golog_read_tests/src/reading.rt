@@ -55,33 +55,3 @@ pub fn condition_in(
         Err(_fault) => Err(TheoryFault::Memory),
     }
 }
-
-/// The code and the place of a refusal, 255 where memory ran out.
-pub fn code_and_place(fault: &TheoryFault) -> (u8, u32) {
-    match fault {
-        TheoryFault::Refused { code, at } => (*code, *at),
-        TheoryFault::Memory => (255, 0),
-    }
-}
-
-/// The code and the place of the refusal of a theory, zeros where the text spells one.
-pub fn theory_refusal(alloc: Global, text: &[u8]) -> (u8, u32) {
-    let read = theory_in(alloc, text);
-    let answer = match &read {
-        Ok(_theory) => (0, 0),
-        Err(fault) => code_and_place(fault),
-    };
-    drop(read);
-    answer
-}
-
-/// The same of a program.
-pub fn program_refusal(alloc: Global, text: &[u8]) -> (u8, u32) {
-    let read = program_in(alloc, text);
-    let answer = match &read {
-        Ok(_program) => (0, 0),
-        Err(fault) => code_and_place(fault),
-    };
-    drop(read);
-    answer
-}

@@ -132,19 +132,6 @@ pub fn says<A: Abort + AllocGlobal>(
     has_said(rt, row, called(rt.alloc(), setting), said)
 }
 
-/// Asserts it of a run of the agent of these items and this program.
-pub fn agent_says<A: Abort + AllocGlobal>(
-    rt: &A,
-    items: &str,
-    program: &str,
-    said: (u8, &str),
-) -> Result<(), NoMemory> {
-    let file = file_of(rt.alloc(), items, program)?;
-    let told = says(rt, program, &Setting::run(file.as_slice()), said);
-    drop(file);
-    told
-}
-
 /// A file in memory of this name and these bytes.
 fn held(alloc: Global, name: &str, bytes: &[u8]) -> Result<HeldFile, NoMemory> {
     let (name, bytes) = both(Text::of(alloc, name), Bytes::copy_of(alloc, bytes))?;

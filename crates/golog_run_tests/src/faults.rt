@@ -1,8 +1,7 @@
 use crate::asserting::same;
-use crate::calls::{Call, NO_FILE, ONE, Setting, called, says};
+use crate::calls::{Call, ONE, Setting, called, says};
 use golog_base::NoMemory;
 use std::alloc::Global;
-use std::process::Abort;
 
 const LIFT: &[u8] = b"(agent (sort level 1 4) (device panel) (device lift)
     (exo push (level) panel) (main nil))";
@@ -31,13 +30,6 @@ const FLOORS: (&[u8], &[u8]) = (
 
 /// The journal of its run.
 const FLOORS_JOURNAL: &str = "0 do up run up; -\n1 test\n2 end done\n";
-
-#[test]
-fn a_file_that_is_not_there_is_a_read_fault(rt: HostRuntime) -> Result<(), NoMemory> {
-    let words = ["run", "y.agent", "--inline"];
-    let setting = Setting::of(&words, ("x.agent", ONE), NO_FILE);
-    says(&rt, "", &setting, (4, "read fault agent\n"))
-}
 
 #[test]
 fn a_read_that_fails_in_mid_stream_is_a_read_fault(rt: HostRuntime) -> Result<(), NoMemory> {
@@ -72,44 +64,6 @@ fn each_read_may_fail(rt: HostRuntime) -> Result<(), NoMemory> {
         says(&rt, said, &setting, (status, said))?;
     }
     Ok(())
-}
-
-/// The bytes with so many spaces behind them as make a file of this length.
-fn padded(alloc: Global, bytes: &[u8], length: usize) -> Result<Vec<u8>, NoMemory> {
-    let mut file = Vec::from_slice(alloc, bytes)?;
-    file.resize(length, b' ')?;
-    Ok(file)
-}
-
-/// Asserts what a run says of an agent file of this length.
-fn padded_says<A: Abort + AllocGlobal>(
-    rt: &A,
-    length: usize,
-    said: (u8, &str),
-) -> Result<(), NoMemory> {
-    let file = padded(rt.alloc(), b"(agent (main nil))", length)?;
-    let told = says(rt, "", &Setting::run(file.as_slice()), said);
-    drop(file);
-    told
-}
-
-/// The same of a devices file.
-fn padded_scripts_say<A: Abort + AllocGlobal>(
-    rt: &A,
-    length: usize,
-    said: (u8, &str),
-) -> Result<(), NoMemory> {
-    let scripts = padded(rt.alloc(), b"[]", length)?;
-    let told = says(rt, "", &Setting::run_with(LIFT, scripts.as_slice()), said);
-    drop(scripts);
-    told
-}
-
-#[test]
-fn a_file_above_its_limit_is_refused(rt: HostRuntime) -> Result<(), NoMemory> {
-    padded_says(&rt, 1_048_576, (0, "0 end done\n"))?;
-    padded_says(&rt, 1_048_577, (3, "refused agent 5 at 1048576\n"))?;
-    padded_scripts_say(&rt, 1_048_577, (3, "refused devices 5 at 1048576\n"))
 }
 
 // Each agent with the room of the sink, the calls that fail, and what is written: nothing after a write that fails,

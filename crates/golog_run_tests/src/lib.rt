@@ -12,25 +12,11 @@ mod calls;
 #[cfg(test)]
 mod commands;
 #[cfg(test)]
-mod constructs;
-#[cfg(test)]
-mod devices;
-#[cfg(test)]
 mod faults;
-#[cfg(test)]
-mod forged;
-#[cfg(test)]
-mod long_runs;
 #[cfg(test)]
 mod own_devices;
 #[cfg(test)]
-mod refusals;
-#[cfg(test)]
 mod replays;
-#[cfg(test)]
-mod runs;
-#[cfg(test)]
-mod searches;
 #[cfg(test)]
 mod sleepers;
 #[cfg(test)]
@@ -39,5 +25,3 @@ mod slots;
 mod tables;
 #[cfg(test)]
 mod threads;
-#[cfg(test)]
-mod words;

@@ -1,11 +1,22 @@
 use crate::asserting::same;
 use crate::calls::{Call, Setting, called_by, file_of, has_said};
-use crate::devices::{DOOR, LOOK};
 use crate::slots::{Maker, called_with, sixteen};
 use crate::tables::Table;
 use golog_base::{Bytes, List, NoMemory, Word};
 use golog_device::{Begun, Device, Idle, Served};
 use std::alloc::Global;
+
+/// A door that is looked at, and a wind that may slam it.
+const DOOR: &str = "
+  (device wind) (device door)
+  (fluent opened () bool)
+  (action look () door) (action go ()) (action knock ())
+  (exo calm () wind) (exo slam () wind)
+  (senses (look) (opened))
+  (causes (slam) (opened) false)";
+
+/// Looks, and goes where the door is open.
+const LOOK: &str = "(seq (act look) (if (opened) (act go) (act knock)))";
 
 /// A device of the test's own: it answers the first command that senses with `false`, and rests. It keeps
 /// the name under which it began.

@@ -3,11 +3,28 @@ ghost use Rattle.golog_device.specs.Tables.{is_fresh};
 
 use crate::asserting::same;
 use crate::calls::{Call, Setting, file_of, has_said};
-use crate::devices::LIFT;
 use crate::slots::{Maker, called_with};
 use golog_base::{Bytes, List, NoMemory, both};
 use golog_device::{Begun, Idle, Served, TableDevice};
 use std::alloc::Global;
+
+/// A lift of four floors, and the panel with its buttons.
+const LIFT: &str = "
+  (sort level 1 4)
+  (device panel) (device lift)
+  (fluent floor () level 1)
+  (fluent on (level) bool false)
+  (fluent quitting () bool false)
+  (action up () lift) (action down () lift) (action off (level) lift)
+  (exo push (level) panel) (exo quit () panel)
+  (poss (up) (< (floor) 4))
+  (poss (down) (< 1 (floor)))
+  (poss (off f) (and (on f) (= f (floor))))
+  (causes (up) (floor) (+ (floor) 1))
+  (causes (down) (floor) (- (floor) 1))
+  (causes (off f) (on f) false)
+  (causes (push f) (on f) true)
+  (causes (quit) (quitting) true)";
 
 /// How many bytes a journal may have.
 const ROOM: u32 = 2_000_000;

@@ -1,6 +1,6 @@
 use crate::actors::{Actors, Part};
 use crate::asserting::same;
-use crate::calls::{Call, NO_FILE, ONE, Setting, called_on_threads, has_said};
+use crate::calls::{Call, NO_FILE, Setting};
 use crate::slots::{Maker, threaded_with};
 use crate::tables::Table;
 use golog_base::NoMemory;
@@ -26,13 +26,6 @@ fn ran_with<R: Threads + Wait + Sync, D: Device + Send, M: Maker<D>>(
     maker: &M,
 ) -> Result<Call, NoMemory> {
     threaded_with(rt, alloc, &run_of(agent), maker)
-}
-
-// Without devices a run over threads has the text of one without.
-#[test]
-fn a_run_over_threads_without_devices(rt: HostRuntime) -> Result<(), NoMemory> {
-    let call = called_on_threads(&rt, rt.alloc(), &run_of(ONE));
-    has_said(&rt, "", call, (0, "0 do a\n1 test\n2 end done\n"))
 }
 
 /// A program that waits for devices that post once and close.

@@ -3,7 +3,7 @@ use Rattle.std.proofs.Common.{false, IsTrue}
 use Rattle.golog_tree.specs.declared.agent.Agent.{Agent}
 use Rattle.golog_semantics.specs.ProgFits.{fits}
 use Rattle.golog_semantics.specs.WellFormed.{WellFormed}
-use Rattle.golog_ways.specs.Closed.{IsClosed}
+use Rattle.golog_fronts.specs.Closed.{IsClosed}
 
 pub main_closed : (agent : Agent) → WellFormed agent → IsClosed agent agent.main
 main_closed agent formed = record { in_block = false; fits = formed.programs.main }

@@ -4,7 +4,7 @@ use Rattle.golog_tree.specs.declared.agent.Agent.{Agent}
 use Rattle.golog_tree.specs.declared.cond.Cond.{Cond}
 use Rattle.golog_semantics.specs.Fits.{cond_fits, nothing_bound}
 use Rattle.golog_known.specs.Fits.{CondFitsAt}
-use Rattle.golog_ways.proofs.Acting.{closed_cond}
+use Rattle.golog_fronts.proofs.Acting.{closed_cond}
 
 pub evaluated : (agent : Agent) (cond : Cond) (env : List ℕ) → IsTrue (cond_fits agent cond nothing_bound)
     → CondFitsAt agent cond env

@@ -1,6 +1,6 @@
 ghost use Rattle.std.specs.Prelude.{◌≡◌, false};
 ghost use Rattle.golog_semantics.specs.WellFormed.{WellFormed};
-ghost use Rattle.golog_ways.specs.FrontBlock.{has_front_block as block_in_front};
+ghost use Rattle.golog_fronts.specs.FrontBlock.{has_front_block as block_in_front};
 
 use crate::agents::{LAMP, is_first_fluent};
 use crate::asserting::same;

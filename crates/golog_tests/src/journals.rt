@@ -4,8 +4,9 @@ ghost use Rattle.golog_semantics.specs.WellFormed.{WellFormed};
 use crate::asserting::same;
 use golog_base::NoMemory;
 use golog_file::read_agent;
+use golog_reports::{TextFault, read_journal};
 use golog_semantics::Report;
-use golog_text::{TextFault, read_journal, write_journal};
+use golog_text::write_journal;
 use golog_tree::Agent;
 use std::alloc::Global;
 

@@ -7,8 +7,9 @@ use crate::asserting::same;
 use golog_base::{Bytes, List, NoMemory};
 use golog_file::read_agent;
 use golog_progress::{State, start};
+use golog_reports::read_journal;
 use golog_semantics::Report;
-use golog_text::{Line, read_journal, run_here};
+use golog_text::{Line, run_here};
 use golog_tree::{Agent, Label};
 use std::alloc::Global;
 

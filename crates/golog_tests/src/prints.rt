@@ -2,7 +2,7 @@ use crate::agents::{BELL, LIFT};
 use crate::asserting::same;
 use golog_base::NoMemory;
 use golog_file::read_agent;
-use golog_prog::print_prog;
+use golog_print::print_prog;
 use golog_tree::Agent;
 use std::alloc::Global;
 

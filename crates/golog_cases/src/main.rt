@@ -1,0 +1,61 @@
+//! Calls the interpreter by cases: `golog_cases FILE..`. Each case is told in a line, `NAME: ok`, or with what was
+//! wanted and what came, and so is a file that can't be read, or a line that can't stand where it does. The status is
+//! 0 where all is as it is wanted, and else 1. `CONTRIBUTING.md` says how a case is written.
+#![tactic(auto)]
+
+mod blocks;
+mod calls;
+mod cases;
+mod reading;
+
+use crate::calls::all_so_in;
+use golog_base::{FileFiles, OutSink};
+use golog_main::words_of;
+use std::alloc::AllocError;
+use std::io;
+use std::process::ExitCode;
+use std::sync::Wait;
+use std::thread::{Builder, Threads};
+
+/// How many bytes of stack the work has, as much as that of the program `golog`.
+const STACK: usize = 1 << 30;
+
+fn main(rt: HostRuntime) -> ExitCode {
+    match two_of(&rt) {
+        Ok((threads, own)) => match all_so_on_thread(&rt, threads, own) {
+            Ok(true) => ExitCode::SUCCESS,
+            _ => ExitCode::FAILURE,
+        },
+        Err(_) => ExitCode::FAILURE,
+    }
+}
+
+// The runtime twice more: `main` alone may hand it on as one that makes threads.
+fn two_of(rt: &HostRuntime) -> Result<(HostRuntime, HostRuntime), AllocError> {
+    Ok((rt.clone()?, rt.clone()?))
+}
+
+// Does the work on a thread with a large stack, from which those of the devices are made.
+fn all_so_on_thread<R: Threads + Wait + Sync + Send + Drop + 'static>(
+    rt: &R,
+    threads: R,
+    own: HostRuntime,
+) -> io::Result<bool> {
+    let worker = Builder::new()
+        .stack_size(STACK)
+        .spawn(rt, move || all_so(&threads, &own))?;
+    Ok(worker.join(rt)?)
+}
+
+// Whether all is as it is wanted in the files that the words name.
+fn all_so<R: Threads + Wait + Sync>(threads: &R, rt: &HostRuntime) -> Result<bool, AllocError> {
+    let names = words_of(rt)?;
+    let mut files = FileFiles::new(rt.clone()?);
+    let mut out = OutSink::new(rt.clone()?);
+    let mut are_so = true;
+    for name in names.as_slice() {
+        let is_so = all_so_in(threads, rt.alloc(), &mut files, &mut out, name.as_str());
+        are_so = are_so && is_so;
+    }
+    Ok(are_so)
+}
