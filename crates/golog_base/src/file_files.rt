@@ -1,5 +1,5 @@
 // Real files.
-ghost use Rattle.std.specs.Prelude.{◌≡◌, ◌≤◌, None};
+ghost use Rattle.std.specs.Prelude.{◌≡◌, ◌≤◌, None, is_some};
 ghost use Rattle.golog_base.specs.Faults.{Rose};
 
 use crate::{Failed, Files};
@@ -45,6 +45,8 @@ impl<R: rt::Files + Drop> Files for FileFiles<R> {
     ghost held = { λ _. None };
 
     ghost rest = { λ _. None };
+
+    ghost selected = { λ files. is_some files.selected };
 
     ghost faults = { λ files. files.faults };
 

@@ -1,5 +1,5 @@
 // Files that are read by name.
-ghost use Rattle.std.specs.Prelude.{◌≡◌, ◌≢◌, ◌⊎◌, ◌+◌, ◌-◌, ◌<◌, ◌≤◌, ℕ, List, [], Option, None, Some, length, take, drop, OnOk, OnErr, IfOk, IfSome, IsErrOf};
+ghost use Rattle.std.specs.Prelude.{◌≡◌, ◌≢◌, ◌⊎◌, ◌+◌, ◌-◌, ◌<◌, ◌≤◌, ℕ, Bool, true, List, [], Option, None, Some, length, take, drop, OnOk, OnErr, IfOk, IfSome, IsErrOf};
 ghost use Rattle.golog_base.specs.declared.mem_files.HeldFile.{HeldFile};
 ghost use Rattle.golog_base.specs.Faults.{Rose};
 ghost use Rattle.golog_base.specs.Known.{bytes_and_then, TakesAtMost};
@@ -17,14 +17,17 @@ pub trait Files {
     // The unread bytes of the selected file, where they are told.
     ghost rest: { Self → Option (List ℕ) };
 
+    // Whether a file is selected, which can be read.
+    ghost selected: { Self → Bool };
+
     // How often the outside has failed. The greatest u64 stands for itself and all above.
     ghost faults: { Self → ℕ };
 
     /// Selects the file of this name, which is read from its first byte on. `Failed` comes only where the
-    /// count of faults rose, or where the files are told and none has the name: then the count stays. After
-    /// `Failed` no file is selected.
+    /// count of faults rose, or where the files are told and none has the name: then the count stays.
     fn select(&mut self, name: &str) -> Result<(), Failed>
         ensures opened { OnOk result (Opens (held self.old) name.now (rest self.new)) }
+        ensures selected { OnOk result (selected self.new ≡ true) }
         ensures failed { OnErr result (HasNone (held self.old) name.now
             ⊎ Rose (faults self.old) (faults self.new)) }
         ensures missing { HasNone (held self.old) name.now → faults self.new ≡ faults self.old }
@@ -33,9 +36,12 @@ pub trait Files {
         ensures faults { faults self.old ≤ faults self.new };
 
     /// Moves bytes of the selected file to the front of the buffer and answers how many: at least one where
-    /// one is left and the buffer isn't empty, so 0 is the end of the file. `Failed` comes only where the
-    /// count of faults rose, and no file is selected after it.
+    /// one is left and the buffer isn't empty, so 0 is the end of the file. A file is to be selected, and stays so
+    /// where bytes are moved: what the caller does can't make the outside fail. `Failed` comes only where the count
+    /// of faults rose.
     fn read(&mut self, buf: &mut [u8]) -> Result<usize, Failed>
+        requires { selected self.old ≡ true }
+        ensures selected { OnOk result (selected self.new ≡ true) }
         ensures within { IfOk result (λ n. n ≤ length buf.new) }
         ensures moved { IfOk result (λ n. rest self.old ≡ bytes_and_then (take n buf.new) (rest self.new)) }
         ensures at_end { IfOk result (λ n. n ≡ 0 → 0 < length buf.new
@@ -94,6 +100,7 @@ pub fn read_all<F: Files>(
 
 // Reads the rest of the selected file, of at most `limit` bytes.
 fn read_rest<F: Files>(alloc: Global, files: &mut F, limit: u32) -> Result<Bytes, ReadFault>
+    requires { F.selected files.old ≡ true }
     ensures read { IfOk result (λ bytes. IfSome (F.rest files.old) (λ rest. rest ≡ bytes)) }
     ensures within { IfOk result (λ bytes. length bytes ≤ limit) }
     ensures failed { IsErrOf result ReadFault.Failed → Rose (F.faults files.old) (F.faults files.new) }
@@ -118,7 +125,9 @@ fn read_rest<F: Files>(alloc: Global, files: &mut F, limit: u32) -> Result<Bytes
 
 // Adds some of the rest to `bytes`, up to `most` in all; none only at the end of the file.
 fn read_some<F: Files>(files: &mut F, bytes: &mut Bytes, most: usize) -> Result<usize, ReadFault>
-    requires { length bytes.old < most }
+    requires selected { F.selected files.old ≡ true }
+    requires room { length bytes.old < most }
+    ensures selected { OnOk result (F.selected files.new ≡ true) }
     ensures at_most { IsErrOf result ReadFault.Memory
         → TakesAtMost (most - length bytes.old) (F.rest files.old) (F.rest files.new) }
     ensures moved { OnOk result (bytes_and_then bytes.new (F.rest files.new)

@@ -2,6 +2,7 @@
 #![tactic(auto)]
 
 mod boxed;
+mod decimals;
 mod failed;
 mod failures;
 mod file_files;
@@ -19,6 +20,7 @@ mod text;
 mod word;
 
 pub use boxed::Boxed;
+pub use decimals::add_decimal;
 pub use failed::Failed;
 pub use file_files::FileFiles;
 pub use files::{Files, ReadFault, read_all};

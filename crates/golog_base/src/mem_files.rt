@@ -1,9 +1,9 @@
 // Files in memory.
-ghost use Rattle.std.specs.Prelude.{◌≡◌, ◌≤◌, ◌<◌, ◌+◌, ◌^◌, ◌⊎◌, ◌↔◌, ℕ, [], length, take, min, Some, None, IfSome, IfNone, OnOk, OnErr, IfOk, IsErr, IsSome, IsTrue};
+ghost use Rattle.std.specs.Prelude.{◌≡◌, ◌≤◌, ◌<◌, ◌+◌, ◌^◌, ◌⊎◌, ◌↔◌, ℕ, [], length, take, min, true, Some, None, IfSome, IfNone, OnOk, OnErr, IfOk, IsErr, IsSome, IsTrue};
 ghost use Rattle.golog_base.specs.Failures.{uncalled, after_call, fails_next};
 ghost use Rattle.golog_base.specs.Files.{bytes_of, HasNone, Opens};
 ghost use Rattle.golog_base.specs.Known.{bytes_and_then};
-ghost use Rattle.golog_base.specs.MemFiles.{bytes_at, bytes_left, held_of, rest_of, faults_of, failures_of};
+ghost use Rattle.golog_base.specs.MemFiles.{bytes_at, bytes_left, held_of, rest_of, selects, faults_of, failures_of};
 ghost use Rattle.golog_base.specs.Faults.{Rose};
 
 use crate::failures::Failures;
@@ -85,10 +85,13 @@ impl Files for MemFiles {
 
     ghost rest = { rest_of };
 
+    ghost selected = { selects };
+
     ghost faults = { faults_of };
 
     fn select(&mut self, name: &str) -> Result<(), Failed>
         ensures opened { OnOk result (Opens (Some (held_of self.old)) name.now (rest_of self.new)) }
+        ensures selected { OnOk result (selects self.new ≡ true) }
         ensures failed { OnErr result (HasNone (Some (held_of self.old)) name.now
             ⊎ Rose (faults_of self.old) (faults_of self.new)) }
         ensures missing { HasNone (Some (held_of self.old)) name.now
@@ -118,6 +121,8 @@ impl Files for MemFiles {
     }
 
     fn read(&mut self, buf: &mut [u8]) -> Result<usize, Failed>
+        requires { selects self.old ≡ true }
+        ensures selected { OnOk result (selects self.new ≡ true) }
         ensures within { IfOk result (λ n. n ≤ length buf.new) }
         ensures moved { IfOk result (λ n. rest_of self.old
             ≡ bytes_and_then (take n buf.new) (rest_of self.new)) }
@@ -128,9 +133,8 @@ impl Files for MemFiles {
         ensures held { held_of self.new ≡ held_of self.old }
         ensures faults { faults_of self.old ≤ faults_of self.new }
 
-        // It fails exactly where no file is selected or this call is to fail, else it moves all that fits.
-        ensures fails { IsErr result ↔ ((rest_of self.old ≡ None)
-            ⊎ IsTrue (fails_next (failures_of self.old))) }
+        // It fails exactly where this call is to fail, and else it moves all that fits.
+        ensures fails { IsErr result ↔ IsTrue (fails_next (failures_of self.old)) }
         ensures fits { IfOk result (λ n. IfSome (rest_of self.old)
             (λ left. n ≡ min (length left) (length buf.new))) }
         ensures no_fault { OnOk result (faults_of self.new ≡ faults_of self.old) }

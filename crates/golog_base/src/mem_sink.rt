@@ -78,6 +78,7 @@ impl Sink for MemSink {
         ensures added { IfOk result (λ n. Some (taken_of self.new)
             ≡ and_then_bytes (Some (taken_of self.old)) (take n bytes.now)) }
         ensures nothing { OnErr result (Some (taken_of self.new) ≡ Some (taken_of self.old)) }
+        ensures no_fault { OnOk result (faults_of self.new ≡ faults_of self.old) }
         ensures failed { OnErr result (Rose (faults_of self.old) (faults_of self.new)) }
         ensures faults { faults_of self.old ≤ faults_of self.new }
 
@@ -85,7 +86,6 @@ impl Sink for MemSink {
         ensures fails { IsErr result ↔ (IsTrue (fails_next (failures_of self.old))
             ⊎ (0 < length bytes.now) × (room_left self.old ≡ 0)) }
         ensures fits { IfOk result (λ n. n ≡ min (length bytes.now) (room_left self.old)) }
-        ensures no_fault { OnOk result (faults_of self.new ≡ faults_of self.old) }
         ensures counted { failures_of self.new ≡ after_call (failures_of self.old) }
         ensures room { room_of self.new ≡ room_of self.old }
     {
