@@ -15,7 +15,8 @@ use Rattle.golog_semantics.specs.Values.{matched_values}
 use Rattle.golog_semantics.specs.Fits.{bound_from, term_fits, cond_fits}
 use Rattle.golog_semantics.specs.Written.{is_written_term, is_written_cond}
 use Rattle.golog_semantics.specs.WellFormed.{WellFormed, head_sorts, effect_fits, cause_fits_for, cause_fits}
-use Rattle.golog_semantics.specs.SortLaws.{IsOf, AreInSorts, KeepsSorts, ValuesStayInSorts, StepsStayInSorts}
+use Rattle.golog_semantics.specs.InSorts.{IsOf, AreInSorts}
+use Rattle.golog_semantics.specs.SortLaws.{KeepsSorts, ValuesStayInSorts, StepsStayInSorts}
 use Rattle.golog_semantics.proofs.Words.{and-left, and-right}
 use Rattle.golog_semantics.proofs.Among.{Among, among-contains}
 use Rattle.golog_semantics.proofs.GroundNumbers.{some-same, stands, action_is}

@@ -50,5 +50,7 @@ pub mod NumbersStand
 pub mod TermsFit
 pub mod CausesKeep
 pub mod OnlineSorts
+pub mod Restarted
 pub mod SamePrograms
 pub mod Known
+pub mod Starts

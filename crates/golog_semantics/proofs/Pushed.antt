@@ -58,7 +58,7 @@ first_some-push (Some a ∷ os) o = refl
 
 -- the faults of a journal with one more entry: those before, else that of the new entry
 pub first_fault-push : (agent : Agent) (lines : Option (List Text)) (runs : List PlacedRun) (j : Journal) (e : Entry)
-    → first_fault agent lines (record { entries = j ++ e ∷ []; runs = runs }) ≡ option_or (first_fault agent lines (record { entries = j; runs = runs })) (fault_at agent lines runs j e)
+    → first_fault agent lines (record { entries = j ++ e ∷ []; runs = runs; start = None }) ≡ option_or (first_fault agent lines (record { entries = j; runs = runs; start = None })) (fault_at agent lines runs j e)
 unfolding first_fault
 first_fault-push agent lines runs j e =
     ap first_some (at_each-push (fault_at agent lines runs) j e)

@@ -18,7 +18,8 @@ use Rattle.golog_semantics.specs.Values.{fluent_sort, cause_for, value_caused, v
 use Rattle.golog_semantics.specs.Journal.{Journal}
 use Rattle.golog_semantics.specs.Progress.{after_entry}
 use Rattle.golog_semantics.specs.Reports.{is_value}
-use Rattle.golog_semantics.specs.SortLaws.{IsOf, AreInSorts, KeepsSorts, ResultsFit, SortsStay}
+use Rattle.golog_semantics.specs.InSorts.{IsOf, AreInSorts}
+use Rattle.golog_semantics.specs.SortLaws.{KeepsSorts, ResultsFit, SortsStay}
 use Rattle.golog_semantics.proofs.Words.{and-left, and-right}
 use Rattle.golog_semantics.proofs.GroundNumbers.{some-same}
 use Rattle.golog_semantics.proofs.Among.{Among, contains-among}

@@ -18,7 +18,7 @@ use Rattle.golog_semantics.specs.Truth.{Env, Values, unknown, is_known, value_mo
 use Rattle.golog_semantics.specs.Values.{fluent_sort}
 use Rattle.golog_semantics.specs.Fits.{Scope, arg_fits, args_fit, fluent_fits, is_range, term_fits, cond_fits}
 use Rattle.golog_semantics.specs.Fits as fits
-use Rattle.golog_semantics.specs.SortLaws.{IsOf, AreInSorts}
+use Rattle.golog_semantics.specs.InSorts.{IsOf, AreInSorts}
 use Rattle.golog_semantics.proofs.Computed.{value_roll}
 use Rattle.golog_semantics.proofs.Words.{and-left, and-right}
 use Rattle.golog_semantics.proofs.NumbersStand.{fluent-stands}

@@ -10,7 +10,7 @@ use Rattle.golog_semantics.specs.Text.{Text}
 use Rattle.golog_semantics.specs.BuiltIn.{sort_names, declared_names, same_text}
 use Rattle.golog_semantics.specs.WellFormed.{WellFormed, start_fits}
 use Rattle.golog_semantics.specs.ReportLaws.{AreDistinctNames, HasConstants, TellsApart, RangesFit}
-use Rattle.golog_semantics.specs.SortLaws.{AreInSorts}
+use Rattle.golog_semantics.specs.InSorts.{AreInSorts}
 use Rattle.golog_semantics.proofs.Words.{and-left, and-right}
 use Rattle.golog_semantics.proofs.GroundNumbers.{some-same}
 use Rattle.golog_semantics.proofs.Among.{Among, contains-among, among-get, among-left, among-right, flat-among}

@@ -12,7 +12,7 @@ use Rattle.golog_semantics.specs.Truth.{Values}
 use Rattle.golog_semantics.specs.Ways.{is_empty}
 use Rattle.golog_semantics.specs.Search.{final, nest_limit}
 use Rattle.golog_semantics.specs.Blocks.{moves}
-use Rattle.golog_semantics.specs.Journal.{Journal, devices, is_open, is_full, is_waiting_for, is_settled, is_quiet}
+use Rattle.golog_semantics.specs.Journal.{Journal, devices, is_open, is_full, is_waiting_for, is_settled, lacks_results, may_be_answered, is_quiet}
 use Rattle.golog_semantics.specs.Progress.{values_after, left_after}
 
 -- what stands beside the first test that holds
@@ -32,18 +32,21 @@ is_unanswered agent journal =
 
 -- The answer, given the values and the program left, is the first that fits; there is none while the program
 -- has a step or waits. The program goes on with a step that is certain. It is done where it is certain that
--- it may end. It ends as unknown where it might step or end, were more known; as depth where a step is
--- possible only beyond what the searches looked at; and else as stuck. (This project's own.)
+-- it may end, and no open device has a result of it still to tell. It ends as unanswered where a result that will
+-- not come might have let it go on; as unknown where it might step or end, were more known; as depth where a
+-- step is possible only beyond what the searches looked at; and else as stuck. (This project's own.)
 abbrev pub answer_at : Agent → Journal → Values → Prog → Option Answer
 answer_at agent journal values p =
     first_that_fits
     ((is_full journal, Some Full)
     ∷ (is_unanswered agent journal, Some Unanswered)
     ∷ (not (is_settled agent journal), None)
+    ∷ (final agent values Must p && may_be_answered agent journal, None)
     ∷ (final agent values Must p, Some Done)
     ∷ (is_deep (moves agent values Must p), Some Deep)
     ∷ (not (is_empty (moves agent values Must p)), None)
     ∷ (not (is_quiet agent journal), None)
+    ∷ (lacks_results agent journal, Some Unanswered)
     ∷ (not (is_empty (moves agent values Near p)) || final agent values Near p, Some Unknown)
     ∷ (not (is_empty (moves agent values May p)), Some Depth)
     ∷ [])

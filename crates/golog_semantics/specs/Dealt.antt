@@ -11,7 +11,7 @@ use Rattle.golog_semantics.specs.declared.journal.Item.TheVariants as item
 use Rattle.golog_semantics.specs.declared.journal.Reason.{Reason}
 use Rattle.golog_semantics.specs.declared.journal.Reason.TheVariants.{Ended, Bad, Full, Late, Stopped, Refused}
 use Rattle.golog_semantics.specs.Journal.{Journal, Command, fluent_sensed, is_sensing, commands, entries_by}
-use Rattle.golog_semantics.specs.Text.{Text, at_each, action_text, value_text}
+use Rattle.golog_semantics.specs.Text.{Text, at_each, action_text, device_text, value_text}
 use Rattle.golog_semantics.specs.Posts.{awaited_command, is_bad}
 use Rattle.golog_semantics.specs.Inline.{posted_action, posted_value}
 
@@ -32,8 +32,10 @@ pub record Script : Type 0 where
   pub answers : List Text
   pub idle : List Text
 
--- what a device means; a part is None where the device does not tell it
+-- What a device means; a part is None where the device does not tell it. Its name is that under which it has
+-- begun, and no byte before.
 pub record Meaning : Type 0 where
+  pub name : Option Text
   pub cut : Bool
   pub given : Option (List Service)
   pub told : Option (List Told)
@@ -126,9 +128,14 @@ module _ (agent : Agent) (device : ℕ) where
       if poster == device then list_all (rests_before before) (entries_by device before) else true
   wakes before _ = true
 
-  -- the device was given its commands and told its items, until it was closed for this reason
+  -- it has begun under the name that the agent has for it
+  abbrev pub IsNamed : Meaning → Type 0
+  IsNamed m = IfSome m.name (λ name. name ≡ device_text agent device)
+
+  -- the device was given its commands and told its items under its name, until it was closed for this reason
   pub record DealtUntil (before : Journal) (reason : Reason) (taken : ℕ) (script : Script) (m : Meaning)
       : Type 0 where
+    pub named : IsNamed m
     pub given : IfSome m.given
         (λ given. GivenFits m.cut given (map service (take taken (commands agent device before))))
     pub told : IfSome m.told

@@ -36,7 +36,7 @@ pub record Stage : Type 0 where
 -- How many rounds a run has. Each round before the last device is closed and the program has ended adds an
 -- entry or takes a command, so nothing is added any more long before the last of these.
 abbrev pub round_limit : ℕ
-round_limit = 200000
+round_limit = 3000000
 
 -- the entry for a step
 abbrev pub entry_for : Label → Entry

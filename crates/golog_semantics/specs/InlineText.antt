@@ -34,7 +34,7 @@ module _ (agent : Agent) where
 
   -- a journal with the runs that its steps begin
   abbrev pub report_of : Journal → Report
-  report_of journal = record { entries = journal; runs = begun_runs journal }
+  report_of journal = record { entries = journal; runs = begun_runs journal; start = None }
 
   -- the report of a run inline with these scripts, one for each device
   abbrev pub inline_report : List Script → Report

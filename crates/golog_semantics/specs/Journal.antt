@@ -48,20 +48,24 @@ module _ (agent : Agent) where
   abbrev pub sensed_by : Ground → SenseItem → ℕ
   sensed_by (action, args) item = fluent_no agent item.fluent (map (arg_value (env_of args)) item.args)
 
+  -- the item that says what the result of an action tells
+  abbrev pub sense_item : Ground → Option SenseItem
+  sense_item at = find (λ item. item.action == at.0) agent.senses
+
   -- the ground fluent whose value the result of an action tells
   abbrev pub fluent_sensed : ℕ → Option ℕ
   fluent_sensed action =
-      let item_for = λ (at : Ground). find (λ item. item.action == at.0) agent.senses in
-      let at_action = slice_get (ground_actions agent) action in
-      option_and_then (λ at. option_map (sensed_by at) (item_for at)) at_action
+      option_and_then (λ at. option_map (sensed_by at) (sense_item at)) (slice_get (ground_actions agent) action)
 
   -- a device answers the action with a value
   abbrev pub is_sensing : ℕ → Bool
   is_sensing action = is_some (fluent_sensed action)
 
-  -- the program goes on only after the result of this action
+  -- the program goes on only after the result of this action: it has one, which may not come later
   abbrev pub is_held : ℕ → Bool
-  is_held action = is_sensing action
+  is_held action =
+      let at_item = option_and_then sense_item (slice_get (ground_actions agent) action) in
+      option_map_or (λ item. not item.later) at_item false
 
   -- the command of a device that an entry is, if it is one
   abbrev pub command_at : ℕ → ℕ × Entry → Option Command
@@ -122,7 +126,7 @@ count journal = count_by is_counted journal
 
 -- how many counted entries a journal takes
 abbrev pub limit : ℕ
-limit = 65536
+limit = 1048576
 
 -- the greatest number of devices
 abbrev pub device_limit : ℕ
@@ -153,6 +157,18 @@ module _ (agent : Agent) where
   -- the sensing commands of a device that have no result yet, in order
   abbrev pub outstanding_commands : ℕ → Journal → List Command
   outstanding_commands device journal = filter (is_outstanding journal) (commands agent device journal)
+
+  -- a result of the device is still to come
+  abbrev pub lacks_result : Journal → ℕ → Bool
+  lacks_result journal device = not (is_empty (outstanding_commands device journal))
+
+  -- a result is still to come
+  abbrev pub lacks_results : Journal → Bool
+  lacks_results journal = list_any (lacks_result journal) (devices agent)
+
+  -- a result is still to come of a device that is open
+  abbrev pub may_be_answered : Journal → Bool
+  may_be_answered journal = list_any (λ d. is_open d journal && lacks_result journal d) (devices agent)
 
   -- those whose results the program waits for
   abbrev pub held_commands : ℕ → Journal → List Command

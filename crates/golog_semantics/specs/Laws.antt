@@ -1,5 +1,5 @@
 -- Laws of the definitions.
-use Rattle.std.specs.Prelude.{◌≡◌, IsTrue, List, [], ◌∷◌, ◌++◌, Option}
+use Rattle.std.specs.Prelude.{None, ◌≡◌, IsTrue, List, [], ◌∷◌, ◌++◌, Option}
 use Rattle.std.specs.Option.{option_or}
 use Rattle.golog_tree.specs.declared.agent.Agent.{Agent}
 use Rattle.golog_tree.specs.declared.prog.Prog.{Prog}
@@ -19,6 +19,6 @@ pub record TestIsEquality : Type 0 where
 abbrev pub FaultsGrow : Type 0
 FaultsGrow =
     (agent : Agent) (lines : Option (List Text)) (runs : List PlacedRun) (journal : Journal) (e : Entry)
-    → first_fault agent lines (record { entries = journal ++ e ∷ []; runs = runs })
-    ≡ option_or (first_fault agent lines (record { entries = journal; runs = runs }))
+    → first_fault agent lines (record { entries = journal ++ e ∷ []; runs = runs; start = None })
+    ≡ option_or (first_fault agent lines (record { entries = journal; runs = runs; start = None }))
     (fault_at agent lines runs journal e)

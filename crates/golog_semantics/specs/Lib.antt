@@ -3,6 +3,7 @@ pub mod Truth
 pub mod Modes
 pub mod Program
 pub mod Values
+pub mod InSorts
 pub mod Ways
 pub mod Guarded
 pub mod Same
@@ -14,6 +15,7 @@ pub mod Journal
 pub mod Progress
 pub mod Answer
 pub mod Text
+pub mod Restart
 pub mod Online
 pub mod Plain
 pub mod Trans
@@ -46,3 +48,4 @@ pub mod NumberLaws
 pub mod RunLaws
 pub mod FaultLaws
 pub mod SortLaws
+pub mod RestartLaws

@@ -8,7 +8,7 @@ no_agent = record {
   sorts = [];
   fluents = [];
   actions = [];
-  firsts = record { fluents = []; actions = [] };
+  firsts = record { sizes = []; fluents = []; actions = [] };
   devices = [];
   poss = [];
   causes = [];

@@ -13,9 +13,9 @@ use Rattle.golog_semantics.specs.Answer.{is_unanswered}
 use Rattle.golog_semantics.specs.Text.{run_at, line_text, with_line_feed, report_text}
 use Rattle.golog_semantics.specs.Online.{fault_at, first_fault, is_whole, IsOnline, IsOnlineSoFar}
 
--- the entries of a report, with these runs
+-- the entries of a report, with these runs, from the agent's own start
 abbrev pub with_runs : List PlacedRun → Journal → Report
-with_runs runs journal = record { entries = journal; runs = runs }
+with_runs runs journal = record { entries = journal; runs = runs; start = None }
 
 module _ (journal : Journal) (e : Entry) where
   -- the journal with the entry at its end

@@ -1,5 +1,5 @@
 -- Reports that have a text, and the report that bytes spell.
-use Rattle.std.specs.Prelude.{◌≡◌, ℕ, ◌+◌, Bool, true, false, not, IsTrue, nat_lt, nat_le, ◌&&◌, is_some, List, [], ◌∷◌, length, map, slice_get}
+use Rattle.std.specs.Prelude.{◌≡◌, ℕ, ◌+◌, Bool, true, false, not, IsTrue, nat_lt, nat_le, ◌&&◌, is_some, IfSome, List, [], ◌∷◌, length, map, slice_get}
 use Rattle.std.specs.List.{list_any, list_all}
 use Rattle.std.specs.Option.{option_map_or}
 use Rattle.golog_tree.specs.declared.agent.Agent.{Agent}
@@ -13,16 +13,18 @@ use Rattle.golog_tree.specs.Ground.{sort_size}
 use Rattle.golog_semantics.specs.Values.{ground_fluents, fluent_sort}
 use Rattle.golog_semantics.specs.Ways.{is_empty}
 use Rattle.golog_semantics.specs.Journal.{Journal, action_item, commands}
-use Rattle.golog_semantics.specs.Text.{Text, at_each, report_text}
+use Rattle.golog_semantics.specs.Text.{Text, at_each}
+use Rattle.golog_semantics.specs.InSorts.{AreInSorts}
+use Rattle.golog_semantics.specs.Restart.{journal_text}
 use Rattle.golog_semantics.specs.Online.{is_result, label_of}
 
 -- the greatest number that a line may have
 abbrev pub place_limit : ℕ
-place_limit = 1048575
+place_limit = 2097151
 
 -- the most entries of a report
 abbrev pub entry_limit : ℕ
-entry_limit = 1048576
+entry_limit = 2097152
 
 module _ (agent : Agent) where
   -- an action of the program
@@ -77,8 +79,9 @@ pub record IsReport (agent : Agent) (report : Report) : Type 0 where
   pub runs : IsTrue (list_all (fits_run agent report.entries) report.runs)
   pub in_order : IsTrue (grow_from 0 (map (λ r. r.place) report.runs))
   pub in_bounds : IsTrue (nat_le (length report.entries) entry_limit)
+  pub start : IfSome report.start (AreInSorts agent)
 
 -- the bytes are the text of the report
 pub record SpellsReport (agent : Agent) (bytes : Text) (report : Report) : Type 0 where
   pub fits : IsReport agent report
-  pub text : bytes ≡ report_text agent report
+  pub text : bytes ≡ journal_text agent report

@@ -1,13 +1,14 @@
 -- Laws of sorts: values stay in the sorts of their fluents along a journal.
-use Rattle.std.specs.Prelude.{◌≡◌, ℕ, ◌<◌, IsTrue, ⊤, nat_lt, ◌==◌, ◌||◌, Some, List, [], ◌∷◌, length, Contains, slice_get, slice_index}
+use Rattle.std.specs.Prelude.{◌≡◌, ℕ, IsTrue, ⊤, Some, List, [], ◌∷◌, Contains, slice_get}
 use Rattle.golog_tree.specs.declared.agent.Agent.{Agent}
 use Rattle.golog_tree.specs.declared.agent.CauseItem.{CauseItem}
 use Rattle.golog_tree.specs.declared.prog.Label.{Label}
-use Rattle.golog_tree.specs.Ground.{Ground, sort_size, ground_actions, ground_fluents}
+use Rattle.golog_tree.specs.Ground.{Ground, ground_actions, ground_fluents}
 use Rattle.golog_semantics.specs.declared.journal.Entry.TheVariants.{Sense}
 use Rattle.golog_semantics.specs.declared.journal.Report.{Report}
-use Rattle.golog_semantics.specs.Truth.{Values, unknown, env_of, value_of}
+use Rattle.golog_semantics.specs.Truth.{Values, env_of, value_of}
 use Rattle.golog_semantics.specs.Values.{fluent_sort, cause_for, after}
+use Rattle.golog_semantics.specs.InSorts.{IsOf, AreInSorts}
 use Rattle.golog_semantics.specs.Journal.{Journal}
 use Rattle.golog_semantics.specs.Progress.{values_after}
 use Rattle.golog_semantics.specs.Online.{IsOnlineSoFar}
@@ -15,23 +16,14 @@ use Rattle.golog_semantics.specs.Reports.{is_value}
 use Rattle.golog_semantics.specs.WellFormed.{WellFormed}
 
 module _ (agent : Agent) where
-  -- a constant of the sort, or unknown
-  abbrev pub IsOf : ℕ → ℕ → Type 0
-  IsOf sort v = IsTrue (nat_lt v (sort_size agent sort) || v == unknown)
-
-  -- one value for each ground fluent, of its sort or unknown
-  pub record AreInSorts (values : Values) : Type 0 where
-    pub whole : length values ≡ length (ground_fluents agent)
-    pub sorted : (f : ℕ) → f < length values → IsOf (fluent_sort agent f) (slice_index values f)
-
   -- where a cause speaks of a ground fluent, its term is of the fluent's sort
   abbrev pub KeepsSorts : CauseItem → Type 0
   KeepsSorts cause =
-      (values : Values) → AreInSorts values
+      (values : Values) → AreInSorts agent values
       → (action : ℕ) (at : Ground) → slice_get (ground_actions agent) action ≡ Some at
       → (f : ℕ) (fluent : Ground) → slice_get (ground_fluents agent) f ≡ Some fluent
       → (found : List ℕ) → cause_for cause at fluent ≡ Some found
-      → IsOf (fluent_sort agent f) (value_of agent values cause.term (env_of found))
+      → IsOf agent (fluent_sort agent f) (value_of agent values cause.term (env_of found))
 
   -- each result in the journal is a value of its fluent
   abbrev pub ResultsFit : Journal → Type 0

@@ -1,10 +1,11 @@
 -- The text of a journal, line by line.
 use Rattle.std.specs.Prelude.{ℕ, pos, ◌+ℤ◌, not, ◌==◌, ◌&&◌, if◌then◌else◌, Option, List, [], ◌∷◌, ◌++◌, length, map, find, codes, decimal, slice_get, slice_index, option_map, option_and_then, unwrap_or}
-use Rattle.std.specs.List.{flat_map, zip, join_by}
+use Rattle.std.specs.List.{flat_map, zip, join_by, enumerate_from}
 use Rattle.std.specs.Option.{option_map_or}
 use Rattle.std.specs.Fmt.{signed_decimal}
 use Rattle.golog_tree.specs.declared.agent.Agent.{Agent}
 use Rattle.golog_tree.specs.declared.agent.ActionItem.{ActionItem}
+use Rattle.golog_tree.specs.declared.agent.FluentItem.{FluentItem}
 use Rattle.golog_tree.specs.declared.agent.SortItem.{SortItem}
 use Rattle.golog_tree.specs.declared.agent.SortItem.TheVariants.{Range, Listed}
 use Rattle.golog_tree.specs.declared.prog.Label.{Label}
@@ -18,7 +19,7 @@ use Rattle.golog_semantics.specs.declared.journal.Answer.TheVariants.{Done, Stuc
 use Rattle.golog_semantics.specs.declared.journal.PlacedRun.{PlacedRun}
 use Rattle.golog_semantics.specs.declared.journal.Report.{Report}
 use Rattle.golog_semantics.specs.Truth.{Values, is_known}
-use Rattle.golog_semantics.specs.Values.{Ground, ground_actions, fluent_sort}
+use Rattle.golog_semantics.specs.Values.{Ground, ground_actions, ground_fluents, fluent_sort}
 use Rattle.golog_semantics.specs.Journal.{Journal, device_of}
 use Rattle.golog_semantics.specs.Progress.{values_after}
 
@@ -79,12 +80,23 @@ module _ (agent : Agent) where
   abbrev pub ground_text : ActionItem → Ground → Text
   ground_text item at = item.name ++ args_text item.args at.1
 
+  -- the name of a fluent and the arguments
+  abbrev pub fluent_text_at : FluentItem → Ground → Text
+  fluent_text_at item at = item.name ++ args_text item.args at.1
+
   -- the text of a ground action, as `up` or `move(a,3)`
   abbrev pub action_text : ℕ → Text
   action_text action =
       let item_at = λ (at : Ground). slice_get agent.actions at.0 in
       let at_action = slice_get (ground_actions agent) action in
       unwrap_or (option_and_then (λ at. option_map (λ item. ground_text item at) (item_at at)) at_action) []
+
+  -- the text of a ground fluent, as `light` or `at(a,3)`
+  abbrev pub fluent_text : ℕ → Text
+  fluent_text fluent =
+      let item_at = λ (at : Ground). slice_get agent.fluents at.0 in
+      let at_fluent = slice_get (ground_fluents agent) fluent in
+      unwrap_or (option_and_then (λ at. option_map (λ item. fluent_text_at item at) (item_at at)) at_fluent) []
 
   -- the name of a device
   abbrev pub device_text : ℕ → Text
@@ -142,6 +154,23 @@ module _ (agent : Agent) where
   abbrev pub with_line_feed : Text → Text
   with_line_feed line = line ++ 10 ∷ []
 
-  -- the text of a report
+  -- a value of a ground fluent that a journal starts from, or that it is unknown
+  abbrev pub start_text : ℕ → ℕ → Text
+  start_text fluent value = if is_known value then value_text fluent value else codes "unknown"
+
+  -- the line of a ground fluent and the value that a journal starts from, without its line feed
+  abbrev pub start_line : ℕ × ℕ → Text
+  start_line (fluent, value) = codes "start " ++ fluent_text fluent ++ codes " " ++ start_text fluent value
+
+  -- the lines of a head: the version, the values that the journal starts from, and where its entries begin
+  abbrev pub head_lines : Values → List Text
+  head_lines values =
+      codes "golog 2" ∷ map start_line (enumerate_from 0 values) ++ codes "begin" ∷ []
+
+  -- the text of a head
+  unfoldable pub head_text : Values → Text
+  head_text values = flat_map with_line_feed (head_lines values)
+
+  -- the text of the entries of a report
   unfoldable pub report_text : Report → Text
   report_text report = flat_map with_line_feed (lines_of report)

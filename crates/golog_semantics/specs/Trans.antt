@@ -2,7 +2,8 @@
 --
 -- These are Trans and Final of "ConGolog" (2000), case by case, and the search block of De Giacomo and
 -- Levesque (1999) without a depth. Two things are this project's own: the program left is written without an
--- empty part, and a search block searches programs without blocks alone.
+-- empty part, and a search block searches programs without blocks alone. The steps are found by a recursion of
+-- bounded depth; that those of a guarded agent satisfy each axiom is the law `trans_unfolds` of golog_certain.
 use Rattle.std.specs.Prelude.{◌≡◌, ℕ, zero, suc, ◌<◌, IsTrue, ◌⊎◌, [], map}
 use Rattle.golog_tree.specs.declared.agent.Agent.{Agent}
 use Rattle.golog_tree.specs.declared.prog.Prog.{Prog}
@@ -95,7 +96,7 @@ module _ (agent : Agent) (world : Values) where
     trans_to zero p label left = ⊥
     trans_to (suc n) p label left = trans_step (trans_to n) (out-Prog p) label left
 
-    -- the steps, looking as deep as the program leads without one
+    -- the steps, looking as deep as the program leads without one, which is as deep as the axioms need
     abbrev pub trans_with : Prog → Steps
     trans_with p = trans_to (front agent p).height p
 

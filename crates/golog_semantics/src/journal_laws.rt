@@ -3,6 +3,7 @@ ghost use Rattle.golog_semantics.specs.OneMore.{OneMoreEntry, OneMorePosted, One
 ghost use Rattle.golog_semantics.specs.FaultLaws.{NoFaultIsOnline};
 ghost use Rattle.golog_semantics.specs.ReportLaws.{NamesTellApart};
 ghost use Rattle.golog_semantics.specs.SortLaws.{SortsStay, StartsAreInSorts, ValuesStayInSorts, StepsStayInSorts, OnlineStaysInSorts};
+ghost use Rattle.golog_semantics.specs.RestartLaws.{RestartedIsWellFormed};
 ghost use Rattle.golog_semantics.specs.NumberLaws.{GroundThingsHaveOneNumber};
 ghost use Rattle.golog_semantics.specs.RunLaws.{BestIsLeast, RunsAreSound, LevelsAreReached};
 
@@ -119,4 +120,9 @@ pub fn steps_stay_in_sorts()
 /// online execution so far.
 pub fn online_stays_in_sorts()
     ensures { OnlineStaysInSorts }
+{}
+
+/// A well-formed agent may start from any values in their sorts, or unknown.
+pub fn restarted_is_well_formed()
+    ensures { RestartedIsWellFormed }
 {}

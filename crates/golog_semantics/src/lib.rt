@@ -12,8 +12,8 @@ pub use journal_laws::{
     best_is_least, ground_things_have_one_number, later_runs_change_nothing, levels_are_reached,
     names_tell_apart, new_runs_are_found, no_fault_is_online, nothing_without_devices,
     one_more_command, one_more_entry, one_more_line, one_more_posted, one_more_step,
-    online_is_whole, online_stays_in_sorts, runs_are_sound, sorts_stay, starts_are_in_sorts,
-    steps_stay_in_sorts, values_stay_in_sorts,
+    online_is_whole, online_stays_in_sorts, restarted_is_well_formed, runs_are_sound, sorts_stay,
+    starts_are_in_sorts, steps_stay_in_sorts, values_stay_in_sorts,
 };
 pub use laws::{faults_of_one_more, same_programs};
 pub use search::{Block, Move};

@@ -1,16 +1,14 @@
 -- What the code of ground numbers rests on: counts are small, and arguments are found one after another.
-use Rattle.std.proofs.Common.{◌≡◌, ℕ, zero, suc, ◌+◌, ◌-◌, ◌*◌, ◌/◌, ◌%◌, ◌<◌, ◌≤◌, List, [], ◌∷◌, ◌++◌, length, map, take, drop, get_or, Some, None, refl, sym, ap, ◌∙◌, subst, arith}
-use Rattle.std.specs.Prelude.{All, slice_get, slice_set, sum_by, replicate}
+use Rattle.std.proofs.Common.{◌≡◌, ℕ, zero, suc, ◌+◌, ◌-◌, ◌*◌, add-mul, mul_assoc, le-mul_of_pos_right, ◌/◌, ◌%◌, ◌<◌, ◌≤◌, List, [], ◌∷◌, ◌++◌, length, map, take, drop, get_or, Some, refl, sym, ap, ◌∙◌, subst, arith}
+use Rattle.std.specs.Prelude.{All, slice_get, slice_set, sum_by, replicate, unwrap_or}
 use Rattle.std.proofs.Math.Nat.{mul-zero, zero-mul}
 use Rattle.std.proofs.lemmas.Nat.{mul-le}
 use Rattle.std.proofs.lemmas.List.{take_all, length-drop, length-map}
-use Rattle.std.proofs.lemmas.List.Sums.{sum_by-cons}
 use Rattle.std.proofs.lemmas.List.Elements.{All-get_or}
-use Rattle.std.proofs.lemmas.Option.{slice_get-get_or, slice_get_past}
 use Rattle.golog_tree.specs.declared.agent.Agent.{Agent}
 use Rattle.golog_tree.specs.declared.agent.SortItem.{SortItem}
 use Rattle.golog_tree.specs.declared.ground.Ground.{Ground}
-use Rattle.golog_tree.specs.Ground.{product, sizes, place_of, args_of, args_at, all_from, number_of, ground_count, item_size, size_at, sort_size, AreWithin, IsCountable}
+use Rattle.golog_tree.specs.Ground.{product, sizes, place_of, args_of, args_at, all_from, item_size, size_at, sort_size, AreWithin, IsCountable}
 use Rattle.golog_tree.specs.Numbered.{IsGround}
 use Rattle.golog_tree.proofs.Places.{place-below, args_of-within, place_of-args_of, length-args_of}
 use Rattle.golog_tree.proofs.Numbers.{get-at-place}
@@ -23,6 +21,16 @@ size_at-small (item ∷ items) (suc n) h = size_at-small items n (λ k d l. h (s
 -- a sort has at most 255 constants
 pub sort_size-small : (agent : Agent) (sort : ℕ) → IsCountable agent → sort_size agent sort ≤ 255
 sort_size-small agent sort h = size_at-small agent.sorts sort h.sorts
+
+size_at-counted : (items : List SortItem) (n : ℕ) → size_at (slice_get items n) ≡ unwrap_or (slice_get (map item_size items) n) 0
+size_at-counted [] n = refl
+size_at-counted (item ∷ items) zero = refl
+size_at-counted (item ∷ items) (suc n) = size_at-counted items n
+
+-- the size of a sort is the one that was counted
+pub size-counted : (agent : Agent) (sort : ℕ) → IsCountable agent → sort_size agent sort ≡ unwrap_or (slice_get agent.firsts.sizes sort) 0
+size-counted agent sort h =
+    size_at-counted agent.sorts sort ∙ ap (λ counted. unwrap_or (slice_get counted sort) 0) (sym h.sizes)
 
 -- three sorts have few lists of arguments
 pub product-small : (agent : Agent) (sorts : List ℕ) → IsCountable agent → length sorts ≤ 3 → product (sizes agent sorts) ≤ 16581375
@@ -134,15 +142,50 @@ found-all agent sorts args i place l e =
     let t : take i xs ≡ xs = take_all i xs (omega (arith, l, length-found agent sorts place)) in
     e ∙ ap (λ ys. ys ++ replicate (3 - i) 0) t ∙ ap (λ j. xs ++ replicate (3 - j) 0) l
 
--- the parts of a place that is small are small
-pub parts-small : (agent : Agent) (sorts args : List ℕ) (s a : ℕ) (ss later : List ℕ) → sorts ≡ s ∷ ss → args ≡ a ∷ later
-    → IsCountable agent → length sorts ≤ 3 → AreWithin (sizes agent sorts) args
-    → a * product (sizes agent ss) + place_of (sizes agent ss) later < 16581375
-parts-small agent sorts args s a ss later e k h l fits =
-    let P : List ℕ → List ℕ → Type 0 = λ xs ys. AreWithin (sizes agent xs) ys in
-    let one : P (s ∷ ss) args = subst (λ xs. P xs args) e fits in
-    let both : P (s ∷ ss) (a ∷ later) = subst (λ ys. P (s ∷ ss) ys) k one in
-    place-small agent (s ∷ ss) (a ∷ later) h (subst (λ xs. length xs ≤ 3) e l) both
+module _ (agent : Agent) where
+  -- A pass over arguments has come to a place among those of the first of them, where it holds this of the whole
+  -- place.
+  abbrev pub IsPassed : List ℕ → List ℕ → ℕ → ℕ → ℕ → Type 0
+  IsPassed sorts args i place whole =
+      place * product (sizes agent (drop i sorts)) + place_of (sizes agent (drop i sorts)) (drop i args) ≡ whole
+
+  -- one argument more
+  pub passed-more : (sorts args : List ℕ) (i place whole : ℕ) → i < length sorts → AreWithin (sizes agent sorts) args
+      → IsPassed sorts args i place whole
+      → IsPassed sorts args (suc i) (place * sort_size agent (get_or sorts i 0) + get_or args i 0) whole
+  passed-more [] args i place whole l fits h = absurd (omega (arith, l))
+  passed-more (sort ∷ sorts) [] i place whole l fits h = absurd fits
+  passed-more (sort ∷ sorts) (arg ∷ args) zero place whole l fits h =
+      let n = sort_size agent sort in
+      let w = product (sizes agent sorts) in
+      let e : (place * n + arg) * w ≡ place * (n * w) + arg * w =
+      add-mul (place * n) arg w ∙ ap (λ x. x + arg * w) (mul_assoc place n w) in
+      omega (arith, e, h)
+  passed-more (sort ∷ sorts) (arg ∷ args) (suc i) place whole l fits h =
+      passed-more sorts args i place whole (omega (arith, l)) fits.1 h
+
+  -- what is behind the first of these arguments is within its sorts
+  within-behind : (sorts args : List ℕ) (i : ℕ) → AreWithin (sizes agent sorts) args → AreWithin (sizes agent (drop i sorts)) (drop i args)
+  within-behind sorts args zero fits = fits
+  within-behind [] [] (suc i) fits = tt
+  within-behind [] (arg ∷ args) (suc i) fits = absurd fits
+  within-behind (sort ∷ sorts) [] (suc i) fits = absurd fits
+  within-behind (sort ∷ sorts) (arg ∷ args) (suc i) fits = within-behind sorts args i fits.1
+
+  -- a place so far is at most the whole place
+  pub passed-small : (sorts args : List ℕ) (i place whole : ℕ) → AreWithin (sizes agent sorts) args
+      → IsPassed sorts args i place whole → place ≤ whole
+  passed-small sorts args i place whole fits h =
+      let below = place-below (sizes agent (drop i sorts)) (drop i args) (within-behind sorts args i fits) in
+      let m : place ≤ place * product (sizes agent (drop i sorts)) = le-mul_of_pos_right place (omega (arith, below)) in
+      omega (arith, h, m)
+
+  -- all arguments are passed
+  pub passed-all : (sorts args : List ℕ) (place whole : ℕ) → AreWithin (sizes agent sorts) args
+      → IsPassed sorts args (length sorts) place whole → place ≡ whole
+  passed-all [] args place whole fits h = omega (arith, h)
+  passed-all (sort ∷ sorts) [] place whole fits h = absurd fits
+  passed-all (sort ∷ sorts) (arg ∷ args) place whole fits h = passed-all sorts args place whole fits.1 h
 
 module _ (agent : Agent) (items : List (List ℕ)) (number item place : ℕ) (ground : Ground) where
   -- the ground thing that is made of an item and a place among its arguments

@@ -106,17 +106,18 @@ ground_count agent items = sum_by (λ sorts. product (sizes agent sorts)) items
 abbrev pub firsts_of : Agent → List (List ℕ) → List ℕ
 firsts_of agent items = map (λ item. ground_count agent (take item items)) (range_with_len 0 (length items))
 
--- the agent, where each item has the number of its first ground thing
+-- the agent, where each sort has its size, and each item the number of its first ground thing
 abbrev pub numbered : Agent → Agent
 numbered agent = record agent {
   firsts = record {
+    sizes = map item_size agent.sorts;
     fluents = firsts_of agent (fluent_args agent);
     actions = firsts_of agent (action_args agent);
   };
 }
 
 -- Sorts have few enough constants, items few enough arguments, and items and ground things are few
--- enough, that each ground thing has its number, and each item has that of its first one.
+-- enough, that each ground thing has its number; each sort has its size, and each item the number of its first one.
 pub record IsCountable (agent : Agent) : Type 0 where
   pub sorts : All (λ item. item_size item ≤ 255) agent.sorts
   pub fluent_arities : All (λ args. length args ≤ 3) (fluent_args agent)
@@ -125,5 +126,6 @@ pub record IsCountable (agent : Agent) : Type 0 where
   pub actions : length agent.actions ≤ 65536
   pub ground_fluents : ground_count agent (fluent_args agent) ≤ 4096
   pub ground_actions : ground_count agent (action_args agent) ≤ 65536
+  pub sizes : agent.firsts.sizes ≡ map item_size agent.sorts
   pub first_fluents : agent.firsts.fluents ≡ firsts_of agent (fluent_args agent)
   pub first_actions : agent.firsts.actions ≡ firsts_of agent (action_args agent)

@@ -20,10 +20,11 @@ pub struct Agent {
     pub main: Prog,
 }
 
-/// The number of the first ground fluent of each fluent, and of the first ground action of each action: how many
-/// ground ones those before it have.
+/// What ground things are counted by: how many constants each sort has, and the number of the first ground fluent of
+/// each fluent, and of the first ground action of each action, which is how many ground ones those before it have.
 #[derive(Drop)]
 pub struct Firsts {
+    pub sizes: List<u32>,
     pub fluents: List<u32>,
     pub actions: List<u32>,
 }
@@ -72,12 +73,14 @@ pub struct CauseItem {
     pub cond: Cond,
 }
 
-/// The fluent whose value an action's result tells. The action's arguments are the variables from 0 on.
+/// The fluent whose value an action's result tells. The action's arguments are the variables from 0 on. The program
+/// waits for the result, unless it may come later.
 #[derive(Drop)]
 pub struct SenseItem {
     pub action: u32,
     pub fluent: u32,
     pub args: List<Arg>,
+    pub later: bool,
 }
 
 /// A procedure: the sorts of its parameters, which are the variables from 0 on, and its body.

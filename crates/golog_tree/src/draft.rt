@@ -90,13 +90,15 @@ pub struct DraftCause {
     pub at: Place,
 }
 
-/// The fluent whose value an action's result tells, and the words of the action's arguments in order.
+/// The fluent whose value an action's result tells, and the words of the action's arguments in order. The result may
+/// come later where the item says so.
 #[derive(Drop)]
 pub struct DraftSense {
     pub action: u32,
     pub vars: List<Word>,
     pub fluent: u32,
     pub args: List<DraftArg>,
+    pub later: bool,
     pub at: Place,
 }
 

@@ -63,8 +63,8 @@ pub fn sort_size(agent: &Agent, sort: u32) -> u32
     ensures size { result ≡ spec_sort_size agent.now sort }
     ensures small { result ≤ 255 }
 {
-    match agent.sorts.as_slice().get(sort as usize) {
-        Some(item) => item_size(item),
+    match agent.firsts.sizes.as_slice().get(sort as usize) {
+        Some(size) => *size,
         None => 0,
     }
 }
@@ -93,19 +93,19 @@ pub fn action_count(agent: &Agent) -> u32
     count
 }
 
-/// The place of arguments among all of these sorts, the last varying fastest.
+/// The place of arguments among all of these sorts, the last varying fastest: one pass over them, in which the place so
+/// far is told among the places of one more argument (Horner's method).
 fn place_of(agent: &Agent, sorts: &[u32], args: &[u8]) -> u32
     requires countable { IsCountable agent.now }
     requires few { length sorts.now ≤ 3 }
     requires fits { AreWithin (sizes agent.now sorts.now) args.now }
     ensures { result ≡ spec_place_of (sizes agent.now sorts.now) args.now }
 {
-    match (sorts.split_first(), args.split_first()) {
-        (Some((_, sorts)), Some((arg, args))) => {
-            u32::from(*arg) * args_count(agent, sorts) + place_of(agent, sorts, args)
-        }
-        _ => 0,
+    let mut place = 0;
+    for (index, sort) in sorts.iter().enumerate() {
+        place = place * sort_size(agent, *sort) + u32::from(args[index]);
     }
+    place
 }
 
 /// The number of the ground thing of an item, where those of the items before it come first.
