@@ -24,7 +24,7 @@ use Rattle.golog_semantics.specs.Blocks.{moves, ways}
 use Rattle.golog_semantics.specs.Same.{same_label, same_prog}
 use Rattle.golog_semantics.specs.Answer.{answer_at, first_that_fits, is_deep, is_unanswered}
 use Rattle.golog_semantics.specs.Certain.{CertainIsTrans, EntryIsSo, IsStuckIn, JournalIsSo, TransIsPossible}
-use Rattle.golog_semantics.specs.Journal.{Journal, count, is_full, is_quiet, is_settled, limit}
+use Rattle.golog_semantics.specs.Journal.{Journal, count, is_full, is_quiet, is_settled, lacks_results, limit, may_be_answered}
 use Rattle.golog_semantics.specs.Online.{IsOnlineSoFar, Keeps, is_first, keeps_answer, label_of, may_step, same_answer}
 use Rattle.golog_semantics.specs.Plain.{plain}
 use Rattle.golog_semantics.specs.Progress.{after_entry, left_after, left_at, left_by, values_after}
@@ -53,7 +53,7 @@ set_cases (v ∷ values) (suc fluent) value (suc f) = elim (set_cases values flu
 
 module _ (agent : Agent) where
   -- a result that the world shows
-  set_refines : (values world : Values) → Refines values world → (fluent value : ℕ) → slice_index world fluent ≡ value → Refines (slice_set values fluent value) world
+  pub set_refines : (values world : Values) → Refines values world → (fluent value : ℕ) → slice_index world fluent ≡ value → Refines (slice_set values fluent value) world
   set_refines values world r fluent value shown = record {
     whole = r.whole ∙ sym (length-set values fluent value);
     same = λ f known. at f known (set_cases values fluent value f);
@@ -75,7 +75,7 @@ module _ (agent : Agent) where
   entry_refines values world r (Close poster reason taken) s = r
   entry_refines values world r (End answer) s = r
 
-  entries_refine : (values world : Values) → Refines values world → (journal : Journal) → Agrees agent world journal
+  pub entries_refine : (values world : Values) → Refines values world → (journal : Journal) → Agrees agent world journal
       → Refines (fold (after_entry agent) values journal) (fold (world_entry agent) world journal)
   entries_refine values world r [] h = r
   entries_refine values world r (e ∷ journal) h = entries_refine (after_entry agent values e) (world_entry agent world e) (entry_refines values world r e h.0) journal h.1
@@ -86,27 +86,29 @@ label-eq l k h =
     (same_way-eq (record { label = l; left = prog.Nil }) (record { label = k; left = prog.Nil }) (and_both (same_label l k) (same_prog prog.Nil prog.Nil) h (same_prog-same prog.Nil)))
 
 -- the answer of a program, by the tests that are asked for it
-abbrev answer_by : (full unanswered unsettled final deep steps unquiet near may : Bool) → Option Answer
-answer_by full unanswered unsettled final deep steps unquiet near may =
+abbrev answer_by : (full unanswered unsettled comes final deep steps unquiet lacks near may : Bool) → Option Answer
+answer_by full unanswered unsettled comes final deep steps unquiet lacks near may =
     first_that_fits
-    ((full, Some Full) ∷ (unanswered, Some Unanswered) ∷ (unsettled, None) ∷ (final, Some Done) ∷ (deep, Some Deep)
-    ∷ (steps, None) ∷ (unquiet, None) ∷ (near, Some Unknown) ∷ (may, Some Depth) ∷ [])
+    ((full, Some Full) ∷ (unanswered, Some Unanswered) ∷ (unsettled, None) ∷ (comes, None) ∷ (final, Some Done) ∷ (deep, Some Deep)
+    ∷ (steps, None) ∷ (unquiet, None) ∷ (lacks, Some Unanswered) ∷ (near, Some Unknown) ∷ (may, Some Depth) ∷ [])
     (Some Stuck)
 
 -- done tells of a certain end, and stuck that no end is near and no step possible
-told : (full unanswered unsettled final deep steps unquiet near may : Bool)
-    → (same_answer (answer_by full unanswered unsettled final deep steps unquiet near may) Done ≡ true → final ≡ true)
-    × (same_answer (answer_by full unanswered unsettled final deep steps unquiet near may) Stuck ≡ true → (near ≡ false) × (may ≡ false))
-told true u s f d m q n y = ((λ k. absurd (cc)), (λ k. absurd (cc)))
-told false true s f d m q n y = ((λ k. absurd (cc)), (λ k. absurd (cc)))
-told false false true f d m q n y = ((λ k. absurd (cc)), (λ k. absurd (cc)))
-told false false false true d m q n y = ((λ k. refl), (λ k. absurd (cc)))
-told false false false false true m q n y = ((λ k. absurd (cc)), (λ k. absurd (cc)))
-told false false false false false true q n y = ((λ k. absurd (cc)), (λ k. absurd (cc)))
-told false false false false false false true n y = ((λ k. absurd (cc)), (λ k. absurd (cc)))
-told false false false false false false false true y = ((λ k. absurd (cc)), (λ k. absurd (cc)))
-told false false false false false false false false true = ((λ k. absurd (cc)), (λ k. absurd (cc)))
-told false false false false false false false false false = ((λ k. absurd (cc)), (λ k. (refl, refl)))
+told : (full unanswered unsettled comes final deep steps unquiet lacks near may : Bool)
+    → (same_answer (answer_by full unanswered unsettled comes final deep steps unquiet lacks near may) Done ≡ true → final ≡ true)
+    × (same_answer (answer_by full unanswered unsettled comes final deep steps unquiet lacks near may) Stuck ≡ true → (near ≡ false) × (may ≡ false))
+told true u s c f d m q l n y = ((λ k. absurd (cc)), (λ k. absurd (cc)))
+told false true s c f d m q l n y = ((λ k. absurd (cc)), (λ k. absurd (cc)))
+told false false true c f d m q l n y = ((λ k. absurd (cc)), (λ k. absurd (cc)))
+told false false false true f d m q l n y = ((λ k. absurd (cc)), (λ k. absurd (cc)))
+told false false false false true d m q l n y = ((λ k. refl), (λ k. absurd (cc)))
+told false false false false false true m q l n y = ((λ k. absurd (cc)), (λ k. absurd (cc)))
+told false false false false false false true q l n y = ((λ k. absurd (cc)), (λ k. absurd (cc)))
+told false false false false false false false true l n y = ((λ k. absurd (cc)), (λ k. absurd (cc)))
+told false false false false false false false false true n y = ((λ k. absurd (cc)), (λ k. absurd (cc)))
+told false false false false false false false false false true y = ((λ k. absurd (cc)), (λ k. absurd (cc)))
+told false false false false false false false false false false true = ((λ k. absurd (cc)), (λ k. absurd (cc)))
+told false false false false false false false false false false false = ((λ k. absurd (cc)), (λ k. (refl, refl)))
 
 module _ (agent : Agent) (w : WellFormed agent) (before : Journal) (world : Values) (r : Refines (values_after agent before) world) where
   abbrev values : Values
@@ -146,8 +148,9 @@ module _ (agent : Agent) (w : WellFormed agent) (before : Journal) (world : Valu
       × (same_answer (answer_at agent before values p) Stuck ≡ true
       → ((not (is_empty (moves agent values Near p)) || final agent values Near p) ≡ false) × (not (is_empty (moves agent values May p)) ≡ false))
   answers_tell =
-      told (is_full before) (is_unanswered agent before) (not (is_settled agent before)) (final agent values Must p) (is_deep (moves agent values Must p))
-      (not (is_empty (moves agent values Must p))) (not (is_quiet agent before)) (not (is_empty (moves agent values Near p)) || final agent values Near p)
+      told (is_full before) (is_unanswered agent before) (not (is_settled agent before)) (final agent values Must p && may_be_answered agent before)
+      (final agent values Must p) (is_deep (moves agent values Must p)) (not (is_empty (moves agent values Must p))) (not (is_quiet agent before))
+      (lacks_results agent before) (not (is_empty (moves agent values Near p)) || final agent values Near p)
       (not (is_empty (moves agent values May p)))
 
   stuck_so : same_answer (answer_at agent before values p) Stuck ≡ true → IsStuckIn agent world (plain p)

@@ -14,3 +14,5 @@ pub mod BodiesPlain
 pub mod FittingParts
 pub mod StepsSo
 pub mod JournalSo
+pub mod TransUnfolded
+pub mod WorldsComplete

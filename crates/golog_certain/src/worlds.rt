@@ -1,11 +1,13 @@
 //! Laws of what certain means: what is certain is so in each world in which all is so that is known.
 ghost use Rattle.golog_certain.specs.CertainLaws.{AllStepsAreSo, JournalsAreSo};
+ghost use Rattle.golog_certain.specs.CompleteLaws.{WorldsStayComplete};
 ghost use Rattle.golog_certain.specs.SearchLaws.{
   BodiesArePlain,
   BodiesStayWithin,
   EndsAreFoundOrCut,
   WorldBlocksArePossible,
 };
+ghost use Rattle.golog_certain.specs.TransLaws.{TransUnfolds};
 ghost use Rattle.golog_certain.specs.WorldLaws.{CertainBlocksAreSo, PlainStepsAreSo, RunsLead};
 
 /// Without blocks, the certain steps are steps of each world in which all is so that is known, and the
@@ -59,4 +61,17 @@ pub fn steps_are_so()
 /// neither step nor end where it says stuck.
 pub fn journals_are_so()
     ensures { JournalsAreSo }
+{}
+
+/// For a guarded agent, each step of a program in a world is one by the published axiom of Trans for its one
+/// construct (ConGolog 2000), and each such step is one of the program. (That it need not be looked deeper is
+/// this project's own.)
+pub fn trans_unfolds()
+    ensures { TransUnfolds }
+{}
+
+/// In a complete world of a well-formed agent no condition is unknown, so actions keep it complete, and so do
+/// the entries of a journal. (This project's own.)
+pub fn worlds_stay_complete()
+    ensures { WorldsStayComplete }
 {}

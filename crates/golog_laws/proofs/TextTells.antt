@@ -15,6 +15,7 @@ use Rattle.golog_semantics.specs.Online.{label_of}
 use Rattle.golog_semantics.specs.Reports.{fits_entry, fits_run, place_limit}
 use Rattle.golog_semantics.specs.ReportLaws.{TellsApart}
 use Rattle.golog_laws.specs.TextLaws.{TextTellsReports, OneReportIsSpelled}
+use Rattle.golog_semantics.proofs.Starts.{own_text}
 use Rattle.golog_semantics.proofs.Words.{and-left, and-right}
 use Rattle.golog_semantics.proofs.Fits.{HasRun}
 use Rattle.golog_laws.proofs.Bodies.{IsStep, bodies_tell}
@@ -80,16 +81,19 @@ module _ (agent : Agent) (apart : TellsApart agent) (runs others : List PlacedRu
 
 pub text_tells : TextTellsReports
 unfolding report_text
-text_tells agent apart one other f g e =
+text_tells agent apart one other f g own also e =
     let has = λ (k : ℕ). has_run agent one.entries one.runs k f.runs in
     let have = λ (k : ℕ). has_run agent other.entries other.runs k g.runs in
     let bound : length one.entries ≤ place_limit + 1 = leb-true (length one.entries) (place_limit + 1) f.in_bounds in
     let start : length {A = Entry} [] + length one.entries ≤ place_limit + 1 = omega arith in
     let told = entries_tell agent apart one.runs other.runs has have [] one.entries other.entries start f.entries g.entries e in
     let fits : list_all (fits_run agent one.entries) other.runs ≡ true = subst (λ es. list_all (fits_run agent es) other.runs ≡ true) (sym told.0) g.runs in
+    let start-so : one.start ≡ other.start = own ∙ sym also in
     let runs = runs_tell agent one.entries 0 one.runs other.runs f.in_order g.in_order f.runs fits
     (λ k past p. ap (run_at one.runs) (sym (zero-add k)) ∙ same-at agent apart one.runs other.runs has have 0 one.entries k told.1 p ∙ ap (run_at other.runs) (zero-add k)) in
-    (λ i. record { entries = told.0 i; runs = runs i })
+    (λ i. record { entries = told.0 i; runs = runs i; start = start-so i })
 
 pub one_is_spelled : OneReportIsSpelled
-one_is_spelled agent apart bytes one other f g = text_tells agent apart one other f.fits g.fits (sym f.text ∙ g.text)
+one_is_spelled agent apart bytes one other f g own also =
+    text_tells agent apart one other f.fits g.fits own also
+    (sym (own_text agent one own) ∙ sym f.text ∙ g.text ∙ own_text agent other also)

@@ -15,6 +15,7 @@ use Rattle.golog_semantics.specs.Search.{final, plain_ways, runs, best}
 use Rattle.golog_semantics.specs.Blocks.{moves, work}
 use Rattle.golog_semantics.specs.Heavy.{heavy}
 use Rattle.golog_semantics.specs.Answer.{answer_after}
+use Rattle.golog_semantics.specs.OneMore.{with_runs}
 use Rattle.golog_semantics.specs.Online.{fault_of, first_fault}
 use Rattle.golog_semantics.specs.Trans.{TransW}
 use Rattle.golog_semantics.specs.Inline.{lead}
@@ -22,19 +23,19 @@ use Rattle.golog_laws.specs.Theories.{one_effect, one_fluent, floors, world, lif
 use Rattle.golog_laws.specs.WrongExamples.{FailsAt, effect_and_test, unknown_test, climb, ahead, journey, idle_lift, before_end, WrongJournals, StepsInWorlds, ScriptedTurns}
 use Rattle.golog_semantics.proofs.Computed.{computing}
 
-not_stuck : FailsAt unknown_test (record { entries = End answer.Stuck ∷ []; runs = [] }) 0 why.Answer
+not_stuck : FailsAt unknown_test (with_runs [] (End answer.Stuck ∷ [])) 0 why.Answer
 unfolding fault_of first_fault proc_fronts env_of final plain_ways runs best moves work heavy one_fluent digits
 not_stuck = simp computing refl
 
-no_test : FailsAt (floors (0 ∷ 0 ∷ []) climb) (record { entries = Do 2 ∷ Do 2 ∷ Test ∷ []; runs = [] }) 2 why.Step
+no_test : FailsAt (floors (0 ∷ 0 ∷ []) climb) (with_runs [] (Do 2 ∷ Do 2 ∷ Test ∷ [])) 2 why.Step
 unfolding fault_of first_fault proc_fronts env_of final plain_ways runs best moves work heavy floors digits
 no_test = simp computing refl
 
-run_left_out : FailsAt journey (record { entries = Exo 0 5 ∷ Do 2 ∷ []; runs = [] }) 1 why.Run
+run_left_out : FailsAt journey (with_runs [] (Exo 0 5 ∷ Do 2 ∷ [])) 1 why.Run
 unfolding fault_of first_fault proc_fronts env_of final plain_ways runs best moves work heavy world digits
 run_left_out = simp computing refl
 
-misspelt : fault_of effect_and_test (Some (codes "0 do a" ∷ codes "1 test run -" ∷ [])) (record { entries = Do 2 ∷ Test ∷ []; runs = [] }) ≡ Some (record { place = 1; why = why.Text })
+misspelt : fault_of effect_and_test (Some (codes "0 do a" ∷ codes "1 test run -" ∷ [])) (with_runs [] (Do 2 ∷ Test ∷ [])) ≡ Some (record { place = 1; why = why.Text })
 unfolding fault_of first_fault proc_fronts env_of final plain_ways runs best moves work heavy one_effect digits
 misspelt = simp computing refl
 

@@ -11,6 +11,7 @@ use Rattle.golog_semantics.specs.declared.journal.Reason.TheVariants.{Ended, Bad
 use Rattle.golog_semantics.specs.declared.journal.Answer.TheVariants as answer
 use Rattle.golog_semantics.specs.declared.journal.Report.{Report}
 use Rattle.golog_semantics.specs.Text.{Text, report_text}
+use Rattle.golog_semantics.specs.OneMore.{with_runs}
 use Rattle.golog_semantics.specs.Online.{IsOnline}
 use Rattle.golog_laws.specs.Theories.{one_effect, bare, one_fluent, floors, priorities, door, world, two, recursive, unsure, two_floors, lift}
 
@@ -25,10 +26,7 @@ TestedEffect =
     Shows
     (one_effect (0 ∷ 0 ∷ [])
     (prog.Seq (prog.Act 2 []) (prog.Test (cond.Is 1 []))))
-    (record {
-      entries = Do 2 ∷ Test ∷ End answer.Done ∷ [];
-      runs = [];
-    })
+    (with_runs [] (Do 2 ∷ Test ∷ End answer.Done ∷ []))
     (codes "0 do a\n1 test\n2 end done\n")
 
 -- a program that may end at once
@@ -37,10 +35,7 @@ NothingToDo =
     Shows
     (bare (0 ∷ [])
     prog.Nil)
-    (record {
-      entries = End answer.Done ∷ [];
-      runs = [];
-    })
+    (with_runs [] (End answer.Done ∷ []))
     (codes "0 end done\n")
 
 -- a test that is false: the program is stuck
@@ -49,10 +44,7 @@ FalseTest =
     Shows
     (one_fluent (0 ∷ 0 ∷ [])
     (prog.Test (cond.Is 1 [])))
-    (record {
-      entries = End answer.Stuck ∷ [];
-      runs = [];
-    })
+    (with_runs [] (End answer.Stuck ∷ []))
     (codes "0 end stuck\n")
 
 -- a test that is unknown: whether the program may go on is unknown
@@ -61,10 +53,7 @@ UnknownTest =
     Shows
     (one_fluent (0 ∷ 255 ∷ [])
     (prog.Test (cond.Is 1 [])))
-    (record {
-      entries = End answer.Unknown ∷ [];
-      runs = [];
-    })
+    (with_runs [] (End answer.Unknown ∷ []))
     (codes "0 end unknown\n")
 
 -- a program that may end does so, though it could go on
@@ -73,10 +62,7 @@ NoClimb =
     Shows
     (floors (0 ∷ 0 ∷ [])
     (prog.Star (prog.Act 2 [])))
-    (record {
-      entries = End answer.Done ∷ [];
-      runs = [];
-    })
+    (with_runs [] (End answer.Done ∷ []))
     (codes "0 end done\n")
 
 -- outside a block the first way is taken, as long as there is one, past where the test would hold
@@ -85,10 +71,7 @@ BlindClimb =
     Shows
     (floors (0 ∷ 0 ∷ [])
     (prog.Seq (prog.Star (prog.Act 2 [])) (prog.Test (cond.Equal 1 (term.Fluent 1 []) (term.Arg (Const 1))))))
-    (record {
-      entries = Do 2 ∷ Do 2 ∷ Do 2 ∷ End answer.Stuck ∷ [];
-      runs = [];
-    })
+    (with_runs [] (Do 2 ∷ Do 2 ∷ Do 2 ∷ End answer.Stuck ∷ []))
     (codes "0 do up\n1 do up\n2 do up\n3 end stuck\n")
 
 -- a block looks ahead, and prints the run that it begins
@@ -98,10 +81,8 @@ SearchedClimb =
     (floors (0 ∷ 0 ∷ [])
     (prog.Search 8 1000 (prog.Seq (prog.Star (prog.Act 2 []))
     (prog.Test (cond.Equal 1 (term.Fluent 1 []) (term.Arg (Const 1)))))))
-    (record {
-      entries = Do 2 ∷ Test ∷ End answer.Done ∷ [];
-      runs = record { place = 0; labels = Doing 2 ∷ Quiet ∷ [] } ∷ [];
-    })
+    (with_runs (record { place = 0; labels = Doing 2 ∷ Quiet ∷ [] } ∷ [])
+    (Do 2 ∷ Test ∷ End answer.Done ∷ []))
     (codes "0 do up run up; -\n1 test\n2 end done\n")
 
 -- a lower part waits while the higher one may perhaps go on
@@ -110,10 +91,7 @@ UnknownPriority =
     Shows
     (priorities (0 ∷ 255 ∷ [])
     (prog.Prio (prog.Seq (prog.Test (cond.Is 1 [])) (prog.Act 2 [])) (prog.Act 3 [])))
-    (record {
-      entries = End answer.Unknown ∷ [];
-      runs = [];
-    })
+    (with_runs [] (End answer.Unknown ∷ []))
     (codes "0 end unknown\n")
 
 -- a lower part goes on where the higher one certainly may not
@@ -122,10 +100,7 @@ FalsePriority =
     Shows
     (priorities (0 ∷ 0 ∷ [])
     (prog.Prio (prog.Seq (prog.Test (cond.Is 1 [])) (prog.Act 2 [])) (prog.Act 3 [])))
-    (record {
-      entries = Do 3 ∷ End answer.Stuck ∷ [];
-      runs = [];
-    })
+    (with_runs [] (Do 3 ∷ End answer.Stuck ∷ []))
     (codes "0 do b\n1 end stuck\n")
 
 -- a result decides which branch is taken, and a device that rests is closed after it took its command
@@ -134,11 +109,8 @@ SensedDoor =
     Shows
     (door (0 ∷ 255 ∷ [])
     (prog.Seq (prog.Act 2 []) (prog.If (cond.Is 1 []) (prog.Act 3 []) (prog.Act 4 []))))
-    (record {
-      entries = Close 0 Ended 0 ∷ Rest 1 0 ∷ Do 2 ∷ Sense 1 2 1 1 ∷ Do 3 ∷ Close 1 Ended 1 ∷
-          End answer.Done ∷ [];
-      runs = [];
-    })
+    (with_runs [] (Close 0 Ended 0 ∷ Rest 1 0 ∷ Do 2 ∷ Sense 1 2 1 1 ∷ Do 3 ∷ Close 1 Ended 1 ∷
+    End answer.Done ∷ []))
     (codes "0 close wind ended 0\n1 rest door 0\n2 do look @door\n3 sense door 2 true\n4 do go\n"
     ++ codes "5 close door ended 1\n6 end done\n")
 
@@ -148,10 +120,7 @@ UnansweredDoor =
     Shows
     (door (0 ∷ 255 ∷ [])
     (prog.Seq (prog.Act 2 []) (prog.If (cond.Is 1 []) (prog.Act 3 []) (prog.Act 4 []))))
-    (record {
-      entries = Close 0 Ended 0 ∷ Rest 1 0 ∷ Do 2 ∷ Close 1 Bad 1 ∷ End answer.Unanswered ∷ [];
-      runs = [];
-    })
+    (with_runs [] (Close 0 Ended 0 ∷ Rest 1 0 ∷ Do 2 ∷ Close 1 Bad 1 ∷ End answer.Unanswered ∷ []))
     (codes "0 close wind ended 0\n1 rest door 0\n2 do look @door\n3 close door bad 1\n4 end unanswered\n")
 
 -- a result is recorded against the value that was known, where another one was
@@ -160,11 +129,8 @@ SlammedDoor =
     Shows
     (door (0 ∷ 255 ∷ [])
     (prog.Seq (prog.Act 2 []) (prog.If (cond.Is 1 []) (prog.Act 3 []) (prog.Act 4 []))))
-    (record {
-      entries = Exo 0 5 ∷ Rest 1 0 ∷ Do 2 ∷ Exo 0 6 ∷ Sense 1 2 1 1 ∷ Do 3 ∷ Close 0 Ended 0 ∷
-          Close 1 Ended 1 ∷ End answer.Done ∷ [];
-      runs = [];
-    })
+    (with_runs [] (Exo 0 5 ∷ Rest 1 0 ∷ Do 2 ∷ Exo 0 6 ∷ Sense 1 2 1 1 ∷ Do 3 ∷ Close 0 Ended 0 ∷
+    Close 1 Ended 1 ∷ End answer.Done ∷ []))
     (codes "0 exo wind calm\n1 rest door 0\n2 do look @door\n3 exo wind slam\n"
     ++ codes "4 sense door 2 true against false\n5 do go\n6 close wind ended 0\n"
     ++ codes "7 close door ended 1\n8 end done\n")
@@ -176,11 +142,9 @@ BrokenRun =
     (world (0 ∷ 0 ∷ 0 ∷ 0 ∷ [])
     (prog.Search 4 1000 (prog.Seq (prog.Act 2 (Const 0 ∷ [])) (prog.Choice (prog.Act 2 (Const 1 ∷
     [])) (prog.Act 2 (Const 2 ∷ []))))))
-    (record {
-      entries = Exo 0 5 ∷ Do 2 ∷ Exo 0 7 ∷ Do 4 ∷ Close 0 Ended 0 ∷ End answer.Done ∷ [];
-      runs = record { place = 1; labels = Doing 2 ∷ Doing 3 ∷ [] } ∷
-          record { place = 3; labels = Doing 4 ∷ [] } ∷ [];
-    })
+    (with_runs (record { place = 1; labels = Doing 2 ∷ Doing 3 ∷ [] } ∷
+    record { place = 3; labels = Doing 4 ∷ [] } ∷ [])
+    (Exo 0 5 ∷ Do 2 ∷ Exo 0 7 ∷ Do 4 ∷ Close 0 Ended 0 ∷ End answer.Done ∷ []))
     (codes "0 exo world calm\n1 do go(a) run go(a); go(b)\n2 exo world block(b)\n"
     ++ codes "3 do go(c) run go(c)\n4 close world ended 0\n5 end done\n")
 
@@ -191,10 +155,8 @@ KeptRun =
     (world (0 ∷ 0 ∷ 0 ∷ 0 ∷ [])
     (prog.Search 4 1000 (prog.Seq (prog.Act 2 (Const 0 ∷ [])) (prog.Choice (prog.Act 2 (Const 1 ∷
     [])) (prog.Act 2 (Const 2 ∷ []))))))
-    (record {
-      entries = Exo 0 5 ∷ Do 2 ∷ Exo 0 8 ∷ Do 3 ∷ Close 0 Ended 0 ∷ End answer.Done ∷ [];
-      runs = record { place = 1; labels = Doing 2 ∷ Doing 3 ∷ [] } ∷ [];
-    })
+    (with_runs (record { place = 1; labels = Doing 2 ∷ Doing 3 ∷ [] } ∷ [])
+    (Exo 0 5 ∷ Do 2 ∷ Exo 0 8 ∷ Do 3 ∷ Close 0 Ended 0 ∷ End answer.Done ∷ []))
     (codes "0 exo world calm\n1 do go(a) run go(a); go(b)\n2 exo world block(c)\n3 do go(b)\n"
     ++ codes "4 close world ended 0\n5 end done\n")
 
@@ -204,10 +166,7 @@ UnknownSearch =
     Shows
     (door (0 ∷ 255 ∷ [])
     (prog.Search 4 1000 (prog.Seq (prog.Act 2 []) (prog.Seq (prog.Test (cond.Is 1 [])) (prog.Act 3 [])))))
-    (record {
-      entries = Close 0 Ended 0 ∷ Rest 1 0 ∷ End answer.Unknown ∷ Close 1 Stopped 0 ∷ [];
-      runs = [];
-    })
+    (with_runs [] (Close 0 Ended 0 ∷ Rest 1 0 ∷ End answer.Unknown ∷ Close 1 Stopped 0 ∷ []))
     (codes "0 close wind ended 0\n1 rest door 0\n2 end unknown\n3 close door stopped 0\n")
 
 -- a block begins a run where the value is known, and follows it after the result
@@ -216,11 +175,9 @@ KnownSearch =
     Shows
     (door (0 ∷ 1 ∷ [])
     (prog.Search 4 1000 (prog.Seq (prog.Act 2 []) (prog.Seq (prog.Test (cond.Is 1 [])) (prog.Act 3 [])))))
-    (record {
-      entries = Close 0 Ended 0 ∷ Rest 1 0 ∷ Do 2 ∷ Sense 1 2 1 1 ∷ Test ∷ Close 1 Ended 1 ∷ Do 3 ∷
-          End answer.Done ∷ [];
-      runs = record { place = 2; labels = Doing 2 ∷ Quiet ∷ Doing 3 ∷ [] } ∷ [];
-    })
+    (with_runs (record { place = 2; labels = Doing 2 ∷ Quiet ∷ Doing 3 ∷ [] } ∷ [])
+    (Close 0 Ended 0 ∷ Rest 1 0 ∷ Do 2 ∷ Sense 1 2 1 1 ∷ Test ∷ Close 1 Ended 1 ∷ Do 3 ∷
+    End answer.Done ∷ []))
     (codes "0 close wind ended 0\n1 rest door 0\n2 do look @door run look; -; go\n"
     ++ codes "3 sense door 2 true\n4 test\n5 close door ended 1\n6 do go\n7 end done\n")
 
@@ -231,10 +188,7 @@ ShallowSearch =
     (floors (0 ∷ 0 ∷ [])
     (prog.Search 3 1000 (prog.Seq (prog.Star (prog.Act 2 []))
     (prog.Test (cond.Equal 1 (term.Fluent 1 []) (term.Arg (Const 3)))))))
-    (record {
-      entries = End answer.Depth ∷ [];
-      runs = [];
-    })
+    (with_runs [] (End answer.Depth ∷ []))
     (codes "0 end depth\n")
 
 -- a block whose work is above its fuel
@@ -243,10 +197,7 @@ ScarceFuel =
     Shows
     (two (0 ∷ 0 ∷ 0 ∷ [])
     (prog.Search 4 2 (prog.Seq (prog.Choice (prog.Act 2 []) (prog.Act 3 [])) (prog.Act 4 []))))
-    (record {
-      entries = End answer.Fuel ∷ [];
-      runs = [];
-    })
+    (with_runs [] (End answer.Fuel ∷ []))
     (codes "0 end fuel\n")
 
 -- a block whose work is its fuel
@@ -255,10 +206,8 @@ EnoughFuel =
     Shows
     (two (0 ∷ 0 ∷ 0 ∷ [])
     (prog.Search 4 3 (prog.Seq (prog.Choice (prog.Act 2 []) (prog.Act 3 [])) (prog.Act 4 []))))
-    (record {
-      entries = Do 2 ∷ Do 4 ∷ End answer.Done ∷ [];
-      runs = record { place = 0; labels = Doing 2 ∷ Doing 4 ∷ [] } ∷ [];
-    })
+    (with_runs (record { place = 0; labels = Doing 2 ∷ Doing 4 ∷ [] } ∷ [])
+    (Do 2 ∷ Do 4 ∷ End answer.Done ∷ []))
     (codes "0 do a run a; c\n1 do c\n2 end done\n")
 
 -- a procedure may call itself after a step
@@ -267,10 +216,7 @@ GuardedRecursion =
     Shows
     (recursive (0 ∷ 255 ∷ [])
     prog.Nil)
-    (record {
-      entries = End answer.Done ∷ [];
-      runs = [];
-    })
+    (with_runs [] (End answer.Done ∷ []))
     (codes "0 end done\n")
 
 -- an effect whose condition is unknown, which makes no difference
@@ -279,10 +225,7 @@ SameEitherWay =
     Shows
     (unsure (0 ∷ 1 ∷ 255 ∷ [])
     (prog.Seq (prog.Act 2 []) (prog.Test (cond.Is 1 []))))
-    (record {
-      entries = Do 2 ∷ Test ∷ End answer.Done ∷ [];
-      runs = [];
-    })
+    (with_runs [] (Do 2 ∷ Test ∷ End answer.Done ∷ []))
     (codes "0 do a\n1 test\n2 end done\n")
 
 -- an effect whose condition is unknown, which makes a difference: the value is unknown after it
@@ -291,10 +234,7 @@ UnsureEffect =
     Shows
     (unsure (0 ∷ 0 ∷ 255 ∷ [])
     (prog.Seq (prog.Act 2 []) (prog.Test (cond.Is 1 []))))
-    (record {
-      entries = Do 2 ∷ End answer.Unknown ∷ [];
-      runs = [];
-    })
+    (with_runs [] (Do 2 ∷ End answer.Unknown ∷ []))
     (codes "0 do a\n1 end unknown\n")
 
 -- a sum stops at the end of its sort
@@ -304,10 +244,7 @@ TopFloor =
     (two_floors (0 ∷ 0 ∷ [])
     (prog.Seq (prog.Act 2 []) (prog.Seq (prog.Act 2 [])
     (prog.Test (cond.Equal 1 (term.Fluent 1 []) (term.Arg (Const 1)))))))
-    (record {
-      entries = Do 2 ∷ Do 2 ∷ Test ∷ End answer.Done ∷ [];
-      runs = [];
-    })
+    (with_runs [] (Do 2 ∷ Do 2 ∷ Test ∷ End answer.Done ∷ []))
     (codes "0 do up\n1 do up\n2 test\n3 end done\n")
 
 -- a device that posts what is not declared for it is closed; one at rest is stopped after the end
@@ -316,10 +253,7 @@ BadPost =
     Shows
     (lift (0 ∷ 0 ∷ 0 ∷ 0 ∷ 0 ∷ 0 ∷ 0 ∷ [])
     prog.Nil)
-    (record {
-      entries = Close 0 Bad 0 ∷ Rest 1 0 ∷ End answer.Done ∷ Close 1 Stopped 0 ∷ [];
-      runs = [];
-    })
+    (with_runs [] (Close 0 Bad 0 ∷ Rest 1 0 ∷ End answer.Done ∷ Close 1 Stopped 0 ∷ []))
     (codes "0 close panel bad 0\n1 rest lift 0\n2 end done\n3 close lift stopped 0\n")
 
 -- a device that closed itself, and one that is stopped after the end
@@ -328,10 +262,7 @@ EndedDevice =
     Shows
     (lift (0 ∷ 0 ∷ 0 ∷ 0 ∷ 0 ∷ 0 ∷ 0 ∷ [])
     prog.Nil)
-    (record {
-      entries = Exo 0 8 ∷ Close 1 Ended 0 ∷ End answer.Done ∷ Close 0 Stopped 0 ∷ [];
-      runs = [];
-    })
+    (with_runs [] (Exo 0 8 ∷ Close 1 Ended 0 ∷ End answer.Done ∷ Close 0 Stopped 0 ∷ []))
     (codes "0 exo panel push(1)\n1 close lift ended 0\n2 end done\n3 close panel stopped 0\n")
 
 -- all of them

@@ -1,5 +1,5 @@
 -- Laws of texts: different reports have different texts, and the results in a report that has one are values.
-use Rattle.std.specs.Prelude.{◌≡◌}
+use Rattle.std.specs.Prelude.{◌≡◌, None}
 use Rattle.golog_tree.specs.declared.agent.Agent.{Agent}
 use Rattle.golog_semantics.specs.declared.journal.Report.{Report}
 use Rattle.golog_semantics.specs.Text.{Text, report_text}
@@ -7,17 +7,18 @@ use Rattle.golog_semantics.specs.Reports.{IsReport, SpellsReport}
 use Rattle.golog_semantics.specs.ReportLaws.{TellsApart}
 use Rattle.golog_semantics.specs.SortLaws.{ResultsFit}
 
--- reports with the same text are the same
+-- reports from the agent's own start with the same text are the same
 abbrev pub TextTellsReports : Type 0
 TextTellsReports =
     (agent : Agent) → TellsApart agent → (one other : Report) → IsReport agent one → IsReport agent other
-    → report_text agent one ≡ report_text agent other → one ≡ other
+    → one.start ≡ None → other.start ≡ None → report_text agent one ≡ report_text agent other → one ≡ other
 
--- bytes spell one report at most
+-- bytes spell one report from the agent's own start at most
 abbrev pub OneReportIsSpelled : Type 0
 OneReportIsSpelled =
     (agent : Agent) → TellsApart agent → (bytes : Text) (one other : Report)
-    → SpellsReport agent bytes one → SpellsReport agent bytes other → one ≡ other
+    → SpellsReport agent bytes one → SpellsReport agent bytes other → one.start ≡ None → other.start ≡ None
+    → one ≡ other
 
 -- the results of a report that has a text are values of their fluents
 abbrev pub ResultsOfReportsFit : Type 0

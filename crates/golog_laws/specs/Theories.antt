@@ -1,5 +1,5 @@
 -- The theories of the worked examples: each with its start values and its program open.
-use Rattle.std.specs.Prelude.{pos, negsuc, true, ℕ, List, [], ◌∷◌, Some, None, codes}
+use Rattle.std.specs.Prelude.{pos, negsuc, true, false, ℕ, List, [], ◌∷◌, Some, None, codes}
 use Rattle.golog_tree.specs.declared.agent.Agent.{Agent}
 use Rattle.golog_tree.specs.declared.agent.SortItem.TheVariants.{Range, Listed}
 use Rattle.golog_tree.specs.declared.agent.FluentItem.{FluentItem}
@@ -110,7 +110,7 @@ door starts main = built (record (plain starts main) {
       posted (codes "slam") [] ∷ [];
   devices = codes "wind" ∷ codes "door" ∷ [];
   causes = sets 6 1 no ∷ [];
-  senses = record { action = 2; fluent = 1; args = [] } ∷ [];
+  senses = record { action = 2; fluent = 1; args = []; later = false } ∷ [];
 })
 
 -- places that may be blocked

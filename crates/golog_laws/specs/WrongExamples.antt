@@ -16,6 +16,7 @@ use Rattle.golog_semantics.specs.declared.journal.Why.{Why}
 use Rattle.golog_semantics.specs.declared.journal.Why.TheVariants as why
 use Rattle.golog_semantics.specs.Journal.{Journal}
 use Rattle.golog_semantics.specs.Text.{lines_of}
+use Rattle.golog_semantics.specs.OneMore.{with_runs}
 use Rattle.golog_semantics.specs.Online.{fault_of}
 use Rattle.golog_semantics.specs.Trans.{TransW}
 use Rattle.golog_semantics.specs.Inline.{Scripted, turns_from, lead}
@@ -53,21 +54,18 @@ idle_lift = lift (0 ∷ 0 ∷ 0 ∷ 0 ∷ 0 ∷ 0 ∷ 0 ∷ []) prog.Nil
 
 pub record WrongJournals : Type 0 where
   -- no end
-  pub too_short : FailsAt effect_and_test (record { entries = []; runs = [] }) 0 why.Short
+  pub too_short : FailsAt effect_and_test (with_runs [] []) 0 why.Short
   -- an unknown test taken as false
-  pub not_stuck : FailsAt unknown_test (record { entries = End answer.Stuck ∷ []; runs = [] }) 0 why.Answer
+  pub not_stuck : FailsAt unknown_test (with_runs [] (End answer.Stuck ∷ [])) 0 why.Answer
   -- a test that is false
-  pub no_test : FailsAt (floors (0 ∷ 0 ∷ []) climb) (record {
-    entries = Do 2 ∷ Do 2 ∷ Test ∷
-        [];
-    runs = [];
-  }) 2 why.Step
+  pub no_test : FailsAt (floors (0 ∷ 0 ∷ []) climb) (with_runs [] (Do 2 ∷ Do 2 ∷ Test ∷
+      [])) 2 why.Step
   -- a run that is begun and not printed
-  pub run_left_out : FailsAt journey (record { entries = Exo 0 5 ∷ Do 2 ∷ []; runs = [] }) 1 why.Run
+  pub run_left_out : FailsAt journey (with_runs [] (Exo 0 5 ∷ Do 2 ∷ [])) 1 why.Run
   -- a line that is not the text of its entry
   pub misspelt :
       fault_of effect_and_test (Some (codes "0 do a" ∷ codes "1 test run -" ∷ []))
-      (record { entries = Do 2 ∷ Test ∷ []; runs = [] })
+      (with_runs [] (Do 2 ∷ Test ∷ []))
       ≡ Some (record { place = 1; why = why.Text })
 
 pub record StepsInWorlds : Type 0 where
