@@ -1,5 +1,5 @@
 -- The text of a ground action tells which it is.
-use Rattle.std.proofs.Common.{◌≡◌, ℕ, zero, suc, ◌+◌, ◌*◌, ◌<◌, ◌≤◌, get_or, append-nil, true, false, List, [], ◌∷◌, ◌++◌, length, map, take, drop, Some, None, refl, sym, ap, ◌∙◌, subst, arith}
+use Rattle.std.proofs.Common.{◌≡◌, ℕ, zero, suc, ◌+◌, ◌<◌, ◌≤◌, get_or, true, false, List, [], ◌∷◌, ◌++◌, length, map, take, drop, Some, None, refl, sym, ap, ◌∙◌, subst, arith}
 use Rattle.std.specs.Prelude.{slice_get, option_map, option_and_then, unwrap_or, nat_eq, position}
 use Rattle.std.specs.List.{zip}
 use Rattle.std.specs.Cmp.Lexicographic.{pointwise, same_text}
@@ -18,9 +18,9 @@ use Rattle.golog_semantics.proofs.ActionNames.{HasAction, args_at-map}
 use Rattle.golog_semantics.proofs.GroundNumbers.{action_is}
 use Rattle.golog_semantics.proofs.Levels.{same_values-same}
 use Rattle.golog_semantics.proofs.WellNamed.{actions_apart}
-use Rattle.golog_ground.specs.Texts.{IsTheOne, IsUnmarked, WritesAction, WritesArgs, enclosed}
+use Rattle.golog_ground.specs.Texts.{IsTheOne, IsUnmarked, WritesAction, WritesArgs}
 use Rattle.golog_ground.proofs.Answers.{none-fits, only-fits, some-same}
-use Rattle.golog_ground.proofs.Enclosed.{StartsMarked, in-brackets, front, take-front, drop-front}
+use Rattle.golog_ground.proofs.Enclosed.{StartsMarked, front, take-front, drop-front}
 use Rattle.golog_ground.proofs.Marks.{unmarked-name}
 use Rattle.golog_ground.proofs.Places.{no-place, place-found}
 
@@ -143,10 +143,6 @@ chosen agent name one other i item e k h g =
     let same : item ≡ r.item = g ∙ get_or_from_slice_get other i r.item item at in
     (ap (λ xs. slice_get xs i) (sym k) ∙ at ∙ ap Some (sym same), ap (λ (x : ActionItem). x.name) same ∙ same_text r.item.name name (sym r.fits))
 
-no-brackets : (agent : Agent) (sorts args : List ℕ) → length sorts ≡ 0 → args_text agent sorts args ≡ []
-no-brackets agent [] args e = refl
-no-brackets agent (s ∷ sorts) args e = absurd (omega arith)
-
 module _ (agent : Agent) (action : ℕ) (ground : Read) (is : IsGround agent (action_args agent) action ground)
     (item : ActionItem) (at : slice_get agent.actions ground.item ≡ Some item) where
   its-sorts : args_at (action_args agent) ground.item ≡ item.args
@@ -159,23 +155,11 @@ module _ (agent : Agent) (action : ℕ) (ground : Read) (is : IsGround agent (ac
     pub its-args : AreWithin (sizes agent sorts) (args ground)
     its-args = subst (λ xs. AreWithin (sizes agent xs) (args ground)) (its-sorts ∙ sym same) is.fits
 
-    pub room : IsCountable agent → (text : Text) → length text ≤ 31 → length text + 32 * length sorts + 1 ≤ 128
-    room h text short = let few = few-args agent h ground.item item at in omega (arith, short, ap length same, few)
+    pub its-few : IsCountable agent → length sorts ≤ 3
+    its-few h = let few = few-args agent h ground.item item at in omega (arith, ap length same, few)
 
-    its-text : action_text agent action ≡ item.name ++ args_text agent sorts (args ground)
+    pub its-text : action_text agent action ≡ item.name ++ args_text agent sorts (args ground)
     its-text = text-is agent action ground.item item (args ground) is.named at ∙ ap (λ xs. item.name ++ args_text agent xs (args ground)) (sym same)
-
-    pub written : (text : Text) → text ≡ item.name → 0 < length sorts → text ++ enclosed agent 40 sorts (args ground) ≡ action_text agent action
-    written text e h =
-        (λ i. e i ++ sym (in-brackets agent sorts (args ground) h its-args) i) ∙ sym its-text
-
-    pub written-alone : (text : Text) → text ≡ item.name → length sorts ≡ 0 → text ≡ action_text agent action
-    written-alone text e h =
-        e ∙ sym (append-nil item.name) ∙ ap (λ t. item.name ++ t) (sym (no-brackets agent sorts (args ground) h)) ∙ sym its-text
-
--- what is written first
-pub first-written : (new old bytes name : Text) → new ≡ old ++ bytes → old ≡ [] → bytes ≡ name → new ≡ name
-first-written new old bytes name e h k = e ∙ (λ i. h i ++ k i)
 
 pub whole : (bytes name rest : Text) → name ≡ take (front bytes) bytes → rest ≡ drop (front bytes) bytes → name ++ rest ≡ bytes
 whole bytes name rest e h = (λ i. e i ++ h i) ∙ take-append-drop (front bytes) bytes

@@ -5,4 +5,6 @@ pub mod Ranges
 pub mod Places
 pub mod Constants
 pub mod Enclosed
+pub mod GroundTexts
 pub mod Actions
+pub mod Fluents

@@ -6,7 +6,8 @@ ghost use Rattle.golog_semantics.specs.WellFormed.{WellFormed};
 ghost use Rattle.golog_ground.specs.Texts.{IsTheOne, WritesAction};
 
 use crate::ActionText;
-use crate::args::{push_enclosed, read_args, split_at_mark};
+use crate::args::{read_args, split_at_mark};
+use crate::ground::ground_text;
 use golog_tree::{ActionItem, Agent, action_no, action_of};
 
 /// The text of a ground action, by its number: its name, and its arguments in brackets where it has some,
@@ -19,13 +20,8 @@ pub fn action_text(agent: &Agent, action: u32) -> ActionText
     let ground = action_of(agent, action);
     let item = &agent.actions.as_slice()[ground.item as usize];
     let sorts = item.args.as_slice();
-    let mut text = ActionText::new();
-    text.push_all(item.name.as_bytes());
-    if !sorts.is_empty() {
-        let args = &ground.args[..ground.count as usize];
-        push_enclosed(&mut text, agent, b'(', sorts, args);
-    }
-    text
+    let args = &ground.args[..ground.count as usize];
+    ground_text(agent, &item.name, sorts, args)
 }
 
 // The place of the first action of this name.

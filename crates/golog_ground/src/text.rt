@@ -5,8 +5,8 @@ use std::marker::Model;
 /// The most bytes of an `ActionText`.
 const LONGEST: usize = 128;
 
-/// The text of a ground action or of a constant: at most 128 bytes, held in itself. Contracts see it as the
-/// list of its bytes.
+/// The text of a ground action, a ground fluent or a constant: at most 128 bytes, held in itself. Contracts see it as
+/// the list of its bytes.
 #[derive(Debug, Drop)]
 pub struct ActionText {
     // The text, and what doesn't count behind it.

@@ -4,7 +4,7 @@ ghost use Rattle.golog_tree.specs.Ground.{ground_actions};
 ghost use Rattle.golog_semantics.specs.Values.{after_do as values_after_do};
 ghost use Rattle.golog_semantics.specs.Progress.{values_after, after_entry as values_after_entry};
 ghost use Rattle.golog_semantics.specs.Reports.{is_value};
-ghost use Rattle.golog_semantics.specs.SortLaws.{AreInSorts};
+ghost use Rattle.golog_semantics.specs.InSorts.{AreInSorts};
 ghost use Rattle.golog_semantics.specs.WellFormed.{WellFormed};
 ghost use Rattle.golog_progress.specs.Entries.{EntryFits, EntriesFit};
 
@@ -40,12 +40,12 @@ pub fn start(alloc: Global, agent: &Agent) -> Result<State, NoMemory>
     ensures values { IfOk result (λ state. state ≡ values_after agent.now []) }
     ensures sorts { IfOk result (λ state. AreInSorts agent.now state) }
 {
-    State::of(alloc, agent.starts.as_slice())
+    State::of(alloc, agent, agent.starts.as_slice())
 }
 
 impl State {
-    /// The state of these values.
-    pub(crate) fn of(alloc: Global, values: &[u8]) -> Result<State, NoMemory>
+    // The state of these values.
+    fn of_values(alloc: Global, values: &[u8]) -> Result<State, NoMemory>
         ensures { IfOk result (λ state. state ≡ values.now) }
     {
         let next = List::copy_of(alloc, values)?.into_vec();
@@ -53,11 +53,30 @@ impl State {
         Ok(State { values, next })
     }
 
+    /// The state of these values of an agent's ground fluents, one for each.
+    pub fn of(alloc: Global, agent: &Agent, values: &[u8]) -> Result<State, NoMemory>
+        requires { AreInSorts agent.now values.now }
+        ensures values { IfOk result (λ state. state ≡ values.now) }
+        ensures sorts { IfOk result (λ state. AreInSorts agent.now state) }
+    {
+        // What the agent is matters to the contract alone.
+        let _ = agent;
+        State::of_values(alloc, values)
+    }
+
     /// Another state of the same values.
     pub fn copy(&self, alloc: Global) -> Result<State, NoMemory>
         ensures { IfOk result (λ copy. copy ≡ self.now) }
     {
-        State::of(alloc, self.values.as_slice())
+        State::of_values(alloc, self.values.as_slice())
+    }
+
+    /// Makes the state that of these values, as many as it has. Takes no memory.
+    pub fn set(&mut self, values: &[u8])
+        requires { length values.now ≡ length self.old }
+        ensures { self.new ≡ values.now }
+    {
+        self.values.as_mut_slice().copy_from_slice(values);
     }
 
     /// The values, one byte for each ground fluent.

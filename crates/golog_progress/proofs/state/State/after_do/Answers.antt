@@ -2,7 +2,7 @@ use Rattle.std.proofs.Common.{◌≡◌, subst, sym, arith}
 use Rattle.std.proofs.lemmas.Grind.{common_steps}
 use Rattle.golog_tree.specs.declared.prog.Label.TheVariants.{Do}
 use Rattle.golog_semantics.specs.Values.{after_do}
-use Rattle.golog_semantics.specs.SortLaws.{AreInSorts}
+use Rattle.golog_semantics.specs.InSorts.{AreInSorts}
 use Rattle.golog_semantics.proofs.CausesKeep.{steps_stay_in_sorts}
 use Rattle.golog_progress.proofs.state.State.after_do.Goals as goal
 

@@ -1,5 +1,5 @@
 use Rattle.std.proofs.Common.{subst, sym}
-use Rattle.golog_semantics.specs.SortLaws.{AreInSorts}
+use Rattle.golog_semantics.specs.InSorts.{AreInSorts}
 use Rattle.golog_semantics.proofs.SortsStay.{set-sorts}
 use Rattle.golog_progress.proofs.state.State.after_sense.Goals as goal
 
