@@ -189,6 +189,7 @@ module _ (theory : DraftTheory) (keeps : TheoryKeeps theory) where
         actions = omega (arith, acts, an, length-map theory.actions action_counted, length-map theory.actions action_item);
         ground_fluents = omega (arith, fs, fe);
         ground_actions = omega (arith, acts, ae);
+        sizes = refl;
         first_fluents = refl;
         first_actions = refl;
       }

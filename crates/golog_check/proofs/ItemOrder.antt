@@ -143,7 +143,7 @@ module _ (names : Declared) where
         omega arith,
         omega arith,
         chain-low (key item.at 36) (64 * (item.at + 1)) (64 * to) _ (omega arith)
-            (gives-spans (item.at + 1) to args (λ args. record { action = item.action; fluent = item.fluent; args = args })
+            (gives-spans (item.at + 1) to args (λ args. record { action = item.action; fluent = item.fluent; args = args; later = item.later })
             (args-spans names scope (fluent_sorts names item.fluent) (item.at + 1) item.args to c.1)),
       )
 

@@ -166,13 +166,13 @@ module _ (theory : DraftTheory) (program : DraftProgram) (keeps : TheoryKeeps th
     args : List Arg
     read : (args_in (names_of theory program) (scope_of_vars item.vars (action_sorts (names_of theory program) item.action))
         (fluent_sorts (names_of theory program) item.fluent) item.args).outcome ≡ Ok args
-    is : ◌≡◌ {A = SenseItem} (record { action = item.action; fluent = item.fluent; args = args }) y
+    is : ◌≡◌ {A = SenseItem} (record { action = item.action; fluent = item.fluent; args = args; later = item.later }) y
 
   sense-is : (again : Bool) (item : DraftSense) (y : SenseItem) → (sense_by names again item).outcome ≡ Ok y → IsSense again item y
   unfolding sense_by
   sense-is again item y h =
       let reading = args_in names (scope_of_vars item.vars (action_sorts names item.action)) (fluent_sorts names item.fluent) item.args in
-      let next : List Arg → Reading SenseItem = λ args. gives (record { action = item.action; fluent = item.fluent; args = args }) in
+      let next : List Arg → Reading SenseItem = λ args. gives (record { action = item.action; fluent = item.fluent; args = args; later = item.later }) in
       let p = past (again || not (may_sense names.actions item.action)) _ item.at (reading >>= next) y h in
       let b = both reading next y p.rest in
       record {
@@ -180,7 +180,7 @@ module _ (theory : DraftTheory) (program : DraftProgram) (keeps : TheoryKeeps th
         may = not-false (may_sense names.actions item.action) (neither_second again (not (may_sense names.actions item.action)) p.none);
         args = b.value;
         read = b.one;
-        is = ok-same (record { action = item.action; fluent = item.fluent; args = b.value }) y b.other;
+        is = ok-same (record { action = item.action; fluent = item.fluent; args = b.value; later = item.later }) y b.other;
       }
 
   pub fluent-get : (fluent : ℕ) (item : DraftFluent) → slice_get theory.fluents fluent ≡ Some item
@@ -227,7 +227,7 @@ module _ (theory : DraftTheory) (program : DraftProgram) (keeps : TheoryKeeps th
       fluent.args item.args (sym m) s.args read in
       let may : (is_some action.device && is_empty action.posters) ≡ true =
       sym (ap (λ (o : Option ActionItem). option_map_or (λ (i : ActionItem). is_some i.device && is_empty i.posters) o false) get) ∙ s.may in
-      let made : SenseItem = record { action = item.action; fluent = item.fluent; args = s.args } in
+      let made : SenseItem = record { action = item.action; fluent = item.fluent; args = s.args; later = item.later } in
       ap (sense_fits agent) (sym s.is)
       ∙ ap (λ (o : Option ActionItem). option_map_or (λ a. option_map_or (sense_fits_for agent made a) (slice_get agent.fluents item.fluent) false) o false) get
       ∙ ap (λ (o : Option FluentItem). option_map_or (sense_fits_for agent made (action_item action)) o false) got

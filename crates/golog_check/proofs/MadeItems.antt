@@ -121,6 +121,7 @@ module _ (theory : DraftTheory) (program : DraftProgram) (keeps : TheoryKeeps th
         actions = c.actions;
         ground_fluents = c.ground_fluents;
         ground_actions = c.ground_actions;
+        sizes = c.sizes;
         first_fluents = c.first_fluents;
         first_actions = c.first_actions;
       }

@@ -74,7 +74,7 @@ module _ (names : Declared) where
   sense_by again item =
       row (again || not (may_sense names.actions item.action)) SENSE_CLASH item.at
       (args_in names (scope_of_vars item.vars (action_sorts names item.action)) (fluent_sorts names item.fluent) item.args
-      >>= λ args. gives (record { action = item.action; fluent = item.fluent; args = args }))
+      >>= λ args. gives (record { action = item.action; fluent = item.fluent; args = args; later = item.later }))
 
   -- the items behind others, in file order
   abbrev pub senses_in : List DraftSense → List DraftSense → List (Reading SenseItem)

@@ -55,6 +55,7 @@ fn bare(alloc: Global, theory: &DraftTheory) -> Result<Agent, NoMemory>
         fluents,
         actions,
         firsts: Firsts {
+            sizes: List::new(alloc),
             fluents: List::new(alloc),
             actions: List::new(alloc),
         },

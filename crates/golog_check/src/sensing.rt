@@ -46,7 +46,8 @@ fn is_sensed(sensed: &[bool], action: u32) -> bool
     sensed[action as usize]
 }
 
-/// What an action senses, where it has a device and is not exogenous, and no item before tells it.
+/// What an action senses, where it has a device and is not exogenous, and no item before tells it. The result may come
+/// later where the item says so.
 #[tactic(auto, unfolding(crate::specs::Effects::sense_by))]
 fn sense_by(
     alloc: Global,
@@ -67,6 +68,7 @@ fn sense_by(
         action: item.action,
         fluent: item.fluent,
         args: args?,
+        later: item.later,
     })
 }
 

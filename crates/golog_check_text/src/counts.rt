@@ -2,18 +2,16 @@ ghost use Rattle.std.specs.Prelude.{◌≡◌, ◌++◌, IfOk, OnOk, decimal};
 ghost use Rattle.golog_semantics.specs.WellFormed.{WellFormed};
 ghost use Rattle.golog_check_text.specs.Counts.{check_text as spec_check_text, counts_line};
 
-use golog_base::{Bytes, NoMemory};
+use golog_base::{Bytes, NoMemory, add_decimal};
 use golog_tree::{Agent, action_count};
-use itoa::Buffer;
 use std::alloc::Global;
 
 /// Adds what is counted, and how many there are.
 pub fn add_count(text: &mut Bytes, counted: &[u8], count: usize) -> Result<(), NoMemory>
     ensures { OnOk result (text.new ≡ text.old ++ counted.now ++ decimal count) }
 {
-    let mut buffer = Buffer::new();
     text.extend(counted)?;
-    text.extend(buffer.format(count).as_bytes())
+    add_decimal(text, count)
 }
 
 /// The line of these numbers.

@@ -3,8 +3,8 @@ ghost use Rattle.std.specs.Prelude.{◌≡◌, [], ◌∷◌, ◌++◌, OnOk, co
 ghost use Rattle.std.specs.List.{flat_map};
 ghost use Rattle.golog_print.specs.Printing.{in_list, sign_text, variable_text, arg_text, args_texts, binder_text, fluent_text, term_text, cond_text};
 
-use crate::named::{add_constant, add_count, fluent_name, fluent_sorts, sort_name};
-use golog_base::{Bytes, NoMemory};
+use crate::named::{add_constant, fluent_name, fluent_sorts, sort_name};
+use golog_base::{Bytes, NoMemory, add_decimal};
 use golog_tree::{Agent, Arg, Cond, Term};
 
 /// Begins a list with a word.
@@ -47,7 +47,7 @@ impl<'a> Writer<'a> {
         ensures { OnOk result (text.new ≡ text.old ++ variable_text self.now.agent.now self.now.stem.now var) }
     {
         text.extend(self.stem)?;
-        add_count(text, var as usize)
+        add_decimal(text, var as usize)
     }
 
     // Adds an argument in a place of the sort.
@@ -111,7 +111,7 @@ impl<'a> Writer<'a> {
                 text.push(b' ')?;
                 self.add_term(text, term.get(), *sort)?;
                 text.push(b' ')?;
-                add_count(text, by.unsigned_abs() as usize)?;
+                add_decimal(text, by.unsigned_abs() as usize)?;
                 text.push(b')')
             }
             Term::Ite { .. } => text.extend(b"()"),

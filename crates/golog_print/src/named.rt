@@ -1,5 +1,5 @@
 // The names of an agent's things, by their numbers, and the names of variables.
-ghost use Rattle.std.specs.Prelude.{◌≡◌, ◌++◌, IfOk, OnOk, decimal, nat_eq};
+ghost use Rattle.std.specs.Prelude.{◌≡◌, ◌++◌, IfOk, OnOk, nat_eq};
 ghost use Rattle.std.specs.Fmt.{signed_decimal};
 ghost use Rattle.std.specs.List.{list_any, starts_with};
 ghost use Rattle.golog_tree.specs.declared.agent.SortItem.{SortItem};
@@ -10,7 +10,7 @@ ghost use Rattle.golog_semantics.specs.BuiltIn.{declared_names, sort_names as sp
 ghost use Rattle.golog_semantics.specs.Text.{constant_text};
 ghost use Rattle.golog_print.specs.Printing.{stem_no, stem_text, sort_name as spec_sort_name, fluent_name as spec_fluent_name, action_name as spec_action_name, proc_name as spec_proc_name, fluent_sorts as spec_fluent_sorts, action_sorts as spec_action_sorts, proc_sorts as spec_proc_sorts};
 
-use golog_base::{Bytes, NoMemory, Word};
+use golog_base::{Bytes, NoMemory, Word, add_decimal};
 use golog_tree::{ActionItem, Agent, FluentItem, ProcItem, SortItem};
 use itoa::Buffer;
 use std::alloc::Global;
@@ -96,14 +96,6 @@ pub fn add_number(text: &mut Bytes, number: i64) -> Result<(), NoMemory>
     text.extend(buffer.format(number).as_bytes())
 }
 
-/// Adds a count.
-pub fn add_count(text: &mut Bytes, count: usize) -> Result<(), NoMemory>
-    ensures { OnOk result (text.new ≡ text.old ++ decimal count) }
-{
-    let mut buffer = Buffer::new();
-    text.extend(buffer.format(count).as_bytes())
-}
-
 /// Adds a constant of a sort, by its position.
 pub fn add_constant(text: &mut Bytes, agent: &Agent, sort: u32, value: u8) -> Result<(), NoMemory>
     ensures { OnOk result (text.new ≡ text.old ++ constant_text agent.now sort value) }
@@ -124,7 +116,7 @@ fn stem_text(alloc: Global, number: usize) -> Result<Bytes, NoMemory>
 {
     let mut text = Bytes::new(alloc);
     text.push(b'v')?;
-    add_count(&mut text, number)?;
+    add_decimal(&mut text, number)?;
     text.push(b'_')?;
     Ok(text)
 }

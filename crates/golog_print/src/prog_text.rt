@@ -4,8 +4,8 @@ ghost use Rattle.golog_print.specs.ReadBack.{IsPrintable, ReadsBack};
 
 use crate::cond_text::{Writer, add_word, open_list};
 use crate::laws::ranges_fit;
-use crate::named::{action_name, action_sorts, add_count, proc_name, proc_sorts, stem_of};
-use golog_base::{Bytes, NoMemory};
+use crate::named::{action_name, action_sorts, proc_name, proc_sorts, stem_of};
+use golog_base::{Bytes, NoMemory, add_decimal};
 use golog_tree::{Agent, Arg, Cond, Prog};
 use std::alloc::Global;
 
@@ -17,9 +17,9 @@ fn open_search(text: &mut Bytes, depth: u32, fuel: u32) -> Result<(), NoMemory>
 {
     open_list(text, b"search")?;
     text.push(b' ')?;
-    add_count(text, depth as usize)?;
+    add_decimal(text, depth as usize)?;
     text.push(b' ')?;
-    add_count(text, fuel as usize)
+    add_decimal(text, fuel as usize)
 }
 
 impl<'a> Writer<'a> {

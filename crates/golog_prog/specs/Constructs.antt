@@ -13,10 +13,20 @@ use Rattle.golog_theory.specs.Heads.{args_of}
 use Rattle.golog_theory.specs.Conditions.{binder_of, cond_of}
 use Rattle.golog_theory.specs.Recursion.{Part}
 use Rattle.golog_theory.specs.Limits.{VARIABLES}
-use Rattle.golog_prog.specs.declared.built_in.TheConstants.{INTERRUPTS_RUNNING, START_INTERRUPTS, STOP_INTERRUPTS}
 use Rattle.golog_prog.specs.declared.procedures.Declared.{Declared}
 use Rattle.golog_prog.specs.declared.programs.Guarded.{Guarded}
 use Rattle.golog_prog.specs.Callees.{action_named, proc_named, named}
+
+-- The built-in fluent and the built-in actions of these names, by their places: they stand first among those that
+-- are declared (golog_draft, `BeginsBuiltIn`, has their names).
+abbrev pub interrupts_running : ℕ
+interrupts_running = 0
+
+abbrev pub start_interrupts : ℕ
+start_interrupts = 0
+
+abbrev pub stop_interrupts : ℕ
+stop_interrupts = 1
 
 -- what a form spells as a program, within any number of variables
 abbrev pub InScope : Type 0
@@ -125,7 +135,7 @@ search_of scope at _ = refused UNKNOWN_FORM at
 
 -- `(while (interrupts_running) (if COND PROG (test false)))`
 abbrev pub interrupt : DraftCond → DraftProg → ℕ → DraftProg
-interrupt cond body at = While (Is INTERRUPTS_RUNNING [] at) (If cond body (Test (Truth false at) at) at) at
+interrupt cond body at = While (Is interrupts_running [] at) (If cond body (Test (Truth false at) at) at) at
 
 -- `(interrupt COND PROG)`
 unfoldable pub interrupt_of : DraftTheory → ℕ → ℕ → List (Part InScope) → Reading DraftProg
@@ -135,7 +145,7 @@ interrupt_of theory scope at parts =
 -- `(seq (act start_interrupts) (prio PROG (act stop_interrupts)))`
 abbrev pub interrupts : DraftProg → ℕ → DraftProg
 interrupts body at =
-    Seq (Act START_INTERRUPTS [] at ∷ Prio (body ∷ Act STOP_INTERRUPTS [] at ∷ []) at ∷ []) at
+    Seq (Act start_interrupts [] at ∷ Prio (body ∷ Act stop_interrupts [] at ∷ []) at ∷ []) at
 
 -- `(interrupts PROG)`
 unfoldable pub interrupts_of : ℕ → ℕ → List (Part InScope) → Reading DraftProg

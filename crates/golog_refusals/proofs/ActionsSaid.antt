@@ -37,7 +37,7 @@ use Rattle.golog_check.proofs.Readings.{both, past, ok-same}
 use Rattle.golog_check.proofs.ArgLaws.{same-number}
 use Rattle.golog_check.proofs.MadeActions.{same-signature}
 use Rattle.golog_refusals.specs.Says.{args_say, cond_says}
-use Rattle.golog_refusals.specs.SaysAgent.{AreSaid, poss_says, sense_says}
+use Rattle.golog_refusals.specs.SaysAgent.{AreSaid, same_truth, poss_says, sense_says}
 use Rattle.golog_refusals.proofs.Taking.{never, past-by, then-by}
 use Rattle.golog_refusals.proofs.ArgsSaid.{args-taken, args-said, arity}
 use Rattle.golog_refusals.proofs.CondsTaken.{cond-taken}
@@ -47,18 +47,30 @@ use Rattle.golog_refusals.proofs.ItemsSaid.{Give, one-more, one-said}
 abbrev poss_of : ℕ → Cond → PossItem
 poss_of action cond = record { action = action; cond = cond }
 
-abbrev sense_of : ℕ → ℕ → List Arg → SenseItem
-sense_of action fluent args = record { action = action; fluent = fluent; args = args }
+abbrev sense_of : ℕ → ℕ → Bool → List Arg → SenseItem
+sense_of action fluent later args = record { action = action; fluent = fluent; args = args; later = later }
 
 poss-same : (y : PossItem) (action : ℕ) → y.action ≡ action
     → ◌≡◌ {A = Result PossItem CodeAt} (Ok (poss_of action y.cond)) (Ok y)
 poss-same y action e = ap {B = Result PossItem CodeAt} (λ n. Ok (poss_of n y.cond)) (sym e)
 
-sense-same : (y : SenseItem) (action fluent : ℕ) → y.action ≡ action → y.fluent ≡ fluent
-    → ◌≡◌ {A = Result SenseItem CodeAt} (Ok (sense_of action fluent y.args)) (Ok y)
-sense-same y action fluent e f =
-    ap {B = Result SenseItem CodeAt} (λ n. Ok (sense_of n fluent y.args)) (sym e)
-    ∙ ap {B = Result SenseItem CodeAt} (λ n. Ok (sense_of y.action n y.args)) (sym f)
+sense-same : (y : SenseItem) (action fluent : ℕ) (later : Bool) → y.action ≡ action → y.fluent ≡ fluent → y.later ≡ later
+    → ◌≡◌ {A = Result SenseItem CodeAt} (Ok (sense_of action fluent later y.args)) (Ok y)
+sense-same y action fluent later e f l =
+    ap {B = Result SenseItem CodeAt} (λ n. Ok (sense_of n fluent later y.args)) (sym e)
+    ∙ ap {B = Result SenseItem CodeAt} (λ n. Ok (sense_of y.action n later y.args)) (sym f)
+    ∙ ap {B = Result SenseItem CodeAt} (λ b. Ok (sense_of y.action y.fluent b y.args)) (sym l)
+
+-- a truth is the same as itself alone
+truth-same : (one other : Bool) → same_truth one other ≡ true → one ≡ other
+truth-same true true t = refl
+truth-same true false t = absurd (cc)
+truth-same false true t = absurd (cc)
+truth-same false false t = refl
+
+same-truth : (b : Bool) → same_truth b b ≡ true
+same-truth true = refl
+same-truth false = refl
 
 -- no item senses anything
 unsensed : (ns : List ℕ) → AllByRecursion (λ n. is_sensed [] n ≡ false) ns
@@ -125,9 +137,10 @@ module _ (agent : Agent) (names : Declared) (has : HasItems agent names) where
     sense-taken again item y once fit says =
         let scope = scope_of_vars item.vars (action_sorts names item.action) in
         let sorts = fluent_sorts names item.fluent in
-        let next : List Arg → Reading SenseItem = λ args. gives (sense_of item.action item.fluent args) in
+        let next : List Arg → Reading SenseItem = λ args. gives (sense_of item.action item.fluent item.later args) in
         let t = and_cases _ (args_say names scope sorts item.args y.args) says in
-        let u = and_cases (y.action == item.action) (y.fluent == item.fluent) t.0 in
+        let v = and_cases _ (same_truth y.later item.later) t.0 in
+        let u = and_cases (y.action == item.action) (y.fluent == item.fluent) v.0 in
         let action : y.action ≡ item.action = eqb-true y.action item.action u.0 in
         let may : may_sense names.actions item.action ≡ true =
         ap (may_sense names.actions) (sym action)
@@ -137,7 +150,8 @@ module _ (agent : Agent) (names : Declared) (has : HasItems agent names) where
         past-by (again || not (may_sense names.actions item.action)) SENSE_CLASH item.at
         (args_in names scope sorts item.args >>= next) clear
         ∙ then-by (args_in names scope sorts item.args) next y.args (args-taken names scope sorts item.args y.args t.1)
-        ∙ sense-same y item.action item.fluent action (eqb-true y.fluent item.fluent u.1)
+        ∙ sense-same y item.action item.fluent item.later action (eqb-true y.fluent item.fluent u.1)
+        (truth-same y.later item.later v.1)
 
     taken-from : (before items : List DraftSense) (ys : List SenseItem) → list_all (sense_fits agent) ys ≡ true
         → AreSaid (sense_says names) items ys → IsDistinct nat_eq (map (λ (y : SenseItem). y.action) ys)
@@ -151,8 +165,9 @@ module _ (agent : Agent) (names : Declared) (has : HasItems agent names) where
         let f = and_cases (sense_fits agent y) (list_all (sense_fits agent) ys) fit in
         let scope = scope_of_vars item.vars (action_sorts names item.action) in
         let t = and_cases _ (args_say names scope (fluent_sorts names item.fluent) item.args y.args) says.0 in
+        let u = and_cases _ (same_truth y.later item.later) t.0 in
         let action : y.action ≡ item.action =
-        eqb-true y.action item.action (and_cases (y.action == item.action) (y.fluent == item.fluent) t.0).0 in
+        eqb-true y.action item.action (and_cases (y.action == item.action) (y.fluent == item.fluent) u.0).0 in
         let actions = map (λ (z : SenseItem). z.action) ys in
         one-more (sense_by names (is_sensed before item.action) item) (senses_in names (before ++ item ∷ []) items) y ys
         (sense-taken (is_sensed before item.action) item y (ap (is_sensed before) (sym action) ∙ away.0) f.0 says.0)
@@ -192,7 +207,7 @@ module _ (theory : DraftTheory) (program : DraftProgram) (keeps : TheoryKeeps th
   sense-said again item y keep h =
       let scope = scope_of_vars item.vars (action_sorts names item.action) in
       let sorts = fluent_sorts names item.fluent in
-      let next : List Arg → Reading SenseItem = λ args. gives (sense_of item.action item.fluent args) in
+      let next : List Arg → Reading SenseItem = λ args. gives (sense_of item.action item.fluent item.later args) in
       let k = and_cases (draft_action_at theory item.action (length item.vars) (λ _. true))
       (fluent_keeps (signature theory) item.fluent item.args) keep in
       let long = arity names item.fluent item.args
@@ -201,8 +216,8 @@ module _ (theory : DraftTheory) (program : DraftProgram) (keeps : TheoryKeeps th
       (args_in names scope sorts item.args >>= next) y h in
       let b = both (args_in names scope sorts item.args) next y p.rest in
       subst (λ (z : SenseItem). sense_says names item z ≡ true)
-      (ok-same (sense_of item.action item.fluent b.value) y b.other)
-      (and_both _ _ (and_both _ _ (same-number item.action) (same-number item.fluent))
+      (ok-same (sense_of item.action item.fluent item.later b.value) y b.other)
+      (and_both _ _ (and_both _ _ (and_both _ _ (same-number item.action) (same-number item.fluent)) (same-truth item.later))
       (args-said names scope sorts item.args b.value long b.one))
 
   pub senses-said : (before items : List DraftSense) → list_all (draft_sense_keeps theory) items ≡ true

@@ -1,11 +1,12 @@
 -- The laws of what `check` refuses: the parts of a draft together.
 use Rattle.std.proofs.Common.{◌≡◌, ℕ, List, [], ◌∷◌, map, refl, sym, ap, ◌∙◌, subst, arith}
 use Rattle.golog_tree.specs.declared.agent.Agent.{Agent}
+use Rattle.golog_tree.specs.declared.agent.SortItem.{SortItem}
 use Rattle.golog_tree.specs.declared.agent.FluentItem.{FluentItem}
 use Rattle.golog_tree.specs.declared.agent.ActionItem.{ActionItem}
 use Rattle.golog_tree.specs.declared.draft.DraftTheory.{DraftTheory}
 use Rattle.golog_tree.specs.declared.draft.DraftProgram.{DraftProgram}
-use Rattle.golog_tree.specs.Ground.{Ground, fluent_args, action_args, ground_fluents, all_from, firsts_of}
+use Rattle.golog_tree.specs.Ground.{Ground, item_size, fluent_args, action_args, ground_fluents, all_from, firsts_of}
 use Rattle.golog_rows.specs.Least.{CodeAt, IsAmong}
 use Rattle.golog_semantics.specs.WellFormed.{WellFormed, poss_fits, cause_fits}
 use Rattle.golog_draft.specs.Drafts.{TheoryKeeps, ProgramKeeps, draft_poss_keeps, draft_cause_keeps}
@@ -93,7 +94,10 @@ module _ (theory : DraftTheory) (program : DraftProgram) (keeps : TheoryKeeps th
         ∙ ap (λ (items : List Start). map (start_value items) (ground_fluents agent)) (sym starts-are.1)
         ∙ ap (λ (all : List Ground). map (start_value (starts_of theory names)) all) ground-are
 
-    -- the numbers of the first ground things
+    -- the sizes of sorts, and the numbers of the first ground things
+    sizes-are : agent.firsts.sizes ≡ (agent_of theory program).firsts.sizes
+    sizes-are = fit.countable.sizes ∙ ap (λ (sorts : List SortItem). map item_size sorts) says.declared.sorts
+
     fluents-are : agent.firsts.fluents ≡ (agent_of theory program).firsts.fluents
     fluents-are =
         fit.countable.first_fluents
@@ -118,7 +122,7 @@ module _ (theory : DraftTheory) (program : DraftProgram) (keeps : TheoryKeeps th
           sorts = says.declared.sorts i;
           fluents = says.declared.fluents i;
           actions = says.declared.actions i;
-          firsts = record { fluents = fluents-are i; actions = actions-are i };
+          firsts = record { sizes = sizes-are i; fluents = fluents-are i; actions = actions-are i };
           devices = says.declared.devices i;
           poss = poss i;
           causes = causes i;

@@ -1,5 +1,5 @@
 -- Which agent a draft says, item by item. (This project's own.)
-use Rattle.std.specs.Prelude.{◌≡◌, ℕ, Bool, true, false, IsTrue, ◌==◌, nat_eq, ◌&&◌, if◌then◌else◌, Option, Some, None, List, [], ◌∷◌, map}
+use Rattle.std.specs.Prelude.{◌≡◌, ℕ, Bool, true, false, IsTrue, ◌==◌, nat_eq, not, ◌&&◌, if◌then◌else◌, Option, Some, None, List, [], ◌∷◌, map}
 use Rattle.std.specs.Cmp.Lexicographic.{pointwise}
 use Rattle.golog_tree.specs.declared.agent.Agent.{Agent}
 use Rattle.golog_tree.specs.declared.agent.PossItem.{PossItem}
@@ -44,6 +44,11 @@ AreSaid says (draft ∷ drafts) (item ∷ items) = IsTrue (says draft item) × A
 abbrev pub is_var : ℕ → Arg → Bool
 is_var number (Const c) = false
 is_var number (Var x) = x == number
+
+-- the same truth
+abbrev pub same_truth : Bool → Bool → Bool
+same_truth true other = other
+same_truth false other = not other
 
 -- one more variable, where the argument is a word
 abbrev pub binding : Scope → ℕ → DraftArg → Scope
@@ -93,9 +98,10 @@ module _ (names : Declared) where
       && term_says names (cause_scope draft) draft.term (own_sort names draft.fluent) item.term
       && cond_says names draft.cond (cause_scope draft) item.cond
 
+  -- what the result of an action tells, with its arguments, and whether it may come later
   abbrev pub sense_says : DraftSense → SenseItem → Bool
   sense_says draft item =
-      item.action == draft.action && item.fluent == draft.fluent
+      item.action == draft.action && item.fluent == draft.fluent && same_truth item.later draft.later
       && args_say names (scope_of_vars draft.vars (action_sorts names draft.action))
       (fluent_sorts names draft.fluent) draft.args item.args
 

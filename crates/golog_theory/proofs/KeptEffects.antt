@@ -4,7 +4,7 @@ use Rattle.std.proofs.lemmas.Option.{slice_get-get_or}
 use Rattle.std.proofs.lemmas.List.Quantifiers.{position-Some}
 use Rattle.std.proofs.lemmas.Map.Keys.{IsDistinct-push}
 use Rattle.std.proofs.lemmas.Cmp.{nat_list_eq_equiv}
-use Rattle.std.specs.Prelude.{if◌then◌else◌, nat_lt, slice_get, get_or}
+use Rattle.std.specs.Prelude.{if◌then◌else◌, nat_lt, slice_get, get_or, codes}
 use Rattle.std.specs.List.{list_any, IsDistinct}
 use Rattle.std.specs.Option.{option_map_or}
 use Rattle.golog_base.specs.Names.{is_name}
@@ -25,7 +25,7 @@ use Rattle.golog_theory.specs.Reading.{Reading, gives, refused, row, found, each
 use Rattle.golog_theory.specs.Names.{same, action_no, action_arity, action_args, allows, is_constant}
 use Rattle.golog_theory.specs.Parts.{word, short_name}
 use Rattle.golog_theory.specs.Heads.{head_word, arguments, called, allowed, allowed_action, var_of, schema_of, fluent_called}
-use Rattle.golog_theory.specs.Effects.{senses_item}
+use Rattle.golog_theory.specs.Effects.{sense_of, senses_item}
 use Rattle.golog_draft.specs.Drafts.{draft_action_at, draft_sense_keeps}
 use Rattle.golog_semantics.specs.BuiltIn.{same_text}
 use Rattle.golog_theory.proofs.Yields.{Yields, gives-yields, refused-yields, row-yields, then-yields, each-yields}
@@ -95,17 +95,22 @@ pub record SenseFits (theory : DraftTheory) (item : DraftSense) : Type 0 where
   pub keeps : draft_sense_keeps theory item ≡ true
   pub once : IsDistinct same_text item.vars
 
+sense_of-yields : (theory : DraftTheory) (at : ℕ) (later : Bool) (schema fluent : Form) → Yields (SenseFits theory) (sense_of theory at later schema fluent)
+sense_of-yields theory at later schema fluent =
+    then-yields _ _ (schema_of theory actions.All schema).outcome _ (schema_of-yields theory actions.All schema) (λ s fits.
+    then-yields _ _ (fluent_called theory fluent).outcome _ (fluent_called-yields theory fluent) (λ c k.
+    gives-yields (SenseFits theory) (record { action = s.action; vars = s.vars; fluent = c.item; args = c.args; later = later; at = at }) (record {
+      keeps = rw (action_at-from theory s.action (length s.vars) (λ _. true) fits.declared fits.count refl, k) refl;
+      once = fits.once;
+    })))
+
 pub senses_item-yields : (theory : DraftTheory) (at : ℕ) (fs : List Form) → Yields (SenseFits theory) (senses_item theory at fs)
 unfolding senses_item
 senses_item-yields theory at [] = refused-yields (SenseFits theory) 20 at
 senses_item-yields theory at (schema ∷ []) = refused-yields (SenseFits theory) 20 at
-senses_item-yields theory at (schema ∷ fluent ∷ []) =
-    then-yields _ _ (schema_of theory actions.All schema).outcome _ (schema_of-yields theory actions.All schema) (λ s fits.
-    then-yields _ _ (fluent_called theory fluent).outcome _ (fluent_called-yields theory fluent) (λ c k.
-    gives-yields (SenseFits theory) (record { action = s.action; vars = s.vars; fluent = c.item; args = c.args; at = at }) (record {
-      keeps = rw (action_at-from theory s.action (length s.vars) (λ _. true) fits.declared fits.count refl, k) refl;
-      once = fits.once;
-    })))
-senses_item-yields theory at (schema ∷ fluent ∷ other ∷ fs) = refused-yields (SenseFits theory) 20 at
+senses_item-yields theory at (schema ∷ fluent ∷ []) = sense_of-yields theory at false schema fluent
+senses_item-yields theory at (schema ∷ fluent ∷ late ∷ []) =
+    row-yields _ (not (same (word late) (codes "later"))) (20, at) _ (λ _. sense_of-yields theory at true schema fluent)
+senses_item-yields theory at (schema ∷ fluent ∷ late ∷ other ∷ fs) = refused-yields (SenseFits theory) 20 at
 
 pub ruleset laws = (schema_of-yields, senses_item-yields)

@@ -34,7 +34,7 @@ use Rattle.golog_theory.specs.Fluents.{sorts_of, constant_arg, start_value, flue
 use Rattle.golog_theory.specs.Actions.{device_item, device_of, action_of, action_item, exo_item}
 use Rattle.golog_theory.specs.Terms.{term_of}
 use Rattle.golog_theory.specs.Conditions.{cond_of}
-use Rattle.golog_theory.specs.Effects.{poss_item, variable_count, effect_of, cause_of, causes_item, senses_item}
+use Rattle.golog_theory.specs.Effects.{poss_item, variable_count, effect_of, cause_of, causes_item, sense_of, senses_item}
 use Rattle.golog_theory.specs.Keywords.{item_keyword}
 use Rattle.golog_theory.specs.declared.keyword.ItemKeyword.{ItemKeyword}
 use Rattle.golog_theory.specs.declared.keyword.ItemKeyword.TheVariants.{Sort, Device, Fluent, Start, Action, Exo, Poss, Causes, Senses, Proc, Main}
@@ -269,18 +269,24 @@ module _ (theory : DraftTheory) where
       (cond_of-covers theory cond b.2.2.2.1 (variable_count theory effect))))
   causes_item-spans at (action ∷ fluent ∷ term ∷ cond ∷ other ∷ fs) to lt b = none DraftCause at to lt
 
+  sense_of-spans : (from at : ℕ) (later : Bool) (schema fluent : Form) (to : ℕ) → Between from (schema ∷ fluent ∷ []) to
+      → Spans from to (sense_of theory at later schema fluent)
+  sense_of-spans from at later schema fluent to b =
+      first-spans from schema (fluent ∷ []) to (schema_of theory All schema)
+      (λ schema. fluent_called theory fluent >>= λ fluent. gives (record { action = schema.action; vars = schema.vars; fluent = fluent.item; args = fluent.args; later = later; at = at })) b
+      (schema_of-covers theory All schema b.1)
+      (λ schema'. last-spans (end_of schema) fluent to (fluent_called theory fluent)
+      (λ fluent. record { action = schema'.action; vars = schema'.vars; fluent = fluent.item; args = fluent.args; later = later; at = at }) b.2 (fluent_called-covers theory fluent b.2.1))
+
   senses_item-spans : (at : ℕ) (fs : List Form) (to : ℕ) → at < to → Between (at + 1) fs to → Spans at to (senses_item theory at fs)
   unfolding senses_item
   senses_item-spans at [] to lt b = none DraftSense at to lt
   senses_item-spans at (schema ∷ []) to lt b = none DraftSense at to lt
-  senses_item-spans at (schema ∷ fluent ∷ []) to lt b =
-      let b' : Between at (schema ∷ fluent ∷ []) to = (omega (arith, b.0), b.1, b.2) in
-      first-spans at schema (fluent ∷ []) to (schema_of theory All schema)
-      (λ schema. fluent_called theory fluent >>= λ fluent. gives (record { action = schema.action; vars = schema.vars; fluent = fluent.item; args = fluent.args; at = at })) b'
-      (schema_of-covers theory All schema b.1)
-      (λ schema'. last-spans (end_of schema) fluent to (fluent_called theory fluent)
-      (λ fluent. record { action = schema'.action; vars = schema'.vars; fluent = fluent.item; args = fluent.args; at = at }) b.2 (fluent_called-covers theory fluent b.2.1))
-  senses_item-spans at (schema ∷ fluent ∷ other ∷ fs) to lt b = none DraftSense at to lt
+  senses_item-spans at (schema ∷ fluent ∷ []) to lt b = sense_of-spans at at false schema fluent to (omega (arith, b.0), b.1, b.2)
+  senses_item-spans at (schema ∷ fluent ∷ late ∷ []) to lt b =
+      row-chain (64 * at) (64 * (at + 1)) (64 * to) 20 at _ refl (omega arith) (omega arith)
+      (sense_of-spans (at + 1) at true schema fluent to (b.0, b.1, (b.2.0, b.2.1, between-le (end_of fluent) (late ∷ []) to b.2.2)))
+  senses_item-spans at (schema ∷ fluent ∷ late ∷ other ∷ fs) to lt b = none DraftSense at to lt
 
   read_as-spans : (at : ℕ) (keyword : ItemKeyword) (fs : List Form) (to : ℕ) → at < to → Between (at + 1) fs to → Spans at to (read_as theory at keyword fs)
   unfolding read_as fluent_read

@@ -1,6 +1,6 @@
 -- The places in an item ascend, and a fluent and an action have the place of their item.
-use Rattle.std.proofs.Common.{ℕ, ◌+◌, ◌<◌, ◌≤◌, true, List, [], ◌∷◌, ◌++◌, length, None, sym, subst, arith}
-use Rattle.std.specs.Prelude.{nat_le}
+use Rattle.std.proofs.Common.{ℕ, ◌+◌, ◌<◌, ◌≤◌, Bool, true, false, not, List, [], ◌∷◌, ◌++◌, length, None, sym, subst, arith}
+use Rattle.std.specs.Prelude.{nat_le, codes}
 use Rattle.golog_form.specs.declared.form.Form.{Form}
 use Rattle.golog_form.specs.Shape.{place_of}
 use Rattle.golog_tree.specs.declared.draft.DraftTheory.{DraftTheory}
@@ -17,11 +17,13 @@ use Rattle.golog_draft.specs.DraftOrder.{Ascend, IsAscending}
 use Rattle.golog_theory.specs.declared.names.Actions.TheVariants.{OfProgram, All}
 use Rattle.golog_theory.specs.declared.fluents.FluentItem.{FluentItem}
 use Rattle.golog_theory.specs.declared.effects.Effect.{Effect}
+use Rattle.golog_theory.specs.Names.{same}
+use Rattle.golog_theory.specs.Parts.{word}
 use Rattle.golog_theory.specs.Heads.{head_word, fluent_called, action_called, schema_of}
 use Rattle.golog_theory.specs.Fluents.{start_value, fluent_of, fluent_item, ground_of, is_started_again, start_item}
 use Rattle.golog_theory.specs.Terms.{term_of}
 use Rattle.golog_theory.specs.Conditions.{cond_of}
-use Rattle.golog_theory.specs.Effects.{is_restricted, poss_item, variable_count, effect_of, cause_of, causes_item, senses_item}
+use Rattle.golog_theory.specs.Effects.{is_restricted, poss_item, variable_count, effect_of, cause_of, causes_item, sense_of, senses_item}
 use Rattle.golog_theory.proofs.Inside.{end_of, Between, stands}
 use Rattle.golog_theory.proofs.Yields.{Yields, gives-yields, refused-yields, row-yields, then-yields}
 use Rattle.golog_theory.proofs.Ascend.{ascend-low, ascend-append, is_ascending}
@@ -128,18 +130,24 @@ module _ (theory : DraftTheory) where
   abbrev SenseAscends : DraftSense → Type 0
   SenseAscends item = IsAscending (sense_places item)
 
-  pub senses_item-ascend : (at : ℕ) (fs : List Form) (from to : ℕ) → at < from → Between from fs to → Yields SenseAscends (senses_item theory at fs)
-  unfolding senses_item
-  senses_item-ascend at [] from to lt b = refused-yields SenseAscends 20 at
-  senses_item-ascend at (schema ∷ []) from to lt b = refused-yields SenseAscends 20 at
-  senses_item-ascend at (schema ∷ fluent ∷ []) from to lt b =
+  sense_of-ascend : (at : ℕ) (later : Bool) (schema fluent : Form) (fs : List Form) (from to : ℕ) → at < from → Between from (schema ∷ fluent ∷ fs) to
+      → Yields SenseAscends (sense_of theory at later schema fluent)
+  sense_of-ascend at later schema fluent fs from to lt b =
       then-yields (λ _. Unit {0}) _ (schema_of theory All schema).outcome _ (λ x e. tt) (λ s _.
       then-yields _ _ (fluent_called theory fluent).outcome _ (fluent_called-ascend theory fluent b.2.1) (λ c is.
-      gives-yields SenseAscends (record { action = s.action; vars = s.vars; fluent = c.item; args = c.args; at = at })
+      gives-yields SenseAscends (record { action = s.action; vars = s.vars; fluent = c.item; args = c.args; later = later; at = at })
       (is_ascending at (at ∷ arg_places c.args) (end_of fluent) (
         omega arith,
         ascend-low (at + 1) (place_of fluent + 1) (end_of fluent) (arg_places c.args) (omega (arith, lt, b.0, b.2.0, (stands schema b.1).size)) is,
       ))))
-  senses_item-ascend at (schema ∷ fluent ∷ other ∷ fs) from to lt b = refused-yields SenseAscends 20 at
+
+  pub senses_item-ascend : (at : ℕ) (fs : List Form) (from to : ℕ) → at < from → Between from fs to → Yields SenseAscends (senses_item theory at fs)
+  unfolding senses_item
+  senses_item-ascend at [] from to lt b = refused-yields SenseAscends 20 at
+  senses_item-ascend at (schema ∷ []) from to lt b = refused-yields SenseAscends 20 at
+  senses_item-ascend at (schema ∷ fluent ∷ []) from to lt b = sense_of-ascend at false schema fluent [] from to lt b
+  senses_item-ascend at (schema ∷ fluent ∷ late ∷ []) from to lt b =
+      row-yields _ (not (same (word late) (codes "later"))) (20, at) _ (λ _. sense_of-ascend at true schema fluent (late ∷ []) from to lt b)
+  senses_item-ascend at (schema ∷ fluent ∷ late ∷ other ∷ fs) from to lt b = refused-yields SenseAscends 20 at
 
 pub ruleset laws = (fluent_item-ascend, senses_item-ascend)

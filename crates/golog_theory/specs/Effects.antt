@@ -1,5 +1,5 @@
 -- The items that say when an action is possible, what it causes and what its result tells.
-use Rattle.std.specs.Prelude.{ℕ, ◌+◌, ◌||◌, nat_eq, nat_le, not, Bool, false, true, if◌then◌else◌, List, [], ◌∷◌, ◌++◌, length, Option, Some, None}
+use Rattle.std.specs.Prelude.{ℕ, ◌+◌, ◌||◌, nat_eq, nat_le, not, Bool, false, true, if◌then◌else◌, List, [], ◌∷◌, ◌++◌, length, codes, Option, Some, None}
 use Rattle.std.specs.List.{list_any}
 use Rattle.golog_form.specs.declared.form.Form.{Form}
 use Rattle.golog_tree.specs.declared.draft.DraftTheory.{DraftTheory}
@@ -16,6 +16,7 @@ use Rattle.golog_theory.specs.Codes.{UNKNOWN_FORM, DUPLICATE, COUNT}
 use Rattle.golog_theory.specs.Limits.{BUILT_IN, CAUSES}
 use Rattle.golog_theory.specs.Reading.{Reading, gives, refused, row, ◌>>=◌}
 use Rattle.golog_theory.specs.Names.{same, is_constant, action_no}
+use Rattle.golog_theory.specs.Parts.{word}
 use Rattle.golog_theory.specs.Heads.{head_word, fluent_called, action_called, schema_of}
 use Rattle.golog_theory.specs.Terms.{term_of}
 use Rattle.golog_theory.specs.Conditions.{cond_of}
@@ -95,9 +96,9 @@ causes_item theory at (action ∷ fluent ∷ term ∷ cond ∷ []) =
     row (nat_le (BUILT_IN + CAUSES) (length theory.causes)) COUNT at (conditional_of theory at action fluent term cond)
 causes_item theory at _ = refused UNKNOWN_FORM at
 
--- `(senses (ACTION VARS) (FLUENT ARGS))`
-unfoldable pub senses_item : DraftTheory → ℕ → List Form → Reading DraftSense
-senses_item theory at (schema ∷ fluent ∷ []) =
+-- what the result of an action tells, and whether it may come later
+abbrev pub sense_of : DraftTheory → ℕ → Bool → Form → Form → Reading DraftSense
+sense_of theory at later schema fluent =
     schema_of theory All schema >>= λ schema.
     fluent_called theory fluent >>= λ fluent.
     gives (record {
@@ -105,6 +106,13 @@ senses_item theory at (schema ∷ fluent ∷ []) =
       vars = schema.vars;
       fluent = fluent.item;
       args = fluent.args;
+      later = later;
       at = at;
     })
+
+-- `(senses (ACTION VARS) (FLUENT ARGS))`, or with the word `later` last
+unfoldable pub senses_item : DraftTheory → ℕ → List Form → Reading DraftSense
+senses_item theory at (schema ∷ fluent ∷ []) = sense_of theory at false schema fluent
+senses_item theory at (schema ∷ fluent ∷ late ∷ []) =
+    row (not (same (word late) (codes "later"))) UNKNOWN_FORM at (sense_of theory at true schema fluent)
 senses_item theory at _ = refused UNKNOWN_FORM at

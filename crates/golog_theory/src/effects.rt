@@ -2,15 +2,16 @@ ghost use Rattle.std.specs.Prelude.{◌≡◌, IfOk, OnOk};
 ghost use Rattle.golog_theory.specs.Reading.{Answers};
 ghost use Rattle.golog_theory.specs.Conditions.{cond_of};
 ghost use Rattle.golog_theory.specs.Draft.{IsDraft};
-ghost use Rattle.golog_theory.specs.Effects.{is_restricted, poss_item, is_new_variable, variable_after, variables_after, variable_count, effect_of, cause_of, conditional_of, causes_item, senses_item};
+ghost use Rattle.golog_theory.specs.Effects.{is_restricted, poss_item, is_new_variable, variable_after, variables_after, variable_count, effect_of, cause_of, conditional_of, causes_item, sense_of, senses_item};
 
 use crate::conditions::cond_of;
 use crate::draft::Draft;
-use crate::fault::{COUNT, DUPLICATE, TheoryFault, refuse_where, unknown_form};
+use crate::fault::{COUNT, DUPLICATE, TheoryFault, UNKNOWN_FORM, refuse_where, unknown_form};
 use crate::heads::{Called, Schema, action_called, fluent_called, head_word, schema_of};
 use crate::indexed::Indexed;
 use crate::limits::{BUILT_IN, CAUSES};
 use crate::names::{Actions, is_among};
+use crate::parts::word;
 use crate::terms::term_of;
 use golog_base::{List, NoMemory, Word, both};
 use golog_form::Form;
@@ -207,7 +208,30 @@ pub fn causes_item(
     }
 }
 
-/// `(senses (ACTION VARS) (FLUENT ARGS))`
+/// What the result of an action tells, and whether it may come later.
+fn sense_of(
+    alloc: Global,
+    theory: &Indexed<'_>,
+    at: Place,
+    later: bool,
+    schema: &Form,
+    fluent: &Form,
+) -> Result<DraftSense, TheoryFault>
+    ensures { Answers result (sense_of theory.now at later schema.now fluent.now) }
+{
+    let schema = schema_of(alloc, theory, Actions::All, schema);
+    let (schema, fluent) = both(schema, fluent_called(alloc, theory, fluent))?;
+    Ok(DraftSense {
+        action: schema.action,
+        vars: schema.vars,
+        fluent: fluent.item,
+        args: fluent.args,
+        later,
+        at,
+    })
+}
+
+/// `(senses (ACTION VARS) (FLUENT ARGS))`, or with the word `later` last.
 #[tactic(auto, unfolding(crate::specs::Effects::senses_item))]
 pub fn senses_item(
     alloc: Global,
@@ -217,16 +241,12 @@ pub fn senses_item(
 ) -> Result<DraftSense, TheoryFault>
     ensures { Answers result (senses_item theory.now at parts.now) }
 {
-    let [schema, fluent] = parts else {
-        return Err(unknown_form(at));
-    };
-    let schema = schema_of(alloc, theory, Actions::All, schema);
-    let (schema, fluent) = both(schema, fluent_called(alloc, theory, fluent))?;
-    Ok(DraftSense {
-        action: schema.action,
-        vars: schema.vars,
-        fluent: fluent.item,
-        args: fluent.args,
-        at,
-    })
+    match parts {
+        [schema, fluent] => sense_of(alloc, theory, at, false, schema, fluent),
+        [schema, fluent, late] => {
+            refuse_where(word(late) != b"later".as_slice(), UNKNOWN_FORM, at)?;
+            sense_of(alloc, theory, at, true, schema, fluent)
+        }
+        _ => Err(unknown_form(at)),
+    }
 }
