@@ -1,9 +1,9 @@
 -- The lists at which a board was asked and posted to, and that a device may go on after a turn.
-use Rattle.std.proofs.Common.{◌≡◌, ◌≢◌, ℕ, ◌+◌, Bool, true, false, not, ◌||◌, ◌==◌, if◌then◌else◌, Option, Some, None, [], ◌∷◌, ◌++◌, length, refl, sym, ap, ◌∙◌, subst, append_assoc, ◌⊎◌, inl, inr}
+use Rattle.std.proofs.Common.{◌≡◌, ◌≢◌, ℕ, ◌+◌, Bool, true, false, not, ◌==◌, if◌then◌else◌, Option, Some, None, [], ◌∷◌, ◌++◌, length, refl, sym, ap, ◌∙◌, subst, append_assoc, ◌⊎◌, inl, inr}
 use Rattle.std.specs.Prelude.{slice_get}
 use Rattle.std.specs.List.{list_any}
 use Rattle.std.specs.Option.{option_map_or}
-use Rattle.std.proofs.lemmas.Bool.{or_parts, or_from, eq-eqb, eqb-true}
+use Rattle.std.proofs.lemmas.Bool.{or_parts, or_from, or_right, eq-eqb, eqb-true}
 use Rattle.std.proofs.lemmas.Option.{slice_get_within}
 use Rattle.std.proofs.lemmas.List.{append-nil}
 use Rattle.std.proofs.lemmas.List.Folds.{list_any-append}
@@ -136,11 +136,7 @@ module _ (agent : Agent) (device : ℕ) where
   closed-shut point r count =
       ap (λ es. not (list_any is_close es))
       (posted-push point (Close device r count) device ∙ ap (λ b. entries_by device point ++ (if b then Close device r count ∷ [] else [])) (eq-eqb device device refl))
-      ∙ ap not (list_any-append is_close (entries_by device point) (Close device r count ∷ []) ∙ last (list_any is_close (entries_by device point)))
-    where
-      last : (b : Bool) → (b || (true || false)) ≡ true
-      last true = refl
-      last false = refl
+      ∙ ap not (list_any-append is_close (entries_by device point) (Close device r count ∷ []) ∙ or_right (list_any is_close (entries_by device point)) true refl)
 
   -- what came of a turn: the device may go on, or its Close stands
   pub record Stays (result : Turned) (count : ℕ) (seen : Journal) : Type 0 where

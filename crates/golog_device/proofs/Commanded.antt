@@ -9,7 +9,7 @@ use Rattle.golog_semantics.specs.Values.{fluent_sort}
 use Rattle.golog_semantics.specs.Text.{Text, action_text, value_text}
 use Rattle.golog_semantics.specs.Inline.{number_of_text}
 use Rattle.golog_semantics.specs.Dealt.{value_item}
-use Rattle.golog_semantics.specs.Journal.{Journal, Command, commands, fluent_sensed, has_end}
+use Rattle.golog_semantics.specs.Journal.{Journal, Command, commands, fluent_sensed, has_end, limit}
 use Rattle.golog_journal.specs.declared.board.Next.TheVariants.{Command as Commanded, Nothing, Ended}
 use Rattle.golog_journal.specs.Boards.{IsBoardList}
 use Rattle.golog_journal.specs.Taken.{IsDriven, IsReady}
@@ -61,7 +61,7 @@ module _ (agent : Agent) (journal : Journal) (device taken : ℕ) where
 
   module _ (list : IsBoardList agent journal) (ready : IsReady agent journal device taken) where
     -- there are not too many commands
-    pub taken-small : taken ≤ 65536
+    pub taken-small : taken ≤ limit
     taken-small =
         let few = few-of agent journal device taken ready.driven in
         let all = commands-few agent device journal in

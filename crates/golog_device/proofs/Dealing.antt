@@ -11,7 +11,7 @@ use Rattle.golog_semantics.specs.declared.journal.Reason.TheVariants as reason
 use Rattle.golog_semantics.specs.Journal.{Journal, commands, is_posted_by, has_end, is_full}
 use Rattle.golog_semantics.specs.Text.{at_each}
 use Rattle.golog_semantics.specs.Posts.{is_bad, later_reason}
-use Rattle.golog_semantics.specs.Dealt.{Meaning, Told, Script, FollowsScript, item_of, items, service, GivenFits, wakes, told_item, IsLost, TailFits, DealtUntil, DealtBy, WasDealtWith}
+use Rattle.golog_semantics.specs.Dealt.{Meaning, Told, Script, FollowsScript, item_of, items, service, GivenFits, wakes, told_item, IsLost, TailFits, IsNamed, DealtUntil, DealtBy, WasDealtWith}
 use Rattle.golog_journal.specs.Laws.{AreNotOf}
 use Rattle.golog_device.specs.Dealing.{KeepsScript, DealtSoFar}
 use Rattle.golog_device.proofs.Growing.{all, items-others, items-own, rested-push, rested-others, taken-others}
@@ -37,6 +37,7 @@ keeps-follows script m keeps =
 module _ (agent : Agent) (device : ℕ) where
   -- The device has answered, and told this last, which does not stand in the journal yet.
   pub record HasAnswered (journal : Journal) (taken : ℕ) (m : Meaning) (tail : List Told) : Type 0 where
+    pub named : IsNamed agent device m
     pub given : IfSome m.given
         (λ given. GivenFits agent device m.cut given (map (service agent device) (take taken (commands agent device journal))))
     pub told : IfSome m.told (λ told. told ≡ items agent device journal ++ tail)
@@ -46,6 +47,7 @@ module _ (agent : Agent) (device : ℕ) where
   pub answered-others : (journal others : Journal) (taken : ℕ) (m : Meaning) (tail : List Told) → AreNotOf device others
       → taken ≤ length (commands agent device journal) → HasAnswered journal taken m tail → HasAnswered (journal ++ others) taken m tail
   answered-others journal others taken m tail foreign few has = record {
+    named = has.named;
     given =
         if-some (λ given. GivenFits agent device m.cut given (map (service agent device) (take taken (commands agent device journal))))
         (λ given. GivenFits agent device m.cut given (map (service agent device) (take taken (commands agent device (journal ++ others))))) m.given
@@ -61,6 +63,7 @@ module _ (agent : Agent) (device : ℕ) where
   pub so-far-answered : (journal : Journal) (taken : ℕ) (script : Script) (m : Meaning) → DealtSoFar agent device journal taken script m
       → HasAnswered journal taken m []
   so-far-answered journal taken script m so_far = record {
+    named = so_far.named;
     given = so_far.given;
     told =
         if-some (λ told. told ≡ items agent device journal) (λ told. told ≡ items agent device journal ++ []) m.told
@@ -71,6 +74,7 @@ module _ (agent : Agent) (device : ℕ) where
   pub answered-so-far : (journal : Journal) (taken : ℕ) (script : Script) (m : Meaning) → HasAnswered journal taken m [] → Keeps script m
       → DealtSoFar agent device journal taken script m
   answered-so-far journal taken script m has keeps = record {
+    named = has.named;
     given = has.given;
     told =
         if-some (λ told. told ≡ items agent device journal ++ []) (λ told. told ≡ items agent device journal) m.told
@@ -84,6 +88,7 @@ module _ (agent : Agent) (device : ℕ) where
       → is_posted_by device e ≡ true → item_of agent device e ≡ t ∷ [] → wakes agent device journal e ≡ true
       → HasAnswered journal taken m (t ∷ []) → Keeps script m → DealtSoFar agent device (journal ++ e ∷ []) taken script m
   dealt-own journal e taken script m t few own stands woken has keeps = record {
+    named = has.named;
     given =
         if-some (λ given. GivenFits agent device m.cut given (map (service agent device) (take taken (commands agent device journal))))
         (λ given. GivenFits agent device m.cut given (map (service agent device) (take taken (commands agent device (journal ++ e ∷ []))))) m.given
@@ -116,6 +121,7 @@ module _ (agent : Agent) (device : ℕ) where
     taken = taken;
     closed = refl;
     fits = until-by journal r taken script m other (record {
+      named = has.named;
       given = has.given;
       told =
           if-some (λ told. told ≡ items agent device journal ++ tail)

@@ -2,18 +2,18 @@
 use Rattle.std.proofs.Common.{◌≡◌, ℕ, zero, suc, ◌+◌, ◌<◌, Bool, true, false, not, ◌||◌, if◌then◌else◌, Option, Some, None, List, [], ◌∷◌, ◌++◌, length, get_or, refl, sym, ap, ◌∙◌, subst, arith, append_assoc}
 use Rattle.std.specs.Prelude.{IfSome, slice_get, nat_lt}
 use Rattle.std.specs.List.{list_any, list_all, flat_map, enumerate_from}
-use Rattle.std.proofs.lemmas.Bool.{lt-ltb, ne_eqb, eq-eqb}
+use Rattle.std.proofs.lemmas.Bool.{or_right, lt-ltb, ne_eqb, eq-eqb}
 use Rattle.std.proofs.lemmas.List.Elements.{filter-append}
 use Rattle.std.proofs.lemmas.List.Folds.{list_any-append}
 use Rattle.golog_tree.specs.declared.agent.Agent.{Agent}
 use Rattle.golog_semantics.specs.declared.journal.Entry.TheVariants.{Close}
 use Rattle.golog_semantics.specs.declared.journal.Reason.TheVariants.{Refused}
 use Rattle.golog_semantics.specs.Journal.{Journal, is_posted_by, entries_by, is_close, is_open}
-use Rattle.golog_semantics.specs.Text.{Text, at_each}
+use Rattle.golog_semantics.specs.Text.{Text, at_each, device_text}
 use Rattle.golog_semantics.specs.Dealt.{Meaning, Told, Script, item_of, items, GivenFits, wakes}
 use Rattle.golog_journal.proofs.Staying.{open-same}
-use Rattle.golog_device.specs.Devices.{emptied, HasBegun}
-use Rattle.golog_device.specs.Slots.{Standing, Both, ChangesIf, BeginsUnless, refusal, refusals}
+use Rattle.golog_device.specs.Devices.{emptied, renamed, HasBegun}
+use Rattle.golog_device.specs.Slots.{Standing, Both, ChangesIf, BeginsUnless, name_at, refusal, refusals}
 use Rattle.golog_device.specs.Dealing.{KeepsScript, DealtIf, DealtNow, HasLeft}
 use Rattle.golog_device.specs.Laws.{DealtAtFirst, DealtStays}
 use Rattle.golog_device.proofs.Dealing.{answered-others, so-far-answered, answered-so-far}
@@ -76,11 +76,7 @@ module _ (agent : Agent) (device : ℕ) where
       ∙ ap not
       (list_any-append is_close (entries_by device before) (entries_by device (Close device Refused 0 ∷ later))
       ∙ ap (λ b. list_any is_close (entries_by device before) || list_any is_close (if b then Close device Refused 0 ∷ entries_by device later else entries_by device later)) (eq-eqb device device refl)
-      ∙ last (list_any is_close (entries_by device before)) (list_any is_close (entries_by device later)))
-    where
-      last : (a b : Bool) → (a || (true || b)) ≡ true
-      last true b = refl
-      last false b = refl
+      ∙ or_right (list_any is_close (entries_by device before)) true refl)
 
   dealt-refused : (refused : List Bool) (script : Script) (m : Meaning) → device < length refused → get_or refused device false ≡ true → m.left ≡ None
       → DealtNow agent device (refusals refused) 0 script m
@@ -104,13 +100,18 @@ module _ (agent : Agent) (device : ℕ) where
   keeps-first script (Some l) None has = tt
   keeps-first script (Some l) (Some told) has = record { answers = ap (λ (x : Script). x.answers) has; idle = ap (λ (x : Script). x.idle) has }
 
-  dealt-begun : (refused : List Bool) (script : Script) (old m : Meaning) (text : Text) → get_or refused device false ≡ false → HasBegun old m text
-      → HasLeft script m → DealtNow agent device (refusals refused) 0 script m
+  renamed-so : (o : Option Text) → IfSome (renamed o (device_text agent device)) (λ n. n ≡ device_text agent device)
+  renamed-so None = tt
+  renamed-so (Some name) = refl
+
+  dealt-begun : (refused : List Bool) (script : Script) (old m : Meaning) (text : Text) → get_or refused device false ≡ false
+      → HasBegun old m (device_text agent device) text → HasLeft script m → DealtNow agent device (refusals refused) 0 script m
   dealt-begun refused script old m text is begun has =
       let none : entries_by device (refusals refused) ≡ [] = none-from 0 refused device device (omega arith) is in
       let open_still : is_open device (refusals refused) ≡ true = ap (λ es. not (list_any is_close es)) none in
       subst (λ b. DealtIf agent device b (refusals refused) 0 script m) (sym open_still)
       (record {
+        named = subst (λ o. IfSome o (λ n. n ≡ device_text agent device)) (sym begun.named) (renamed-so old.name);
         given =
             subst (λ c. IfSome m.given (λ given. GivenFits agent device c given [])) (sym begun.whole)
             (subst (λ o. IfSome o (λ given. GivenFits agent device false given [])) (sym begun.none_given) (emptied-given old.given));
@@ -126,7 +127,7 @@ dealt_at_first agent count texts journal olds news begun device below = go (slic
     inside : device < length begun.refused
     inside = let l = begun.one_each in omega (arith, l, below)
 
-    by : (b : Bool) → get_or begun.refused device false ≡ b → (old new : Standing) → BeginsUnless b (get_or texts device []) old new
+    by : (b : Bool) → get_or begun.refused device false ≡ b → (old new : Standing) → BeginsUnless b (name_at agent.devices device) (get_or texts device []) old new
         → (script : Script) → HasLeft script new.meaning → DealtNow agent device journal 0 script new.meaning
     by true is old new (same, untold) script has =
         subst (λ j. DealtNow agent device j 0 script new.meaning) (sym begun.closed)
@@ -136,14 +137,14 @@ dealt_at_first agent count texts journal olds news begun device below = go (slic
         (dealt-begun agent device begun.refused script old.meaning new.meaning (get_or texts device []) is begins has)
 
     go : (x y : Option Standing)
-        → Both (λ old new. ChangesIf (nat_lt device count) (BeginsUnless (get_or begun.refused device false) (get_or texts device [])) old new) x y
+        → Both (λ old new. ChangesIf (nat_lt device count) (BeginsUnless (get_or begun.refused device false) (name_at agent.devices device) (get_or texts device [])) old new) x y
         → IfSome y (λ s. (script : Script) → HasLeft script s.meaning → DealtNow agent device journal 0 script s.meaning)
     go None None both = tt
     go None (Some new) both = absurd both
     go (Some old) None both = tt
     go (Some old) (Some new) both =
         by (get_or begun.refused device false) refl old new
-        (subst (λ b. ChangesIf b (BeginsUnless (get_or begun.refused device false) (get_or texts device [])) old new) (lt-ltb device count below) both)
+        (subst (λ b. ChangesIf b (BeginsUnless (get_or begun.refused device false) (name_at agent.devices device) (get_or texts device [])) old new) (lt-ltb device count below) both)
 
 pub dealt_stays : DealtStays
 dealt_stays agent journal others device taken script m foreign few dealt = go (is_open device journal) refl dealt

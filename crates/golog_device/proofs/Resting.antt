@@ -1,5 +1,5 @@
 -- A device that is not at rest may be asked: each Rest of it told of fewer commands than it has.
-use Rattle.std.proofs.Common.{◌≡◌, ℕ, zero, suc, ◌+◌, ◌≤◌, ◌<◌, Bool, true, false, not, ◌&&◌, ◌||◌, if◌then◌else◌, Some, None, List, [], ◌∷◌, ◌++◌, length, length-append, refl, sym, ap, ◌∙◌, subst, arith, append_assoc, ◌⊎◌, inl, inr}
+use Rattle.std.proofs.Common.{◌≡◌, ℕ, zero, suc, ◌+◌, ◌≤◌, ◌<◌, Bool, true, false, not, ◌&&◌, if◌then◌else◌, Some, None, List, [], ◌∷◌, ◌++◌, length, length-append, refl, sym, ap, ◌∙◌, subst, arith, append_assoc, ◌⊎◌, inl, inr}
 use Rattle.std.specs.Prelude.{filter, take, slice_get, nat_lt, nat_le}
 use Rattle.std.specs.List.{list_any, list_all}
 use Rattle.std.specs.Option.{option_map_or}
@@ -18,7 +18,7 @@ use Rattle.golog_semantics.proofs.Pushed.{fold-push}
 use Rattle.golog_semantics.proofs.Grown.{posted-push, commands-push}
 use Rattle.golog_journal.specs.Boards.{is_lawful, IsBoardList}
 use Rattle.golog_journal.proofs.Lawful.{Lawful, lawful-parts}
-use Rattle.golog_device.proofs.Taking.{all-more}
+use Rattle.golog_device.proofs.Taking.{all-more, still-none}
 
 -- an entry tells of no more commands than there are
 abbrev tells_within : ℕ → Entry → Bool
@@ -105,13 +105,8 @@ module _ (agent : Agent) (device : ℕ) where
       let parts = or_parts (is_outstanding agent journal c) (list_any (is_outstanding agent journal) cs) h in
       or_from _ _
       (ap (λ b. is_sensing agent c.action && not b) (list_any-append (is_result_of c.place) journal (e ∷ []))
-      ∙ one (is_sensing agent c.action) (list_any (is_result_of c.place) journal) (list_any (is_result_of c.place) (e ∷ [])) parts.0)
+      ∙ still-none (is_sensing agent c.action) (list_any (is_result_of c.place) journal) (list_any (is_result_of c.place) (e ∷ [])) parts.0)
       (shrinks journal e cs parts.1)
-    where
-      one : (s a b : Bool) → (s && not a) ≡ false → (s && not (a || b)) ≡ false
-      one true true b h = refl
-      one true false b h = absurd (cc)
-      one false a b h = refl
 
   -- with an entry of another
   other-step : (journal : Journal) (e : Entry) → is_posted_by device e ≡ false → (cs : List Command) → new_command agent journal e device ≡ cs

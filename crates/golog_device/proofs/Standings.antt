@@ -4,13 +4,14 @@ use Rattle.std.proofs.lemmas.Grind.{common_steps, flat_map-append}
 use Rattle.std.proofs.lemmas.Option.{slice_get-get_or, slice_get_read, slice_get_past, slice_get_cases, slice_get-map}
 use Rattle.std.proofs.lemmas.Bool.Decides.{eqb_tells, leb_tells}
 use Rattle.std.proofs.lemmas.Bool.{lt-ltb, le-ltb}
+use Rattle.std.specs.Prelude.{unwrap_or}
 use Rattle.std.specs.List.{enumerate_from, flat_map}
 use Rattle.std.proofs.lemmas.List.{length-map, append-nil, set-get_or, get_or-map}
 use Rattle.std.proofs.Math.ListN.{get_or-append}
 use Rattle.std.proofs.Math.Seq.{get_or-append_seam}
 use Rattle.golog_semantics.specs.Text.{Text}
 use Rattle.golog_semantics.specs.Journal.{Journal}
-use Rattle.golog_device.specs.Slots.{Standing, Both, EachSlot, ChangesIf, OnlySlot, HasAt, BeginsUnless, BeginsBelow, refusal, refusals, HaveBegun, BeginsAt}
+use Rattle.golog_device.specs.Slots.{Standing, Both, EachSlot, ChangesIf, OnlySlot, HasAt, BeginsUnless, BeginsBelow, name_at, refusal, refusals, HaveBegun, BeginsAt}
 
 pub slice_get-set_same : {A : Type 0} (xs : List A) (i : ℕ) (y : A) → i < length xs → slice_get (set xs i y) i ≡ Some y
 slice_get-set_same xs i y within =
@@ -22,6 +23,12 @@ slice_get-set_other xs i k y other =
       | inl (x, within, is, at) ↦ grind (arith, common_steps, slice_get-get_or)
       | inr (past, is) ↦ grind (arith, common_steps, slice_get_past)
     ]
+
+-- the name that was read at a slot
+pub named-at : (names read : List Text) (slot : ℕ) (name : Text) → read ≡ names → slot < length names → name ≡ get_or read slot name → name ≡ name_at names slot
+named-at names read slot name same within is =
+    let long : length read ≡ length names = ap (λ xs. length xs) same in
+    ap (λ o. unwrap_or o []) (sym (slice_get_read read (length read) slot name refl (omega (arith, within, long)) is)) ∙ ap (λ xs. name_at xs slot) same
 
 pub Both-same : (P : Standing → Standing → Type 0) (x : Option Standing) → ((m : Standing) → P m m) → Both P x x
 Both-same P None same = tt
@@ -108,8 +115,8 @@ refusals-push refused b =
     ∙ flat_map-append refusal (enumerate_from 0 refused) ((length refused, b) ∷ [])
     ∙ ap (λ l. refusals refused ++ l) (append-nil (refusal (length refused, b)))
 
-pub begun-none : (texts : List Text) (journal : Journal) (standings : List Standing) → journal ≡ [] → HaveBegun 0 texts journal standings standings
-begun-none texts journal standings empty = record {
+pub begun-none : (names texts : List Text) (journal : Journal) (standings : List Standing) → journal ≡ [] → HaveBegun 0 names texts journal standings standings
+begun-none names texts journal standings empty = record {
   refused = [];
   one_each = refl;
   closed = empty;
@@ -117,13 +124,13 @@ begun-none texts journal standings empty = record {
 }
   where
     below : (slot : ℕ) (m : Standing) → nat_lt slot 0 ≡ false
-        → ChangesIf (nat_lt slot 0) (BeginsUnless false (get_or texts slot [])) m m
+        → ChangesIf (nat_lt slot 0) (BeginsUnless false (name_at names slot) (get_or texts slot [])) m m
     below slot m not_below = rw not_below refl
 
 -- the device of one more slot has begun
-pub begun-next : (n : ℕ) (texts : List Text) (before after : Journal) (olds mids news : List Standing) (text : Text) → text ≡ get_or texts n []
-    → HaveBegun n texts before olds mids → BeginsAt n text before after mids news → HaveBegun (n + 1) texts after olds news
-begun-next n texts before after olds mids news text text_is first second = record {
+pub begun-next : (n : ℕ) (names texts : List Text) (before after : Journal) (olds mids news : List Standing) (text : Text) → text ≡ get_or texts n []
+    → HaveBegun n names texts before olds mids → BeginsAt n (name_at names n) text before after mids news → HaveBegun (n + 1) names texts after olds news
+begun-next n names texts before after olds mids news text text_is first second = record {
   refused = first.refused ++ second.refused ∷ [];
   one_each = let l = length-append first.refused (second.refused ∷ []) in let k = first.one_each in omega (arith, l, k);
   closed =
@@ -134,22 +141,22 @@ begun-next n texts before after olds mids news text text_is first second = recor
 }
   where
     step : (slot : ℕ) (a b c : Standing)
-        → ChangesIf (nat_lt slot n) (BeginsUnless (get_or first.refused slot false) (get_or texts slot [])) a b
-        → ChangesIf (slot == n) (BeginsUnless second.refused text) b c
-        → ChangesIf (nat_lt slot (n + 1)) (BeginsUnless (get_or (first.refused ++ second.refused ∷ []) slot false) (get_or texts slot [])) a c
+        → ChangesIf (nat_lt slot n) (BeginsUnless (get_or first.refused slot false) (name_at names slot) (get_or texts slot [])) a b
+        → ChangesIf (slot == n) (BeginsUnless second.refused (name_at names n) text) b c
+        → ChangesIf (nat_lt slot (n + 1)) (BeginsUnless (get_or (first.refused ++ second.refused ∷ []) slot false) (name_at names slot) (get_or texts slot [])) a c
     step slot a b c before now = cases (eqb_tells slot n) (leb_tells (suc slot) n) before now
       where
         cases : ((slot == n) ≡ true) × (slot ≡ n) ⊎ ((slot == n) ≡ false) × (slot ≢ n)
             → (nat_lt slot n ≡ true) × (slot < n) ⊎ (nat_lt slot n ≡ false) × (n < suc slot)
-            → ChangesIf (nat_lt slot n) (BeginsUnless (get_or first.refused slot false) (get_or texts slot [])) a b
-            → ChangesIf (slot == n) (BeginsUnless second.refused text) b c
-            → ChangesIf (nat_lt slot (n + 1)) (BeginsUnless (get_or (first.refused ++ second.refused ∷ []) slot false) (get_or texts slot [])) a c
+            → ChangesIf (nat_lt slot n) (BeginsUnless (get_or first.refused slot false) (name_at names slot) (get_or texts slot [])) a b
+            → ChangesIf (slot == n) (BeginsUnless second.refused (name_at names n) text) b c
+            → ChangesIf (nat_lt slot (n + 1)) (BeginsUnless (get_or (first.refused ++ second.refused ∷ []) slot false) (name_at names slot) (get_or texts slot [])) a c
         cases (inl (here, is)) (inl (below, lt)) before now = absurd (omega arith)
         cases (inl (here, is)) (inr (past, gt)) before now =
             let long = first.one_each in
             let own : get_or (first.refused ++ second.refused ∷ []) slot false ≡ second.refused = ap (λ k. get_or (first.refused ++ second.refused ∷ []) k false) (is ∙ sym long) ∙ get_or-append_seam first.refused second.refused [] false in
             rw (lt-ltb slot (n + 1) (omega arith), own, is, ← text_is)
-            (subst (λ m. BeginsUnless second.refused text m c) (rw past at before) (rw here at now))
+            (subst (λ m. BeginsUnless second.refused (name_at names n) text m c) (rw past at before) (rw here at now))
         cases (inr (elsewhere, is)) (inl (below, lt)) before now =
             let b_is : c ≡ b = rw elsewhere at now in
             let long = first.one_each in
@@ -161,20 +168,20 @@ begun-next n texts before after olds mids news text text_is first second = recor
             rw (le-ltb slot (n + 1) (omega arith)) (c_is ∙ b_is)
 
 -- a slot that has not begun still has what it had
-pub begun-has : (n : ℕ) (P : Standing → Type 0) (texts : List Text) (journal : Journal) (olds news : List Standing)
-    → HaveBegun n texts journal olds news → HasAt olds n P → HasAt news n P
-begun-has n P texts journal olds news begun has = has_after (slice_get olds n) (slice_get news n) kept has where
+pub begun-has : (n : ℕ) (P : Standing → Type 0) (names texts : List Text) (journal : Journal) (olds news : List Standing)
+    → HaveBegun n names texts journal olds news → HasAt olds n P → HasAt news n P
+begun-has n P names texts journal olds news begun has = has_after (slice_get olds n) (slice_get news n) kept has where
   has_after : (x y : Option Standing) → Both (λ old new. new ≡ old) x y → IsSomeAnd x P → IsSomeAnd y P
   has_after None y same none = absurd none
   has_after (Some old) None same none = absurd same
   has_after (Some old) (Some new) same has = rw same has
 
-  unchanged : (x y : Option Standing) → Both (BeginsBelow n texts begun.refused n) x y → Both (λ old new. new ≡ old) x y
+  unchanged : (x y : Option Standing) → Both (BeginsBelow n names texts begun.refused n) x y → Both (λ old new. new ≡ old) x y
   unchanged None None both = tt
   unchanged None (Some new) both = absurd both
   unchanged (Some old) None both = absurd both
   unchanged (Some old) (Some new) both =
-      subst (λ b. ChangesIf b (BeginsUnless (get_or begun.refused n false) (get_or texts n [])) old new) (le-ltb n n (omega arith)) both
+      subst (λ b. ChangesIf b (BeginsUnless (get_or begun.refused n false) (name_at names n) (get_or texts n [])) old new) (le-ltb n n (omega arith)) both
 
   kept : Both (λ old new. new ≡ old) (slice_get olds n) (slice_get news n)
   kept = unchanged (slice_get olds n) (slice_get news n) ((begun.begun).at n)

@@ -3,7 +3,7 @@ use Rattle.std.proofs.Common.{◌≡◌, ℕ, zero, suc, ◌+◌, ◌-◌, Bool,
 use Rattle.std.specs.Prelude.{filter, slice_get, is_some, nat_lt, nat_le}
 use Rattle.std.specs.List.{list_any, list_all}
 use Rattle.std.specs.Option.{option_map_or}
-use Rattle.std.proofs.lemmas.Bool.{and_parts, and_from, or_parts, or_from, not-true, not_from_false, not-false, leb-true, le-leb, eq-eqb, eqb-false}
+use Rattle.std.proofs.lemmas.Bool.{and_parts, and_from, and_right, or_parts, or_from, or_right, not-true, not_from_false, not-false, leb-true, le-leb, eq-eqb, eqb-false}
 use Rattle.std.proofs.lemmas.Option.{same_Some, slice_get_within}
 use Rattle.std.proofs.lemmas.List.{append-nil}
 use Rattle.std.proofs.lemmas.List.Folds.{list_all-append, list_any-append}
@@ -37,13 +37,11 @@ take-next (y ∷ ys) (suc k) x h =
     let more : suc k + 1 ≡ suc (k + 1) = omega arith in
     ap (λ n. take n (y ∷ ys)) more ∙ ap (λ l. y ∷ l) (take-next ys k x h)
 
-always : (b : Bool) → (b || (true || false)) ≡ true
-always true = refl
-always false = refl
-
-never : (b : Bool) → (b && not true) ≡ false
-never true = refl
-never false = refl
+-- a sensing command that has its result has it with more entries
+pub still-none : (s a b : Bool) → (s && not a) ≡ false → (s && not (a || b)) ≡ false
+still-none true true b h = refl
+still-none true false b h = absurd (cc)
+still-none false a b h = refl
 
 module _ (agent : Agent) (journal : Journal) (device taken : ℕ) where
   -- why an item that is not refused is fine
@@ -157,12 +155,7 @@ module _ (agent : Agent) (journal : Journal) (device taken : ℕ) where
     shrinks : (c : Command) → is_outstanding agent journal c ≡ false → is_outstanding agent after c ≡ false
     shrinks c none =
         ap (λ b. is_sensing agent c.action && not b) (list_any-append (is_result_of c.place) journal (e ∷ []))
-        ∙ go (is_sensing agent c.action) (list_any (is_result_of c.place) journal) (list_any (is_result_of c.place) (e ∷ [])) none
-      where
-        go : (s a b : Bool) → (s && not a) ≡ false → (s && not (a || b)) ≡ false
-        go true true b h = refl
-        go true false b h = absurd (cc)
-        go false a b h = refl
+        ∙ still-none (is_sensing agent c.action) (list_any (is_result_of c.place) journal) (list_any (is_result_of c.place) (e ∷ [])) none
 
     none-shrinks : (cs : List Command) → list_any (is_outstanding agent journal) cs ≡ false → list_any (is_outstanding agent after) cs ≡ false
     none-shrinks [] h = refl
@@ -228,8 +221,8 @@ module _ (agent : Agent) (journal : Journal) (device taken : ℕ) where
         gone =
             ap (λ b. is_sensing agent c.action && not b)
             (list_any-append (is_result_of c.place) journal (e ∷ []) ∙ ap (λ b. list_any (is_result_of c.place) journal || (b || false)) result
-            ∙ always (list_any (is_result_of c.place) journal))
-            ∙ never (is_sensing agent c.action)
+            ∙ or_right (list_any (is_result_of c.place) journal) true refl)
+            ∙ and_right (is_sensing agent c.action) false refl
 
         its : (x : Command) → c ≡ x → is_outstanding agent after x ≡ false
         its x same = ap (is_outstanding agent after) (sym same) ∙ gone

@@ -6,7 +6,7 @@ use Rattle.std.proofs.lemmas.List.{append-nil, map-append}
 use Rattle.std.proofs.lemmas.Grind.{flat_map-append}
 use Rattle.golog_tree.specs.declared.agent.Agent.{Agent}
 use Rattle.golog_semantics.specs.Journal.{Journal, Command, commands}
-use Rattle.golog_semantics.specs.Text.{Text}
+use Rattle.golog_semantics.specs.Text.{Text, device_text}
 use Rattle.golog_semantics.specs.Same.{same_values}
 use Rattle.golog_semantics.specs.Dealt.{Meaning, Told, TellsValue, TellsClose, Script, FollowsScript, told_value, told_idle, items, service, GivenFits}
 use Rattle.golog_semantics.proofs.Levels.{same_values-eq}
@@ -80,6 +80,7 @@ module _ (agent : Agent) (device : ℕ) where
       → slice_get (commands agent device journal) taken ≡ Some c → DealtSoFar agent device journal taken script old
       → Serves answer old new (service agent device c) → HasAnswered agent device journal (taken + 1) new (value_told answer)
   served-answered journal taken script old new answer c next so_far serves = record {
+    named = subst (λ o. IfSome o (λ n. n ≡ device_text agent device)) (sym serves.name_same) so_far.named;
     given =
         subst (λ cs. IfSome new.given (λ given. GivenFits agent device new.cut given cs))
         (sym (map-append (service agent device) (take taken (commands agent device journal)) (c ∷ []))
@@ -95,6 +96,7 @@ module _ (agent : Agent) (device : ℕ) where
   pub idled-answered : (journal : Journal) (taken : ℕ) (script : Script) (old new : Meaning) (answer : Idle)
       → DealtSoFar agent device journal taken script old → Idles answer old new → HasAnswered agent device journal taken new (tells answer ∷ [])
   idled-answered journal taken script old new answer so_far idles = record {
+    named = subst (λ o. IfSome o (λ n. n ≡ device_text agent device)) (sym idles.name_same) so_far.named;
     given =
         subst (λ c. IfSome new.given (λ given. GivenFits agent device c given (map (service agent device) (take taken (commands agent device journal))))) (sym idles.cut_same)
         (subst (λ o. IfSome o (λ given. GivenFits agent device old.cut given (map (service agent device) (take taken (commands agent device journal))))) (sym idles.given_same) so_far.given);

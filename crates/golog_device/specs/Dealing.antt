@@ -5,7 +5,7 @@ use Rattle.golog_tree.specs.declared.agent.Agent.{Agent}
 use Rattle.golog_semantics.specs.Journal.{Journal, commands, is_open}
 use Rattle.golog_semantics.specs.Text.{at_each}
 use Rattle.golog_semantics.specs.Inline.{Scripted, turn}
-use Rattle.golog_semantics.specs.Dealt.{Meaning, Told, Script, told_value, told_idle, GivenFits, service, items, wakes, WasDealtWith}
+use Rattle.golog_semantics.specs.Dealt.{Meaning, Told, Script, told_value, told_idle, GivenFits, service, items, wakes, IsNamed, WasDealtWith}
 use Rattle.golog_device.specs.declared.turn.Turned.{Turned}
 use Rattle.golog_device.specs.declared.turn.Turned.TheVariants.{Served, Posted, Rested, Nothing, Closed}
 
@@ -19,10 +19,11 @@ abbrev pub scripted : Script → ℕ → Scripted
 scripted left taken = record { answers = left.answers; idle = left.idle; taken = taken }
 
 module _ (agent : Agent) (device : ℕ) where
-  -- What an open device was given and told fits the journal, none of its results being awaited: it was
-  -- given the commands that it has taken, it told its items that stand, and it was not asked for more while
-  -- it rested.
+  -- What an open device was given and told fits the journal, none of its results being awaited: it has begun
+  -- under its name, it was given the commands that it has taken, it told its items that stand, and it was not
+  -- asked for more while it rested.
   pub record DealtSoFar (journal : Journal) (taken : ℕ) (script : Script) (m : Meaning) : Type 0 where
+    pub named : IsNamed agent device m
     pub given : IfSome m.given
         (λ given. let served = map (service agent device) (take taken (commands agent device journal)) in
         GivenFits agent device m.cut given served)

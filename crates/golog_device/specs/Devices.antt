@@ -17,6 +17,11 @@ abbrev pub and_then_item : {A : Type 0} → Option (List A) → A → Option (Li
 and_then_item None item = None
 and_then_item (Some items) item = Some (items ++ item ∷ [])
 
+-- this where one is told
+abbrev pub renamed : {A : Type 0} → Option A → A → Option A
+renamed None name = None
+renamed (Some old) name = Some name
+
 -- the empty list where a list is told
 abbrev pub emptied : {A : Type 0} → Option (List A) → Option (List A)
 emptied None = None
@@ -27,19 +32,20 @@ abbrev pub Restarts : Option Script → Option Script → Text → Type 0
 Restarts None new text = new ≡ None
 Restarts (Some left) new text = IsSome new × (new ≡ script_spelled text)
 
--- the device has begun with the script that this text spells: it was given and told nothing yet
-pub record HasBegun (old new : Meaning) (text : Text) : Type 0 where
+-- the device has begun under this name with the script that this text spells: it was given and told nothing yet
+pub record HasBegun (old new : Meaning) (name text : Text) : Type 0 where
+  pub named : new.name ≡ renamed old.name name
   pub whole : new.cut ≡ false
   pub none_given : new.given ≡ emptied old.given
   pub none_told : new.told ≡ emptied old.told
   pub script_left : Restarts old.left new.left text
 
--- A device that is ready has begun; else it means what it meant. One that tells what is left refuses no
--- script.
-abbrev pub Begins : Begun → Meaning → Meaning → Text → Type 0
-Begins Ready old new text = HasBegun old new text
-Begins Refused old new text = (new ≡ old) × (IsSome (script_spelled text) → old.left ≡ None)
-Begins Memory old new text = new ≡ old
+-- A device that is ready has begun under its name; else it means what it meant. One that tells what is left
+-- refuses no script.
+abbrev pub Begins : Begun → Meaning → Meaning → Text → Text → Type 0
+Begins Ready old new name text = HasBegun old new name text
+Begins Refused old new name text = (new ≡ old) × (IsSome (script_spelled text) → old.left ≡ None)
+Begins Memory old new name text = new ≡ old
 
 -- it is fresh until it is ready
 abbrev pub still_fresh : Begun → Bool
@@ -106,12 +112,14 @@ IdlesBy (Some left) answer new =
 
 -- what serving an action does
 pub record Serves (answer : Served) (old new : Meaning) (service : Service) : Type 0 where
+  pub name_same : new.name ≡ old.name
   pub gives : Gives old.cut new.cut old.given new.given service
   pub tells_value : new.told ≡ told_after old.told answer
   pub by_script : ServesBy old.left service.asked answer new.left
 
 -- what idling does
 pub record Idles (answer : Idle) (old new : Meaning) : Type 0 where
+  pub name_same : new.name ≡ old.name
   pub cut_same : new.cut ≡ old.cut
   pub given_same : new.given ≡ old.given
   pub tells_item : new.told ≡ told_then old.told (tells answer)

@@ -12,7 +12,7 @@ use Rattle.golog_device.specs.Dealing.{DealtNow, HasLeft}
 abbrev pub DealtAtFirst : Type 0
 DealtAtFirst =
     (agent : Agent) (count : ℕ) (texts : List Text) (journal : Journal) (olds news : List Standing)
-    → HaveBegun count texts journal olds news
+    → HaveBegun count agent.devices texts journal olds news
     → (device : ℕ) → device < count
     → IfSome (slice_get news device) (λ s. (script : Script) → HasLeft script s.meaning
     → DealtNow agent device journal 0 script s.meaning)

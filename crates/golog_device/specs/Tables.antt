@@ -28,15 +28,16 @@ is_fresh device = device.fresh
 
 abbrev pub meaning_of : TableDevice → Meaning
 meaning_of device = record {
+  name = None;
   cut = is_cut device.served;
   given = Some (given_by device.served);
   told = Some (told_by device.told);
   left = None;
 }
 
--- a device that was given and told nothing, and doesn't tell what is left of a script
+-- a device that was given and told nothing, and tells neither its name nor what is left of a script
 abbrev pub unused : Meaning
-unused = record { cut = false; given = Some []; told = Some []; left = None }
+unused = record { name = None; cut = false; given = Some []; told = Some []; left = None }
 
 -- the next answer to an action: with none left it answers nothing
 abbrev pub next_served : List Served → Served

@@ -7,7 +7,7 @@ ghost use Rattle.golog_journal.specs.Taken.{IsReady};
 ghost use Rattle.golog_journal.specs.Posting.{MayPost};
 ghost use Rattle.golog_device.specs.Scripts.{script_spelled};
 ghost use Rattle.golog_device.specs.Turns.{SameBoard};
-ghost use Rattle.golog_device.specs.Slots.{standings, HasAt, FreshBelow, HaveBegun, BeginsAt};
+ghost use Rattle.golog_device.specs.Slots.{standings, name_at, HasAt, FreshBelow, HaveBegun, BeginsAt};
 
 use crate::{Begun, Device};
 use golog_base::{Bytes, List, NoMemory};
@@ -35,10 +35,10 @@ pub fn begin_all<D: Device, B: Board>(
     requires fresh { FreshBelow (length scripts.now) (standings D.fresh D.meaning devices.old) }
     ensures board { SameBoard (B.sight board.old) (B.sight board.new) }
     ensures lawful { IsBoardList agent.now (B.sight board.new).seen }
-    ensures begun { OnOk result (HaveBegun (length scripts.now) scripts.now (B.sight board.new).seen
+    ensures begun { OnOk result (HaveBegun (length scripts.now) agent.now.devices scripts.now (B.sight board.new).seen
         (standings D.fresh D.meaning devices.old) (standings D.fresh D.meaning devices.new)) }
     ensures memory { OnErr result ((count : ℕ) × (count < length scripts.now)
-        × HaveBegun count scripts.now (B.sight board.new).seen
+        × HaveBegun count agent.now.devices scripts.now (B.sight board.new).seen
         (standings D.fresh D.meaning devices.old) (standings D.fresh D.meaning devices.new)) }
     ensures ready { OnOk result ((device : ℕ) → device < length agent.now.devices
         → is_open device (B.sight board.new).seen ≡ true
@@ -70,7 +70,8 @@ fn begin_at<D: Device, B: Board>(
     requires fresh { HasAt (standings D.fresh D.meaning devices.old) slot (λ s. s.fresh ≡ true) }
     ensures board { SameBoard (B.sight board.old) (B.sight board.new) }
     ensures lawful { IsBoardList agent.now (B.sight board.new).seen }
-    ensures begun { OnOk result (BeginsAt slot script.now (B.sight board.old).seen (B.sight board.new).seen
+    ensures begun { OnOk result (BeginsAt slot (name_at agent.now.devices slot) script.now
+        (B.sight board.old).seen (B.sight board.new).seen
         (standings D.fresh D.meaning devices.old) (standings D.fresh D.meaning devices.new)) }
     ensures memory { OnErr result ((B.sight board.new).seen ≡ (B.sight board.old).seen) }
     ensures unchanged { OnErr result

@@ -44,7 +44,7 @@ pub trait Device: Drop {
     // It has not begun.
     ghost fresh: { Self → Bool };
 
-    // What it was given, told and has left of its script.
+    // Its name, and what it was given, told and has left of its script.
     ghost meaning: { Self → Meaning };
 
     /// Begins a fresh device under its name with its script. A device that tells what is left of its script
@@ -52,7 +52,7 @@ pub trait Device: Drop {
     fn begin(&mut self, alloc: Global, name: &[u8], script: &[u8]) -> Begun
         requires { fresh self.old ≡ true }
         ensures fresh { fresh self.new ≡ still_fresh result }
-        ensures begins { Begins result (meaning self.old) (meaning self.new) script.now };
+        ensures begins { Begins result (meaning self.old) (meaning self.new) name.now script.now };
 
     /// Carries an action out, given by its text of 128 bytes at most, and answers a value where one is asked
     /// for. Takes no memory.

@@ -134,10 +134,10 @@ impl Device for TableDevice {
     ghost meaning = { meaning_of };
 
     /// Answers what the table says, whatever the name and the script. Takes no memory.
-    fn begin(&mut self, _alloc: Global, _name: &[u8], script: &[u8]) -> Begun
+    fn begin(&mut self, _alloc: Global, name: &[u8], script: &[u8]) -> Begun
         requires { is_fresh self.old ≡ true }
         ensures fresh { is_fresh self.new ≡ still_fresh result }
-        ensures begins { Begins result (meaning_of self.old) (meaning_of self.new) script.now }
+        ensures begins { Begins result (meaning_of self.old) (meaning_of self.new) name.now script.now }
         ensures begun { result ≡ (table_of self.old).begun }
         ensures left { table_of self.new ≡ table_of self.old }
     {

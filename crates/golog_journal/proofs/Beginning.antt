@@ -16,7 +16,7 @@ use Rattle.golog_semantics.specs.declared.journal.Item.{Item}
 use Rattle.golog_semantics.specs.declared.journal.Item.TheVariants as item
 use Rattle.golog_semantics.specs.declared.journal.Reason.{Reason}
 use Rattle.golog_semantics.specs.Ways.{is_empty}
-use Rattle.golog_semantics.specs.Journal.{Journal, Command, device_of, commands, poster_of, is_result_of}
+use Rattle.golog_semantics.specs.Journal.{Journal, Command, device_of, commands, poster_of, is_result_of, limit}
 use Rattle.golog_semantics.specs.Posts.{awaited_command, result_of, entry_of, closing, posted_entry}
 use Rattle.golog_semantics.specs.Online.{is_result}
 use Rattle.golog_semantics.specs.Reports.{is_device, is_value, is_exogenous, place_limit, fits_entry}
@@ -42,15 +42,16 @@ none-closed (t ∷ ts) opens =
 
 -- nothing is counted of an empty journal
 pub counted-new : (agent : Agent) (ts : List Standing) → ServesDevices agent → length ts ≡ length agent.devices
-    → All (λ standing. standing.commands ≡ 0) ts → All (λ standing. standing.rested ≡ None) ts → All (λ standing. standing.is_open ≡ true) ts
+    → All (λ standing. standing.commands ≡ 0) ts → All (λ standing. standing.outstanding ≡ 0) ts → All (λ standing. standing.rested ≡ None) ts → All (λ standing. standing.is_open ≡ true) ts
     → IsCounted agent [] ts
-counted-new agent ts serves long no_commands not_rested opens = record {
+counted-new agent ts serves long no_commands nothing_owed not_rested opens = record {
   serves = serves;
   lawful = record { lawful = refl; room = omega arith };
   tallied = record {
     one_each = long;
     each = λ d x below. record {
       has_commands = no_commands d x below;
+      has_outstanding = nothing_owed d x below;
       has_rested = not_rested d x below;
       has_open = opens d x below;
     };
@@ -119,7 +120,7 @@ module _ (agent : Agent) where
         go (inr high) = absurd (let none = result-before agent journal e place (lawful-last agent journal e is) high in cc)
 
     -- there is room for one more command
-    pub command-room : (action device : ℕ) → IsBoardList agent (journal ++ Do action ∷ []) → length (commands agent device journal) < 65536
+    pub command-room : (action device : ℕ) → IsBoardList agent (journal ++ Do action ∷ []) → length (commands agent device journal) < limit
     command-room action device is =
         let few = commands-few agent device journal in
         let more = count-push journal (Do action) in

@@ -9,12 +9,13 @@ use Rattle.std.proofs.lemmas.List.Sums.{AllPass-from_list_all}
 use Rattle.std.proofs.lemmas.List.Elements.{All-weaker}
 use Rattle.golog_tree.specs.declared.agent.Agent.{Agent}
 use Rattle.golog_tree.specs.declared.agent.ActionItem.{ActionItem}
+use Rattle.golog_tree.specs.declared.agent.SenseItem.{SenseItem}
 use Rattle.golog_tree.specs.declared.ground.Ground.{Ground as Numbered}
 use Rattle.golog_tree.specs.Ground.{Ground, sort_size, ground_actions, action_args}
 use Rattle.golog_tree.specs.Numbered.{args, IsGround}
 use Rattle.golog_semantics.specs.Values.{fluent_sort}
 use Rattle.golog_semantics.specs.Ways.{is_empty}
-use Rattle.golog_semantics.specs.Journal.{action_item, fluent_sensed, sensed_by}
+use Rattle.golog_semantics.specs.Journal.{action_item, fluent_sensed, sensed_by, sense_item, is_held}
 use Rattle.golog_semantics.specs.WellFormed.{is_device_no, are_sorts, action_item_fits}
 use Rattle.golog_journal.specs.declared.facts.ActionFact.{ActionFact}
 use Rattle.golog_journal.specs.Agents.{ServesDevices}
@@ -48,14 +49,15 @@ module _ (agent : Agent) where
   false-at (suc n) (suc k) = false-at n k
 
   no-action : (action : ℕ) (fact : ActionFact) → slice_get (ground_actions agent) action ≡ None
-      → fact.device ≡ None → fact.posters ≡ replicate 16 false → fact.sensed ≡ None → IsFactOf agent action fact
-  no-action action fact none device posters senses = record {
+      → fact.device ≡ None → fact.posters ≡ replicate 16 false → fact.sensed ≡ None → fact.held ≡ false → IsFactOf agent action fact
+  no-action action fact none device posters senses held = record {
     device = device ∙ sym (ap (option_and_then (λ (item : ActionItem). item.device)) (no-item action none));
     posters = λ d below.
         ap (λ ps. get_or ps d false) posters ∙ false-at 16 d
         ∙ sym (ap (λ o. option_map_or (λ (item : ActionItem). list_any (λ p. p == d) item.posters) o false) (no-item action none));
     sensed = senses ∙ sym not-sensed;
     values = λ fluent h. absurd (let k : None ≡ Some fluent = sym not-sensed ∙ h in cc);
+    held = held ∙ sym (ap (λ (o : Option Ground). option_map_or (λ (item : SenseItem). not item.later) (option_and_then (sense_item agent) o) false) none);
   }
     where
       not-sensed : fluent_sensed agent action ≡ None
@@ -68,7 +70,7 @@ module _ (agent : Agent) where
       (all.first.each action fact (slice_get_within facts action fact at))
 
   pub fact-past : (facts : List ActionFact) (action : ℕ) (fact : ActionFact) → AreAllFacts agent facts → slice_get facts action ≡ None
-      → fact.device ≡ None → fact.posters ≡ replicate 16 false → fact.sensed ≡ None → IsFactOf agent action fact
+      → fact.device ≡ None → fact.posters ≡ replicate 16 false → fact.sensed ≡ None → fact.held ≡ false → IsFactOf agent action fact
   fact-past facts action fact all past =
       no-action action fact (go (cases_lt action (length facts)))
     where
@@ -83,6 +85,9 @@ module _ (agent : Agent) where
 
     pub sensed-is : fluent_sensed agent number ≡ option_map (sensed_by agent (ground.item, args ground)) (find (λ s. s.action == ground.item) agent.senses)
     sensed-is = ap (option_and_then (λ (g : Ground). option_map (sensed_by agent g) (find (λ s. s.action == g.0) agent.senses))) is.named
+
+    held-is : is_held agent number ≡ option_map_or (λ (s : SenseItem). not s.later) (find (λ s. s.action == ground.item) agent.senses) false
+    held-is = ap (λ (o : Option Ground). option_map_or (λ (s : SenseItem). not s.later) (option_and_then (sense_item agent) o) false) is.named
 
     fits : action_item_fits agent item ≡ true
     fits =
@@ -118,12 +123,14 @@ module _ (agent : Agent) where
         → ((d : ℕ) → d < 16 → get_or fact.posters d false ≡ list_any (λ p. p == d) item.posters)
         → fact.sensed ≡ option_map (sensed_by agent (ground.item, args ground)) (find (λ s. s.action == ground.item) agent.senses)
         → IfSome fact.sensed (λ fluent. fact.values ≡ sort_size agent (fluent_sort agent fluent))
+        → fact.held ≡ option_map_or (λ (s : SenseItem). not s.later) (find (λ s. s.action == ground.item) agent.senses) false
         → IsFactOf agent number fact
-    is-fact fact device posters senses values = record {
+    is-fact fact device posters senses values held = record {
       device = device ∙ sym (ap (option_and_then (λ (i : ActionItem). i.device)) item-is);
       posters = λ d below.
           posters d below ∙ sym (ap (λ o. option_map_or (λ (i : ActionItem). list_any (λ p. p == d) i.posters) o false) item-is);
       sensed = senses ∙ sym sensed-is;
       values = λ fluent h.
           subst (λ o. IfSome o (λ f. fact.values ≡ sort_size agent (fluent_sort agent f))) (senses ∙ sym sensed-is ∙ h) values;
+      held = held ∙ sym held-is;
     }

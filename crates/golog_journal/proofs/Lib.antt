@@ -1,4 +1,5 @@
 pub mod Lawful
+pub mod Outstanding
 pub mod Tallied
 pub mod Pushing
 pub mod PostsLawful

@@ -9,7 +9,7 @@ use Rattle.std.proofs.lemmas.List.Sums.{sum_by-set, sum_by-cons, count_by-le-len
 use Rattle.golog_tree.specs.declared.agent.Agent.{Agent}
 use Rattle.golog_semantics.specs.declared.journal.Entry.{Entry}
 use Rattle.golog_semantics.specs.declared.journal.Entry.TheVariants.{Do}
-use Rattle.golog_semantics.specs.Journal.{Journal, Command, device_of, command_at, commands, is_posted_by, entries_by, is_close, is_open, is_end, has_end, count, last_of}
+use Rattle.golog_semantics.specs.Journal.{Journal, Command, device_of, command_at, commands, outstanding_commands, is_posted_by, entries_by, is_close, is_open, is_end, has_end, count, last_of}
 use Rattle.golog_semantics.proofs.Pushed.{fold-push}
 use Rattle.golog_semantics.proofs.Grown.{posted-push, posts_grow, commands-push, entries_grow}
 use Rattle.golog_journal.specs.declared.standing.Standing.{Standing}
@@ -51,11 +51,13 @@ module _ (agent : Agent) (journal : Journal) (e : Entry) where
   pub commands-more : (d : ℕ) (c : Command) → command_at agent d (length journal, e) ≡ Some c → commands agent d after ≡ commands agent d journal ++ c ∷ []
   commands-more d c some = commands-push agent journal e d ∙ ap (λ o. commands agent d journal ++ option_to_list o) some
 
-  -- the entry is neither posted by the device nor a command of it
+  -- the entry is neither posted by the device nor a command of it, and no result of it
   pub tally-stays : (d : ℕ) (t : Standing) → is_posted_by d e ≡ false → command_at agent d (length journal, e) ≡ None
+      → outstanding_commands agent d after ≡ outstanding_commands agent d journal
       → IsTally agent journal d t → IsTally agent after d t
-  tally-stays d t other none is = record {
+  tally-stays d t other none out is = record {
     has_commands = is.has_commands ∙ ap length (sym (commands-same d none));
+    has_outstanding = is.has_outstanding ∙ ap length (sym out);
     has_rested = is.has_rested ∙ ap (λ es. rested_after (last_of es)) (sym (posted-other d other));
     has_open = is.has_open ∙ ap (λ es. not (list_any is_close es)) (sym (posted-other d other));
   }
@@ -63,31 +65,41 @@ module _ (agent : Agent) (journal : Journal) (e : Entry) where
   -- the entry is a command of the device
   pub tally-command : (d : ℕ) (t new : Standing) (c : Command) → is_posted_by d e ≡ false
       → command_at agent d (length journal, e) ≡ Some c
-      → new.commands ≡ t.commands + 1 → new.rested ≡ t.rested → new.is_open ≡ t.is_open
+      → new.commands ≡ t.commands + 1 → new.outstanding ≡ length (outstanding_commands agent d after)
+      → new.rested ≡ t.rested → new.is_open ≡ t.is_open
       → IsTally agent journal d t → IsTally agent after d new
-  tally-command d t new c other some more rested still is = record {
+  tally-command d t new c other some more out rested still is = record {
     has_commands =
         more ∙ ap (λ n. n + 1) is.has_commands ∙ sym (length-append (commands agent d journal) (c ∷ []))
         ∙ ap length (sym (commands-more d c some));
+    has_outstanding = out;
     has_rested = rested ∙ is.has_rested ∙ ap (λ es. rested_after (last_of es)) (sym (posted-other d other));
     has_open = still ∙ is.has_open ∙ ap (λ es. not (list_any is_close es)) (sym (posted-other d other));
   }
 
   -- the entry is posted by the device
   pub tally-noted : (d : ℕ) (t new : Standing) → is_posted_by d e ≡ true → command_at agent d (length journal, e) ≡ None
-      → new.commands ≡ t.commands → new.rested ≡ rested_after (Some e) → new.is_open ≡ (t.is_open && not (is_close e))
+      → new.commands ≡ t.commands → new.outstanding ≡ length (outstanding_commands agent d after)
+      → new.rested ≡ rested_after (Some e) → new.is_open ≡ (t.is_open && not (is_close e))
       → IsTally agent journal d t → IsTally agent after d new
-  tally-noted d t new own none same rested still is = record {
+  tally-noted d t new own none same out rested still is = record {
     has_commands = same ∙ is.has_commands ∙ ap length (sym (commands-same d none));
+    has_outstanding = out;
     has_rested = rested ∙ ap rested_after (sym (fold-push _ None (entries_by d journal) e)) ∙ ap (λ es. rested_after (last_of es)) (sym (posted-own d own));
     has_open =
         still ∙ ap (λ b. b && not (is_close e)) is.has_open
         ∙ ap (λ b. is_open d journal && not (b && is_close e)) (sym own) ∙ sym (posts_grow journal e d).open_still;
   }
 
+  -- the entry says nothing of the device
+  pub record SaysNothing (d : ℕ) : Type 0 where
+    pub no_post : is_posted_by d e ≡ false
+    pub no_command : command_at agent d (length journal, e) ≡ None
+    pub no_result : outstanding_commands agent d after ≡ outstanding_commands agent d journal
+
   -- one device's tally changes
   pub each-set : (ts : List Standing) (i : ℕ) (new : Standing) → i < length ts
-      → ((d : ℕ) → d ≢ i → (is_posted_by d e ≡ false) × (command_at agent d (length journal, e) ≡ None))
+      → ((d : ℕ) → d ≢ i → SaysNothing d)
       → IsTally agent after i new
       → ((d : ℕ) (x : Standing) → d < length ts → IsTally agent journal d (get_or ts d x))
       → (d : ℕ) (x : Standing) → d < length (set ts i new) → IsTally agent after d (get_or (set ts i new) d x)
@@ -103,18 +115,20 @@ module _ (agent : Agent) (journal : Journal) (e : Entry) where
       go (inr other) =
           let apart = others d other in
           subst (IsTally agent after d) (sym (get_or-set_other ts i d new x other))
-          (tally-stays d (get_or ts d x) apart.0 apart.1 (each d x within))
+          (tally-stays d (get_or ts d x) apart.no_post apart.no_command apart.no_result (each d x within))
 
   pub has_end-after : has_end after ≡ (has_end journal || is_end e)
   has_end-after = (entries_grow journal e).end
 
   -- an entry of the program that is no command
-  pub tallies-step : (ts : List Standing) → ((d : ℕ) → is_posted_by d e ≡ false) → ((d : ℕ) → command_at agent d (length journal, e) ≡ None)
+  pub tallies-step : (ts : List Standing) → ((d : ℕ) → SaysNothing d)
       → length after ≡ count after + closed agent after ts + (if has_end after then 1 else 0)
       → AreTallies agent journal ts → AreTallies agent after ts
-  tallies-step ts others none in_all are = record {
+  tallies-step ts others in_all are = record {
     one_each = are.one_each;
-    each = λ d x below. tally-stays d (get_or ts d x) (others d) (none d) (are.each d x below);
+    each = λ d x below.
+        let apart = others d in
+        tally-stays d (get_or ts d x) apart.no_post apart.no_command apart.no_result (are.each d x below);
     in_all = in_all;
   }
 

@@ -1,9 +1,9 @@
 -- What is counted for each device, so that no call goes through the journal.
-use Rattle.std.specs.Prelude.{◌≡◌, ℕ, ◌+◌, ◌<◌, not, if◌then◌else◌, Option, Some, None, List, length, count_by, slice_index_or}
+use Rattle.std.specs.Prelude.{◌≡◌, ℕ, ◌+◌, ◌-◌, ◌<◌, not, if◌then◌else◌, Option, Some, None, List, length, count_by, slice_index_or}
 use Rattle.golog_tree.specs.declared.agent.Agent.{Agent}
 use Rattle.golog_semantics.specs.declared.journal.Entry.{Entry}
-use Rattle.golog_semantics.specs.declared.journal.Entry.TheVariants.{Do, Test, Rest, End}
-use Rattle.golog_semantics.specs.Journal.{Journal, device_of, commands, entries_by, is_open, last_of, has_end, count}
+use Rattle.golog_semantics.specs.declared.journal.Entry.TheVariants.{Do, Test, Sense, Rest, End}
+use Rattle.golog_semantics.specs.Journal.{Journal, device_of, commands, outstanding_commands, entries_by, is_open, last_of, has_end, count}
 use Rattle.golog_journal.specs.declared.standing.Standing.{Standing}
 use Rattle.golog_journal.specs.Agents.{ServesDevices}
 use Rattle.golog_journal.specs.Boards.{IsBoardList}
@@ -13,6 +13,11 @@ abbrev pub rested_after : Option Entry → Option ℕ
 rested_after (Some (Rest poster taken)) = Some taken
 rested_after other = None
 
+-- how many results are still to come of so many, after an entry of their device
+abbrev pub outstanding_after : ℕ → Entry → ℕ
+outstanding_after owed (Sense poster place fluent value) = owed - 1
+outstanding_after owed other = owed
+
 -- an entry of the program that is no command: an action without a device, a test or the end
 abbrev pub IsStep : Agent → Entry → Type 0
 IsStep agent (Do action) = device_of agent action ≡ None
@@ -21,9 +26,11 @@ IsStep agent (End answer) = Unit {0}
 IsStep agent other = ⊥
 
 module _ (agent : Agent) (journal : Journal) where
-  -- how many commands the device has, the number at its last entry if that is a Rest, and whether it is open
+  -- how many commands the device has, and how many of their results are still to come; the number at its last entry
+  -- if that is a Rest; and whether it is open
   pub record IsTally (device : ℕ) (standing : Standing) : Type 0 where
     pub has_commands : standing.commands ≡ length (commands agent device journal)
+    pub has_outstanding : standing.outstanding ≡ length (outstanding_commands agent device journal)
     pub has_rested : standing.rested ≡ rested_after (last_of (entries_by device journal))
     pub has_open : standing.is_open ≡ is_open device journal
 

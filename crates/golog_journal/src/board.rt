@@ -10,7 +10,7 @@ ghost use Rattle.golog_journal.specs.Growing.{Sight, Called, program};
 use golog_semantics::{Entry, Item, Reason};
 
 /// The most counted entries: all but those that close a device or end the program.
-pub const LIMIT: u32 = 65_536;
+pub const LIMIT: u32 = 1_048_576;
 
 /// The most entries: the counted ones, one end, and a Close of each of 16 devices.
 pub const LONGEST: u32 = LIMIT + 17;
@@ -70,7 +70,7 @@ pub trait Board {
     /// Posts what an open device has for the journal, `taken` being the number of commands that the device
     /// has taken. The device is closed in place of the item, for the first reason that fits: `Stopped` for
     /// the item `Stop`, `Refused` for `Refused`, `Ended` for `Close`; `Late` after the end; `Full` where
-    /// 65,536 counted entries stand; `Bad` where the device may not post the item now.
+    /// 1,048,576 counted entries stand; `Bad` where the device may not post the item now.
     fn post(&mut self, poster: u8, item: Item, taken: u32) -> Posted
         requires held { (sight self.old).holds poster ≡ true }
         requires allowed { MayPost (sight self.old).agent (sight self.old).seen poster taken item }

@@ -1,16 +1,16 @@
 //! What is counted of a journal's entries.
 ghost use Rattle.std.specs.Prelude.{◌≡◌, ◌<◌, ◌≤◌, [], length, Some, None, IfOk};
 ghost use Rattle.golog_semantics.specs.declared.journal.Entry.TheVariants.{Do};
-ghost use Rattle.golog_semantics.specs.Journal.{poster_of as posted_by, device_of, has_end as has_ended, is_open as is_open_in, is_full as is_full_in, is_quiet as is_quiet_in, longest};
+ghost use Rattle.golog_semantics.specs.Journal.{poster_of as posted_by, device_of, has_end as has_ended, is_open as is_open_in, is_full as is_full_in, is_quiet as is_quiet_in, lacks_results as lack_results_in, may_be_answered as may_be_answered_in, longest};
 ghost use Rattle.golog_journal.specs.Agents.{ServesDevices};
 ghost use Rattle.golog_journal.specs.Boards.{IsBoardList, IsBoardWith, journal_with};
 ghost use Rattle.golog_journal.specs.Commands.{is_resting as is_resting_in};
-ghost use Rattle.golog_journal.specs.Quiet.{asked_of as asked_of_device};
+ghost use Rattle.golog_journal.specs.Quiet.{held_of as held_of_device};
 ghost use Rattle.golog_journal.specs.Tallies.{IsStep};
 
 use crate::LIMIT;
 use crate::facts::AgentFacts;
-use crate::quiet::all_quiet;
+use crate::quiet::{all_quiet, some_lack_results, some_may_be_answered};
 use crate::standing::{Standing, standings_of};
 use crate::totals::Totals;
 use golog_base::NoMemory;
@@ -104,11 +104,26 @@ impl Counts {
         all_quiet(&self.standings)
     }
 
-    /// The device that answers the action with a value, if one does.
-    pub fn asked_of(&self, action: u32) -> Option<u8>
-        ensures { result ≡ asked_of_device self.now.agent action }
+    /// Whether a result is still to come. Takes time for each device, and none for the entries.
+    pub fn lacks_results(&self) -> bool
+        ensures { result ≡ lack_results_in self.now.agent self.now.entries }
     {
-        if self.facts.is_sensing(action) {
+        some_lack_results(&self.standings)
+    }
+
+    /// Whether a result is still to come of a device that is open. Takes time for each device, and none for the
+    /// entries.
+    pub fn may_be_answered(&self) -> bool
+        ensures { result ≡ may_be_answered_in self.now.agent self.now.entries }
+    {
+        some_may_be_answered(&self.standings)
+    }
+
+    /// The device for whose result the program waits behind the action, if it waits for one.
+    pub fn held_of(&self, action: u32) -> Option<u8>
+        ensures { result ≡ held_of_device self.now.agent action }
+    {
+        if self.facts.is_held(action) {
             self.facts.device_of(action)
         } else {
             None
@@ -134,7 +149,7 @@ impl Counts {
     }
 
     /// The facts of the agent's actions.
-    pub(crate) fn facts(&self) -> &AgentFacts
+    pub fn facts(&self) -> &AgentFacts
         ensures { result.now ≡ self.now.agent }
     {
         &self.facts
@@ -184,7 +199,8 @@ impl Counts {
         requires lawful { IsBoardWith self.old (Do action) }
         ensures { self.new ≡ journal_with self.old (Do action) }
     {
-        self.standings[device as usize].add_command();
+        let asks = self.facts.is_sensing(action);
+        self.standings[device as usize].add_command(asks);
         self.totals.add(Entry::Do { action });
     }
 

@@ -3,7 +3,7 @@ ghost use Rattle.std.specs.Prelude.{◌≡◌, ◌<◌, IfOk, false, nat_lt};
 ghost use Rattle.std.specs.Option.{option_map_or};
 ghost use Rattle.golog_tree.specs.Ground.{sort_size as size_of_sort};
 ghost use Rattle.golog_semantics.specs.Values.{fluent_sort};
-ghost use Rattle.golog_semantics.specs.Journal.{device_of as carrier, may_post as may_be_posted, fluent_sensed, is_sensing as does_sense, device_limit};
+ghost use Rattle.golog_semantics.specs.Journal.{device_of as carrier, may_post as may_be_posted, fluent_sensed, is_sensing as does_sense, is_held as holds, device_limit};
 ghost use Rattle.golog_journal.specs.Agents.{ServesDevices};
 
 use crate::table::action_facts;
@@ -27,6 +27,8 @@ pub(crate) struct ActionFact {
     pub(crate) sensed: Option<u32>,
     /// How many values that fluent has.
     pub(crate) values: u32,
+    /// Whether the program goes on only after its result.
+    pub(crate) held: bool,
 }
 
 /// What is so of an action that the agent does not have.
@@ -35,6 +37,7 @@ const NO_ACTION: ActionFact = ActionFact {
     posters: [false; DEVICES],
     sensed: None,
     values: 0,
+    held: false,
 };
 
 /// The facts of each ground action. Contracts see them as the agent.
@@ -113,6 +116,13 @@ impl AgentFacts {
         ensures { result ≡ does_sense self.now action }
     {
         self.fact(action).sensed.is_some()
+    }
+
+    /// Whether the program goes on only after the action's result: it has one, which may not come later.
+    pub fn is_held(&self, action: u32) -> bool
+        ensures { result ≡ holds self.now action }
+    {
+        self.fact(action).held
     }
 
     /// Whether the value is one of the fluent that the action's result tells.

@@ -2,7 +2,6 @@
 ghost use Rattle.std.specs.Prelude.{◌≡◌, ◌<◌, ◌≤◌, [], length, min, take, drop, ◌-◌, Some, None, IfOk, IfSome, MatchOption, if◌then◌else◌, option_map, slice_get};
 ghost use Rattle.std.specs.Option.{option_map_or};
 ghost use Rattle.golog_semantics.specs.Journal.{commands, is_open as is_open_in, is_full as is_full_in, is_quiet as is_quiet_in, longest};
-ghost use Rattle.golog_journal.specs.Quiet.{asked_of as asked_of_device};
 ghost use Rattle.golog_semantics.specs.Posts.{awaited_command, is_bad as is_bad_in, later_reason as later_reason_in, closing as closing_in, entry_of as entry_in};
 ghost use Rattle.golog_semantics.specs.declared.journal.Entry.TheVariants.{Close};
 ghost use Rattle.golog_journal.specs.Agents.{ServesDevices};
@@ -52,7 +51,7 @@ impl Model for Journal {
 }
 
 impl Journal {
-    /// A journal of this agent, without an entry and with room for 65,553. No later call takes memory.
+    /// A journal of this agent, without an entry and with room for 1,048,593. No later call takes memory.
     pub fn new(alloc: Global, agent: &Agent) -> Result<Journal, NoMemory>
         requires { ServesDevices agent.now }
         ensures { IfOk result (λ journal. journal ≡ record { agent = agent.now; entries = [] }) }
@@ -95,13 +94,6 @@ impl Journal {
         ensures { result ≡ is_quiet_in self.now.agent self.now.entries }
     {
         self.counts.is_quiet()
-    }
-
-    /// The device that answers the action with a value, if one does.
-    pub fn asked_of(&self, action: u32) -> Option<u8>
-        ensures { result ≡ asked_of_device self.now.agent action }
-    {
-        self.counts.asked_of(action)
     }
 
     /// Adds an entry, of the program or of a device, as to a copy of another board's entries.

@@ -44,7 +44,7 @@ fn mark(answered: &mut [bool], entry: Entry)
 }
 
 impl Ledger {
-    /// No entry, and room for 65,553.
+    /// No entry, and room for 1,048,593.
     pub(crate) fn new(alloc: Global) -> Result<Ledger, NoMemory>
         ensures { IfOk result (λ ledger. ledger ≡ []) }
     {

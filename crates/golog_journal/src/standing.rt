@@ -1,4 +1,4 @@
-ghost use Rattle.std.specs.Prelude.{◌≡◌, ◌<◌, ◌+◌, length, not, ◌&&◌, Some, None, IfOk, All, true, false, ◌==◌};
+ghost use Rattle.std.specs.Prelude.{◌≡◌, ◌<◌, ◌≤◌, ◌+◌, length, not, if◌then◌else◌, ◌&&◌, Some, None, IfOk, All, true, false, ◌==◌};
 ghost use Rattle.std.specs.Option.{option_map_or};
 ghost use Rattle.golog_semantics.specs.Journal.{is_close as closes, limit};
 
@@ -11,35 +11,42 @@ use std::alloc::Global;
 pub(crate) struct Standing {
     /// How many commands it has.
     pub(crate) commands: u32,
+    /// Of how many of them the results are still to come.
+    pub(crate) outstanding: u32,
     /// How many commands it had taken at its last entry, where that is a Rest.
     pub(crate) rested: Option<u32>,
     pub(crate) is_open: bool,
 }
 
 impl Standing {
-    ghost use Rattle.golog_journal.specs.Tallies.{rested_after};
+    ghost use Rattle.golog_journal.specs.Tallies.{rested_after, outstanding_after};
 
     /// Nothing is counted yet.
     pub(crate) fn new() -> Standing
         ensures commands { result.commands ≡ 0 }
+        ensures outstanding { result.outstanding ≡ 0 }
         ensures rested { result.rested ≡ None }
         ensures is_open { result.is_open ≡ true }
     {
         Standing {
             commands: 0,
+            outstanding: 0,
             rested: None,
             is_open: true,
         }
     }
 
-    /// One more command.
-    pub(crate) fn add_command(&mut self)
-        requires { self.old.commands < limit }
+    /// One more command, which asks for a result or doesn't.
+    pub(crate) fn add_command(&mut self, asks: bool)
+        requires commands { self.old.commands < limit }
+        requires outstanding { self.old.outstanding ≤ self.old.commands }
         ensures commands { self.new.commands ≡ self.old.commands + 1 }
+        ensures outstanding { self.new.outstanding ≡ self.old.outstanding + (if asks then 1 else 0) }
         ensures rested { self.new.rested ≡ self.old.rested }
         ensures is_open { self.new.is_open ≡ self.old.is_open }
     {
         self.commands += 1;
+        self.outstanding += u32::from(asks);
     }
 
     /// Whether its last entry is a Rest with so many commands taken.
@@ -52,9 +59,25 @@ impl Standing {
         }
     }
 
+    // How many results are still to come, after one more entry of the device.
+    fn outstanding_with(&self, entry: Entry) -> u32
+        ensures { result ≡ outstanding_after self.now.outstanding entry }
+    {
+        match entry {
+            Entry::Sense { .. } => self.outstanding.saturating_sub(1),
+            Entry::Do { .. }
+            | Entry::Test
+            | Entry::Exo { .. }
+            | Entry::Rest { .. }
+            | Entry::Close { .. }
+            | Entry::End { .. } => self.outstanding,
+        }
+    }
+
     /// One more entry of the device.
     pub(crate) fn note(&mut self, entry: Entry)
         ensures commands { self.new.commands ≡ self.old.commands }
+        ensures outstanding { self.new.outstanding ≡ outstanding_after self.old.outstanding entry }
         ensures rested { self.new.rested ≡ rested_after (Some entry) }
         ensures is_open { self.new.is_open ≡ (self.old.is_open && not (closes entry)) }
     {
@@ -63,6 +86,7 @@ impl Standing {
             _ => None,
         };
         self.is_open &= !matches!(entry, Entry::Close { .. });
+        self.outstanding = self.outstanding_with(entry);
     }
 }
 
@@ -70,6 +94,7 @@ impl Standing {
 pub(crate) fn standings_of(alloc: Global, count: usize) -> Result<Vec<Standing>, NoMemory>
     ensures count { IfOk result (λ standings. length standings.items ≡ count) }
     ensures commands { IfOk result (λ standings. All (λ standing. standing.commands ≡ 0) standings.items) }
+    ensures outstanding { IfOk result (λ standings. All (λ standing. standing.outstanding ≡ 0) standings.items) }
     ensures rested { IfOk result (λ standings. All (λ standing. standing.rested ≡ None) standings.items) }
     ensures is_open { IfOk result (λ standings. All (λ standing. standing.is_open ≡ true) standings.items) }
 {

@@ -1,5 +1,5 @@
 //! The facts of each ground action, from the agent.
-ghost use Rattle.std.specs.Prelude.{◌≡◌, ◌<◌, ◌≤◌, ◌==◌, ℕ, IfOk, IsTrue, IfSome, All, false, true, length, map, find, option_map, slice_get, slice_index_or};
+ghost use Rattle.std.specs.Prelude.{◌≡◌, ◌<◌, ◌≤◌, ◌==◌, ℕ, IfOk, IsTrue, IfSome, All, false, true, not, length, map, find, option_map, slice_get, slice_index_or};
 ghost use Rattle.std.specs.List.{list_any};
 ghost use Rattle.std.specs.Option.{option_map_or, option_copied};
 ghost use Rattle.golog_tree.specs.Ground.{IsCountable, AreWithin, sizes, product, ground_count, action_args, fluent_args, args_at, sort_size as size_of_sort, fluent_no as number_of_fluent};
@@ -44,11 +44,13 @@ fn fact_of(agent: &Agent, number: u32) -> ActionFact
     let posters = posters_in(item);
     let sensed = sensed_in(agent, number, &ground);
     let values = values_of(agent, sensed);
+    let held = held_in(agent.senses.as_slice(), ground.item);
     ActionFact {
         device,
         posters,
         sensed,
         values,
+        held,
     }
 }
 
@@ -88,6 +90,16 @@ pub fn sense_for(senses: &[SenseItem], action: u32) -> Option<&SenseItem>
     ensures { option_copied result ≡ find (λ item. item.action == action) senses.now }
 {
     senses.iter().find(|sense| sense.action == action)
+}
+
+/// Whether the program goes on only after an action's result: it has one, which may not come later.
+fn held_in(senses: &[SenseItem], action: u32) -> bool
+    ensures { result ≡ option_map_or (λ item. not item.later) (find (λ item. item.action == action) senses.now) false }
+{
+    match sense_for(senses, action) {
+        Some(sense) => !sense.later,
+        None => false,
+    }
 }
 
 /// The ground fluent whose value the result of a ground action tells.

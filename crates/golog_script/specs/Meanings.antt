@@ -16,6 +16,7 @@ left_of device = record { answers = reverse device.answers.items; idle = reverse
 
 abbrev pub meaning_of : ScriptDevice → Meaning
 meaning_of device = record {
+  name = None;
   cut = is_cut device.served;
   given = Some (given_by device.served);
   told = Some (told_by device.told);
@@ -24,7 +25,7 @@ meaning_of device = record {
 
 -- a device that was given and told nothing and has the whole script before it
 abbrev pub following : Script → Meaning
-following script = record { cut = false; given = Some []; told = Some []; left = Some script }
+following script = record { name = None; cut = false; given = Some []; told = Some []; left = Some script }
 
 -- it is ready only for the text of a script, and refuses only what is none
 abbrev pub TakesScript : Begun → Option Script → Type 0

@@ -118,10 +118,10 @@ impl Device for ScriptDevice {
 
     /// Takes the text of a script, and reserves the room for all that is told later. Refuses exactly what is
     /// no JSON object with arrays of strings `answers` and `idle`.
-    fn begin(&mut self, alloc: Global, _name: &[u8], script: &[u8]) -> Begun
+    fn begin(&mut self, alloc: Global, name: &[u8], script: &[u8]) -> Begun
         requires { is_fresh self.old ≡ true }
         ensures fresh { is_fresh self.new ≡ still_fresh result }
-        ensures begins { Begins result (meaning_of self.old) (meaning_of self.new) script.now }
+        ensures begins { Begins result (meaning_of self.old) (meaning_of self.new) name.now script.now }
         ensures takes { TakesScript result (script_spelled script.now) }
     {
         match ScriptDevice::begun(alloc, script) {

@@ -8,7 +8,7 @@ use Rattle.golog_semantics.specs.declared.journal.Entry.TheVariants.{Do, Test, E
 use Rattle.golog_semantics.specs.declared.journal.Item.{Item}
 use Rattle.golog_semantics.specs.declared.journal.Item.TheVariants as item
 use Rattle.golog_semantics.specs.declared.journal.Reason.{Reason}
-use Rattle.golog_semantics.specs.Journal.{Journal, Command, count, limit}
+use Rattle.golog_semantics.specs.Journal.{Journal, Command, count, limit, longest}
 use Rattle.golog_semantics.specs.Posts.{awaited_command, closing, result_of, entry_of, posted_entry}
 use Rattle.golog_journal.specs.declared.board.Commit.{Commit as Committed}
 use Rattle.golog_journal.specs.declared.board.Commit.TheVariants.{Taken, Moved}
@@ -228,5 +228,5 @@ module _ {O : Type 0} (list : O → Journal) (agent : Agent) where
     grows = applied.ends ∙ ap (λ p. p ++ applied.added) applied.goes_on.1;
     answered = subst (λ p. answers p applied.added) applied.goes_on.1 (tell applied.point applied.added applied.answered.says);
     lawful = subst (IsBoardList agent) (sym applied.ends) applied.answered.lawful;
-    short = subst (λ l. length l ≤ 65553) (sym applied.ends) applied.answered.short;
+    short = subst (λ l. length l ≤ longest) (sym applied.ends) applied.answered.short;
   }

@@ -277,7 +277,7 @@ fn run_named<
     ensures stands { L.stands lead.old → L.stands lead.new }
     ensures ran { OnOk result (RunsOverThreads (G.agent agent.now) D.meaning
         (H.journal journal).entries (L.mind lead.new).list devices.old devices.new) }
-    ensures memory { OnErr result ((L.mind lead.new ≡ L.mind lead.old) × (devices.new ≡ devices.old)) }
+    ensures memory { OnErr result ((lead.new ≡ lead.old) × (devices.new ≡ devices.old)) }
 {
     let journal = journal.open();
     match TurnLock::new(alloc, Shared::<A>::new(journal), LEAD + 1) {
@@ -306,7 +306,7 @@ fn run_sealed<H: Held, L: Lead, D: Device + Send, R: Threads + Wait + Sync>(
     ensures stands { L.stands lead.old → L.stands lead.new }
     ensures ran { OnOk result (RunsOverThreads agent.now D.meaning
         (H.journal journal).entries (L.mind lead.new).list devices.old devices.new) }
-    ensures memory { OnErr result ((L.mind lead.new ≡ L.mind lead.old) × (devices.new ≡ devices.old)) }
+    ensures memory { OnErr result ((lead.new ≡ lead.old) × (devices.new ≡ devices.old)) }
 {
     run_named::<Brand, Agent, H, L, D, R>(rt, alloc, lead, devices, agent, hall, journal)
 }
@@ -336,7 +336,7 @@ pub fn run_threads<L: Lead, D: Device + Send, R: Threads + Wait + Sync>(
     ensures stands { L.stands lead.old → L.stands lead.new }
     ensures ran { OnOk result (RunsOverThreads agent.now D.meaning
         journal.entries (L.mind lead.new).list devices.old devices.new) }
-    ensures memory { OnErr result ((L.mind lead.new ≡ L.mind lead.old) × (devices.new ≡ devices.old)) }
+    ensures memory { OnErr result ((lead.new ≡ lead.old) × (devices.new ≡ devices.old)) }
 {
     let hall = Hall::new(opens_of(&journal, devices.len()));
     let ran = run_sealed::<Journal, L, D, R>(rt, alloc, lead, devices, agent, &hall, journal);

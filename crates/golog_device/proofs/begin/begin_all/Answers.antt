@@ -15,7 +15,7 @@ pub loop-slot-init : goal.loop-slot-init
 loop-slot-init g c = record {
   same = record { same_agent = refl; same_alone = refl; same_holds = refl };
   lawful = subst (IsBoardList c.args.agent.now) (sym c.requires.empty) (record { lawful = refl; room = omega arith });
-  begun = begun-none c.args.scripts.now (g.B.Board.sight c.args.board.now).seen _ c.requires.empty;
+  begun = begun-none c.args.agent.now.devices c.args.scripts.now (g.B.Board.sight c.args.board.now).seen _ c.requires.empty;
 }
 
 pub begin_at-requires : goal.begin_at-requires
@@ -27,7 +27,7 @@ begin_at-requires g c =
     let inside : slot < length c.args.agent.now.devices = subst (λ n. slot < n) c.requires.one_each in_range in
     let text : c.as_slice.result.now ≡ get_or c.args.scripts.now slot [] =
     c.as_slice.ensures ∙ (rw c.as_slice-script-items.ensures at c.script-item.is) ∙ get_or_default c.args.scripts.now slot c.script-item.result [] in_range in
-    let fresh = begun-has slot (λ s. s.fresh ≡ true) c.args.scripts.now (g.B.Board.sight c.loop-slot.board).seen _ _ begun (c.requires.fresh slot in_range) in
+    let fresh = begun-has slot (λ s. s.fresh ≡ true) c.args.agent.now.devices c.args.scripts.now (g.B.Board.sight c.loop-slot.board).seen _ _ begun (c.requires.fresh slot in_range) in
     record {
       agent = c.loop-slot.invariant.same.same_agent ∙ c.requires.agent;
       alone = c.loop-slot.invariant.same.same_alone ∙ c.requires.alone;
@@ -58,7 +58,7 @@ loop-slot-preserved g c =
       };
       lawful = c.begin_at.ensures.lawful;
       begun =
-          begun-next slot c.args.scripts.now (g.B.Board.sight c.loop-slot.board).seen (g.B.Board.sight c.begin_at.new.board).seen _ _ _ c.as_slice.result.now text
+          begun-next slot c.args.agent.now.devices c.args.scripts.now (g.B.Board.sight c.loop-slot.board).seen (g.B.Board.sight c.begin_at.new.board).seen _ _ _ c.as_slice.result.now text
           c.loop-slot.invariant.begun c.in_ok-begin_at.ensures.begun;
     }
 

@@ -7,6 +7,6 @@ abbrev pub invariant-loop-slot : goal.invariant-loop-slot
 invariant-loop-slot g l = record {
   same : SameBoard (g.B.Board.sight l.initial.board) (g.B.Board.sight l.board);
   lawful : IsBoardList l.agent (g.B.Board.sight l.board).seen;
-  begun : HaveBegun l.slot l.scripts (g.B.Board.sight l.board).seen (standings g.D.Device.fresh g.D.Device.meaning l.initial.devices)
+  begun : HaveBegun l.slot l.agent.devices l.scripts (g.B.Board.sight l.board).seen (standings g.D.Device.fresh g.D.Device.meaning l.initial.devices)
       (standings g.D.Device.fresh g.D.Device.meaning l.devices);
 }

@@ -2,7 +2,7 @@ use Rattle.std.proofs.Common.{◌≡◌, ◌<◌, not, ◌&&◌, length, set, ge
 use Rattle.std.proofs.lemmas.List.{get_or_default}
 use Rattle.golog_semantics.specs.Journal.{is_close}
 use Rattle.golog_journal.specs.declared.standing.Standing.{Standing}
-use Rattle.golog_journal.specs.Tallies.{IsCounted}
+use Rattle.golog_journal.specs.Tallies.{outstanding_after, IsCounted}
 use Rattle.golog_journal.proofs.Views.{lawful-inside}
 use Rattle.golog_journal.proofs.Beginning.{poster-inside}
 use Rattle.golog_journal.proofs.Pushing.{room-for, counted-posted}
@@ -35,5 +35,6 @@ invariant_of-self c =
     c.index_mut.ensures.value ∙ get_or_default ts c.args.poster c.index_mut.result.now new inside in
     subst (λ entries. IsCounted j.facts entries (set ts c.args.poster new)) (sym c.add.ensures)
     (counted-posted j.facts j.totals ts c.self.invariant c.args.poster new inside c.args.entry c.requires.poster
-    (c.note.ensures.commands ∙ ap (λ (t : Standing). t.commands) was) c.note.ensures.rested
+    (c.note.ensures.commands ∙ ap (λ (t : Standing). t.commands) was)
+    (c.note.ensures.outstanding ∙ ap (λ (t : Standing). outstanding_after t.outstanding c.args.entry) was) c.note.ensures.rested
     (c.note.ensures.is_open ∙ ap (λ (t : Standing). t.is_open && not (is_close c.args.entry)) was) lawful)

@@ -1,4 +1,5 @@
 use Rattle.std.proofs.Common.{◌≤◌, length, subst}
+use Rattle.golog_semantics.specs.Journal.{longest}
 use Rattle.golog_journal.specs.Agents.{ServesDevices}
 use Rattle.golog_journal.specs.Boards.{AgentJournal, IsBoardList}
 use Rattle.golog_journal.proofs.Pushing.{counted-short}
@@ -13,4 +14,4 @@ returns-clause-lawful c = subst (λ (v : AgentJournal). IsBoardList v.agent v.en
 pub returns-clause-short : goal.returns-clause-short
 returns-clause-short c =
     let j = c.self.inside in
-    subst (λ (v : AgentJournal). length v.entries ≤ 65553) c.self.view_is (counted-short j.facts j.totals j.standings.items c.self.invariant)
+    subst (λ (v : AgentJournal). length v.entries ≤ longest) c.self.view_is (counted-short j.facts j.totals j.standings.items c.self.invariant)

@@ -10,4 +10,4 @@ invariant_of-result c =
     subst (λ agent. IsCounted agent c.new-totals.result c.in_ok-standings.standings.items) (sym c.in_ok-facts.ensures)
     (subst (λ entries. IsCounted c.args.agent.now entries c.in_ok-standings.standings.items) (sym c.new-totals.ensures)
     (counted-new c.args.agent.now c.in_ok-standings.standings.items c.requires count c.in_ok-standings.ensures.commands
-    c.in_ok-standings.ensures.rested c.in_ok-standings.ensures.is_open))
+    c.in_ok-standings.ensures.outstanding c.in_ok-standings.ensures.rested c.in_ok-standings.ensures.is_open))
