@@ -6,7 +6,7 @@ use Rattle.std.proofs.lemmas.Bool.{or_parts, or_from, ltb-true, ltb-false}
 use Rattle.std.proofs.lemmas.List.{append-nil, take-append-drop, length-take-le}
 use Rattle.golog_tree.specs.declared.agent.Agent.{Agent}
 use Rattle.golog_semantics.specs.declared.journal.Entry.{Entry}
-use Rattle.golog_semantics.specs.Journal.{Journal}
+use Rattle.golog_semantics.specs.Journal.{Journal, longest}
 use Rattle.golog_journal.specs.declared.board.Batch.{Batch}
 use Rattle.golog_journal.specs.Boards.{IsBoardList}
 use Rattle.golog_journal.specs.Copies.{CopyIs, MoreIs}
@@ -42,7 +42,7 @@ pub record Copying (course : Course) (sight : Sight) (batch : Batch) : Type 0 wh
   pub over : IsOver course sight
   pub copy : CopyIs sight.seen (length course.list) batch []
   pub lawful : IsBoardList sight.agent sight.seen
-  pub short : length sight.seen ≤ 65553
+  pub short : length sight.seen ≤ longest
 
 module _ (course : Course) (old new : Sight) (since : ℕ) (batch : Batch) (over : IsOver course old) (at : since ≡ length course.list)
     (call : Called (λ point. CopyIs point since batch) old new) where
@@ -108,7 +108,7 @@ module _ (course : Course) (sight : Sight) (batch : Batch) (c : Copying course s
     };
   }
 
-  pub longer-then : (later : Course) → later.list ≡ course.list ++ new → 0 < batch.count → 65553 - length later.list < 65553 - length course.list
+  pub longer-then : (later : Course) → later.list ≡ course.list ++ new → 0 < batch.count → longest - length later.list < longest - length course.list
   longer-then later list some =
       let more = ap (λ xs. length xs) list ∙ length-append course.list new in
       let count = ap (λ xs. length xs) new-so ∙ length-take-le batch.count since few in
@@ -182,7 +182,7 @@ module _ (first : Course) (before : Sight) (course : Course) (old : Sight) (more
         omega (arith, less, longer, count)
 
     module _ (later : Course) (is : later ≡ taking course batch) where
-      pub copies-shorter : more ≡ true → 65553 - length later.list < 65553 - length course.list
+      pub copies-shorter : more ≡ true → longest - length later.list < longest - length course.list
       copies-shorter lacks-some = longer-then course mid batch copying later (ap (λ (x : Course). x.list) is) (batch-some lacks-some)
 
       pub copies-next : (new : Sight) (since : ℕ) (next : Bool) → since ≡ length later.list → Called (λ point. MoreIs point since next) mid new

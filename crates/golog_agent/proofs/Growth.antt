@@ -37,7 +37,8 @@ use Rattle.golog_journal.proofs.Lawful.{lawful-last, lawful-parts}
 use Rattle.golog_journal.proofs.Serving.{well_formed_serves}
 use Rattle.golog_agent.specs.Configuration.{Configuration, IsSound, configuration_after, with_entry}
 use Rattle.golog_lead.specs.Keeping.{EndsBy, KeepsRules}
-use Rattle.golog_agent.specs.Keeping.{IsUnderWay, KeepsUp, awaited_by, ended_by}
+use Rattle.golog_agent.specs.Keeping.{IsUnderWay, KeepsUp, held_by, ended_by}
+use Rattle.golog_agent.specs.declared.held.Held.{Held}
 use Rattle.golog_lead.specs.Courses.{Course}
 use Rattle.golog_agent.proofs.Awaiting.{awaits-after}
 use Rattle.golog_agent.proofs.StepsKept.{keeps_its_step}
@@ -118,9 +119,9 @@ module _ (agent : Agent) (journal : Journal) where
       let three = and_parts (is_settled agent journal && not (final agent values Must p)) (nat_lt (count journal) limit) four.0 in
       (and_parts (is_settled agent journal) (not (final agent values Must p)) three.0).0
 
-  pub keeps-up : (e : Entry) (known : Configuration) (new : Option Prog) (awaited : Option ℕ) (ended : Option Answer) → KeepsUp agent journal known awaited ended
+  pub keeps-up : (e : Entry) (known : Configuration) (new : Option Prog) (awaited : Option Held) (ended : Option Answer) → KeepsUp agent journal known awaited ended
       → IsBoardList agent (journal ++ e ∷ []) → KeepsRules agent journal e → left_after agent (journal ++ e ∷ []) ≡ unwrap_or new (left_after agent journal)
-      → KeepsUp agent (journal ++ e ∷ []) (with_entry known e new) (awaited_by agent awaited e) (ended_by ended e)
+      → KeepsUp agent (journal ++ e ∷ []) (with_entry known e new) (held_by agent (length journal) awaited e) (ended_by ended e)
   keeps-up e known new awaited ended k lawful h is =
       let u = k.under_way in
       record {
@@ -131,14 +132,13 @@ module _ (agent : Agent) (journal : Journal) where
         };
         known_so = known-then e known new k.known_so is;
         awaits = awaits-after agent journal awaited e (well_formed_serves agent u.formed) u.lawful
-            (lawful-parts agent journal e (lawful-last agent journal e lawful)).place
             (λ action same. settled-step (values_after agent journal) (left_after agent journal) action
             (subst (λ x. keeps_step agent journal (values_after agent journal) (left_after agent journal) x ≡ true) same (keeps_its_step agent journal e h))) k.awaits;
         ends = ends-after ended e k.ends;
       }
 
 -- the same of equal values
-pub kept-as : (j k : AgentJournal) (c d : Configuration) (a b : Option ℕ) (e f : Option Answer) → k ≡ j → d ≡ c → b ≡ a → f ≡ e
+pub kept-as : (j k : AgentJournal) (c d : Configuration) (a b : Option Held) (e f : Option Answer) → k ≡ j → d ≡ c → b ≡ a → f ≡ e
     → KeepsUp j.agent j.entries c a e → KeepsUp k.agent k.entries d b f
 kept-as j k c d a b e f kj dc ba fe h =
     subst (λ (x : AgentJournal). KeepsUp x.agent x.entries d b f) (sym kj)
@@ -154,20 +154,20 @@ pub lawful-inside : (agent : Agent) (list : Journal) (value : Course) (e : Entry
 lawful-inside agent list value e is lawful = subst (λ (v : Course). IsBoardList v.agent (v.list ++ e ∷ [])) (sym is) lawful
 
 -- all that is kept, after one more entry
-pub kept-then : (held after : AgentJournal) (value : Course) (e : Entry) (known later : Configuration) (given : Option Prog) (awaited next : Option ℕ) (ended last : Option Answer)
+pub kept-then : (held after : AgentJournal) (value : Course) (e : Entry) (known later : Configuration) (given : Option Prog) (awaited next : Option Held) (ended last : Option Answer)
     → seen_as held.agent held.entries ≡ value → KeepsUp held.agent held.entries known awaited ended → IsBoardList value.agent (value.list ++ e ∷ [])
     → KeepsRules value.agent value.list e → left_after value.agent (value.list ++ e ∷ []) ≡ unwrap_or given (left_after value.agent value.list)
-    → after ≡ record { agent = held.agent; entries = held.entries ++ e ∷ [] } → later ≡ with_entry known e given → next ≡ awaited_by held.agent awaited e → last ≡ ended_by ended e
+    → after ≡ record { agent = held.agent; entries = held.entries ++ e ∷ [] } → later ≡ with_entry known e given → next ≡ held_by held.agent (length held.entries) awaited e → last ≡ ended_by ended e
     → KeepsUp after.agent after.entries later next last
 kept-then held after value e known later given awaited next ended last is k lawful online goes ja ka aa ea =
-    kept-as (record { agent = held.agent; entries = held.entries ++ e ∷ [] }) after (with_entry known e given) later (awaited_by held.agent awaited e) next (ended_by ended e) last
+    kept-as (record { agent = held.agent; entries = held.entries ++ e ∷ [] }) after (with_entry known e given) later (held_by held.agent (length held.entries) awaited e) next (ended_by ended e) last
     ja ka aa ea
     (keeps-up held.agent held.entries e known given awaited ended k (lawful-inside held.agent held.entries value e is lawful)
     (subst (λ (v : Course). KeepsRules v.agent v.list e) (sym is) online)
     (subst (λ (v : Course). left_after v.agent (v.list ++ e ∷ []) ≡ unwrap_or given (left_after v.agent v.list)) (sym is) goes))
 
 -- the same, where the configuration is
-pub kept-same : (agent : Agent) (list : Journal) (known later : Configuration) (awaited : Option ℕ) (ended : Option Answer) → later ≡ known
+pub kept-same : (agent : Agent) (list : Journal) (known later : Configuration) (awaited : Option Held) (ended : Option Answer) → later ≡ known
     → KeepsUp agent list known awaited ended → KeepsUp agent list later awaited ended
 kept-same agent list known later awaited ended same h = subst (λ k. KeepsUp agent list k awaited ended) (sym same) h
 

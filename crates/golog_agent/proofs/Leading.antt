@@ -3,7 +3,7 @@ use Rattle.std.proofs.Common.{◌≡◌, ℕ, ◌<◌, ◌≤◌, Bool, true, fa
 use Rattle.std.specs.Prelude.{is_none, nat_le, nat_lt}
 use Rattle.std.specs.List.{list_any}
 use Rattle.std.specs.Option.{option_map_or}
-use Rattle.std.proofs.lemmas.Bool.{and_parts, or_from, or_parts, eqb-true, ltb-true, leb-true, lt-leb, le-ltb, not-true}
+use Rattle.std.proofs.lemmas.Bool.{and_parts, eqb-true, ltb-true, leb-true, lt-leb, le-ltb, not-true}
 use Rattle.std.proofs.lemmas.List.{append-nil}
 use Rattle.golog_tree.specs.declared.agent.Agent.{Agent}
 use Rattle.golog_tree.specs.declared.prog.Prog.{Prog}
@@ -20,7 +20,7 @@ use Rattle.golog_semantics.specs.Ways.{is_empty}
 use Rattle.golog_semantics.specs.Search.{final, nest_limit}
 use Rattle.golog_semantics.specs.Blocks.{moves}
 use Rattle.golog_semantics.specs.Same.{same_label}
-use Rattle.golog_semantics.specs.Journal.{Journal, count, devices, has_end, is_full, is_open, is_quiet, is_settled, is_waiting_for, limit}
+use Rattle.golog_semantics.specs.Journal.{Journal, count, devices, has_end, is_full, is_open, is_quiet, is_settled, is_waiting_for, lacks_results, limit, may_be_answered}
 use Rattle.golog_semantics.specs.Progress.{values_after, left_after}
 use Rattle.golog_semantics.specs.Answer.{answer_after, first_that_fits, is_deep, is_unanswered}
 use Rattle.golog_semantics.specs.Inline.{entry_for, lead, step_by}
@@ -34,38 +34,36 @@ use Rattle.golog_agent.specs.Leading.{AddsOneAlone, LeadsAlone}
 use Rattle.golog_lead.specs.Keeping.{KeepsRules}
 use Rattle.golog_lead.specs.Run.{is_step_entry}
 use Rattle.golog_agent.specs.Laws.{lead_stays}
-use Rattle.golog_agent.specs.Waiting.{has_no_step, waits}
+use Rattle.golog_agent.specs.Waiting.{takes_no_step, waits}
 use Rattle.golog_lead.specs.Courses.{Course}
 use Rattle.golog_agent.specs.Turns.{CommitsEnd, CommitsStep, EndStood, MayAnswer, StillWaits, TurnIs}
 use Rattle.golog_lead.proofs.StepEntries.{each-step}
-use Rattle.golog_agent.proofs.StepsKept.{keeps_its_step, not_or, step-unended}
+use Rattle.golog_agent.proofs.Awaiting.{any-and}
+use Rattle.golog_agent.proofs.StepsKept.{keeps_its_step, step-unended}
 use Rattle.golog_lead.proofs.BegunRuns.{keeps-rules}
 use Rattle.golog_agent.proofs.Turning.{alone-grows, alone-stays}
 
 -- ---- the answer where a step may be taken
 
-none-fits : (full unanswered settled ends deep none : Bool) (rest : List (Bool × Option Answer)) (last : Option Answer)
+none-fits : (full unanswered settled comes ends deep none : Bool) (rest : List (Bool × Option Answer)) (last : Option Answer)
     → full ≡ false → unanswered ≡ false → settled ≡ true → ends ≡ false → deep ≡ false → none ≡ false
     → first_that_fits
-    ((full, Some answer.Full) ∷ (unanswered, Some answer.Unanswered) ∷ (not settled, None) ∷ (ends, Some answer.Done) ∷ (deep, Some answer.Deep) ∷ (not none, None) ∷ rest)
+    ((full, Some answer.Full) ∷ (unanswered, Some answer.Unanswered) ∷ (not settled, None) ∷ (comes, None) ∷ (ends, Some answer.Done) ∷ (deep, Some answer.Deep) ∷ (not none, None) ∷ rest)
     last ≡ None
-none-fits false false true false false false rest last f u s e d n = refl
-none-fits true unanswered settled ends deep none rest last f u s e d n = absurd (cc)
-none-fits false true settled ends deep none rest last f u s e d n = absurd (cc)
-none-fits false false false ends deep none rest last f u s e d n = absurd (cc)
-none-fits false false true true deep none rest last f u s e d n = absurd (cc)
-none-fits false false true false true none rest last f u s e d n = absurd (cc)
-none-fits false false true false false true rest last f u s e d n = absurd (cc)
+none-fits false false true true ends deep none rest last f u s e d n = refl
+none-fits false false true false false false false rest last f u s e d n = refl
+none-fits true unanswered settled comes ends deep none rest last f u s e d n = absurd (cc)
+none-fits false true settled comes ends deep none rest last f u s e d n = absurd (cc)
+none-fits false false false comes ends deep none rest last f u s e d n = absurd (cc)
+none-fits false false true false true deep none rest last f u s e d n = absurd (cc)
+none-fits false false true false false true none rest last f u s e d n = absurd (cc)
+none-fits false false true false false false true rest last f u s e d n = absurd (cc)
 
-and-false : (a b : Bool) → b ≡ false → (a && b) ≡ false
-and-false true b h = h
-and-false false b h = refl
-
-any-and : (p q : ℕ → Bool) (xs : List ℕ) → list_any q xs ≡ false → list_any (λ d. p d && q d) xs ≡ false
-any-and p q [] h = refl
-any-and p q (x ∷ xs) h =
-    let parts = or_parts (q x) (list_any q xs) h in
-    or_from _ _ (and-false (p x) (q x) parts.0) (any-and p q xs parts.1)
+-- a program that waits for a result, or that may end, takes no step
+no-step : (settled ends room first : Bool) → (not settled || ends) ≡ true → (settled && not ends && room && first) ≡ false
+no-step true true room first h = refl
+no-step true false room first h = absurd (cc)
+no-step false ends room first h = refl
 
 label-eq : (l k : Label) → same_label l k ≡ true → l ≡ k
 label-eq Quiet Quiet e = refl
@@ -124,10 +122,11 @@ module _ (agent : Agent) (journal : Journal) where
   no-answer l t =
       let rest : List (Bool × Option Answer) =
       (not (is_quiet agent journal), None)
+      ∷ (lacks_results agent journal, Some answer.Unanswered)
       ∷ (not (is_empty (moves agent V Near P)) || final agent V Near P, Some answer.Unknown)
       ∷ (not (is_empty (moves agent V May P)), Some answer.Depth)
       ∷ [] in
-      none-fits (is_full journal) (is_unanswered agent journal) (is_settled agent journal) (final agent V Must P) (is_deep M) (is_empty M) rest (Some answer.Stuck)
+      none-fits (is_full journal) (is_unanswered agent journal) (is_settled agent journal) (final agent V Must P && may_be_answered agent journal) (final agent V Must P) (is_deep M) (is_empty M) rest (Some answer.Stuck)
       (lt-leb limit (count journal) t.room) (answered t.settled) t.settled t.not_final
       (ap is_deep t.begins.is ∙ le-ltb nest_limit (nest t.begins.first.left) t.begins.nests) (ap is_empty t.begins.is)
 
@@ -160,17 +159,17 @@ module _ (agent : Agent) (journal : Journal) where
   none-so None h = refl
   none-so (Some a) h = absurd (cc)
 
-  not-taken : (ms : List Move) → (not (is_settled agent journal) || is_empty ms) ≡ true → step_by agent journal ms ≡ journal
+  not-taken : (ms : List Move) → (not (is_settled agent journal) || (is_empty ms || final agent V Must P)) ≡ true → step_by agent journal ms ≡ journal
   not-taken [] h = refl
   not-taken (m ∷ ms) h =
       ap (λ b. if b then journal ++ entry_for m.label ∷ [] else journal)
-      (ap (λ b. b && not (final agent V Must P) && nat_lt (count journal) limit && is_first agent journal m.label M) (not_or (is_settled agent journal) h))
+      (no-step (is_settled agent journal) (final agent V Must P) (nat_lt (count journal) limit) (is_first agent journal m.label M) h)
 
   -- a program that waits adds nothing
   waiting-leads : has_end journal ≡ false → waits agent journal ≡ true → lead agent journal ≡ journal
   unfolding waits
   waiting-leads goes w =
-      let parts = and_parts (not (is_quiet agent journal) && is_none (answer_after agent journal)) (not (is_settled agent journal) || has_no_step agent journal) w in
+      let parts = and_parts (not (is_quiet agent journal) && is_none (answer_after agent journal)) (not (is_settled agent journal) || takes_no_step agent journal) w in
       let none = none-so (answer_after agent journal) (and_parts (not (is_quiet agent journal)) (is_none (answer_after agent journal)) parts.0).1 in
       lead-goes None goes none ∙ not-taken M parts.1
 

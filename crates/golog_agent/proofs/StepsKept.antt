@@ -1,7 +1,7 @@
 -- The rules of an entry that keeps them all.
 use Rattle.std.proofs.Common.{◌≡◌, ℕ, Bool, true, false, not, ◌&&◌, ◌||◌, List, [], ◌∷◌, ◌++◌, length, None, refl, sym, ap, ◌∙◌}
 use Rattle.std.specs.Prelude.{is_none, nat_lt}
-use Rattle.std.proofs.lemmas.Bool.{and_parts}
+use Rattle.std.proofs.lemmas.Bool.{and_parts, not-true}
 use Rattle.golog_tree.specs.declared.agent.Agent.{Agent}
 use Rattle.golog_tree.specs.declared.prog.Label.{Label}
 use Rattle.golog_tree.specs.declared.prog.Label.TheVariants.{Quiet, Do as Doing}
@@ -22,7 +22,7 @@ use Rattle.golog_semantics.specs.Text.{run_at}
 use Rattle.golog_semantics.specs.Online.{fault_among, is_first, may_step, keeps_after, keeps_poster, keeps_place, keeps_taken, keeps_step, keeps_run, keeps_answer, keeps_close, keeps_text}
 use Rattle.golog_lead.specs.Keeping.{KeepsRules}
 use Rattle.golog_lead.specs.Run.{is_step_entry}
-use Rattle.golog_agent.specs.Waiting.{has_no_step, waits}
+use Rattle.golog_agent.specs.Waiting.{has_no_step, takes_no_step, waits}
 use Rattle.golog_lead.proofs.StepEntries.{each-step}
 use Rattle.golog_lead.proofs.BegunRuns.{run-kept}
 
@@ -80,15 +80,21 @@ module _ (agent : Agent) (journal : Journal) (e : Entry) where
       ∷ (why.Text, keeps_text agent journal runs None e)
       ∷ []) h
 
+  first-of-two : (b c : Bool) → c ≡ false → (b || c) ≡ true → b ≡ true
+  first-of-two true c none h = refl
+  first-of-two false c none h = absurd (let k = sym none ∙ h in cc)
+
   by_label : (l : Label) → may_step agent journal (values_after agent journal) (left_after agent journal) l ≡ true → waits agent journal ≡ true → ⊥
   unfolding waits
   by_label l h w =
       let four = and_parts (is_settled agent journal && not (final agent (values_after agent journal) Must (left_after agent journal)) && nat_lt (count journal) limit)
       (is_first agent journal l (moves agent (values_after agent journal) Must (left_after agent journal))) h in
-      let settled = (and_parts (is_settled agent journal) (not (final agent (values_after agent journal) Must (left_after agent journal)))
-      (and_parts (is_settled agent journal && not (final agent (values_after agent journal) Must (left_after agent journal))) (nat_lt (count journal) limit) four.0).0).0 in
-      let waiting = (and_parts (not (is_quiet agent journal) && is_none (answer_after agent journal)) (not (is_settled agent journal) || has_no_step agent journal) w).1 in
-      let none : has_no_step agent journal ≡ true = sym (ap (λ b. not b || has_no_step agent journal) settled) ∙ waiting in
+      let two = and_parts (is_settled agent journal) (not (final agent (values_after agent journal) Must (left_after agent journal)))
+      (and_parts (is_settled agent journal && not (final agent (values_after agent journal) Must (left_after agent journal))) (nat_lt (count journal) limit) four.0).0 in
+      let unended = not-true (final agent (values_after agent journal) Must (left_after agent journal)) two.1 in
+      let waiting = (and_parts (not (is_quiet agent journal) && is_none (answer_after agent journal)) (not (is_settled agent journal) || takes_no_step agent journal) w).1 in
+      let stopped : takes_no_step agent journal ≡ true = sym (ap (λ b. not b || takes_no_step agent journal) two.0) ∙ waiting in
+      let none = first-of-two (has_no_step agent journal) (final agent (values_after agent journal) Must (left_after agent journal)) unended stopped in
       go (moves agent (values_after agent journal) Must (left_after agent journal)) none four.1
     where
       go : (ms : List Move) → is_empty ms ≡ true → is_first agent journal l ms ≡ true → ⊥

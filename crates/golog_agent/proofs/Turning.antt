@@ -9,7 +9,7 @@ use Rattle.golog_tree.specs.declared.agent.Agent.{Agent}
 use Rattle.golog_semantics.specs.declared.journal.Entry.{Entry}
 use Rattle.golog_semantics.specs.declared.journal.Entry.TheVariants.{End}
 use Rattle.golog_semantics.specs.declared.journal.Answer.{Answer}
-use Rattle.golog_semantics.specs.Journal.{Journal, has_end, is_end}
+use Rattle.golog_semantics.specs.Journal.{Journal, has_end, is_end, longest}
 use Rattle.golog_semantics.specs.Answer.{answer_after}
 use Rattle.golog_journal.specs.declared.lead.Led.TheVariants as led
 use Rattle.golog_journal.specs.Growing.{Sight, program}
@@ -117,7 +117,7 @@ module _ (first : Course) (before : Sight) (course later : Course) (old new : Si
         follows = compose before old new c.follows [] overtaken.follows;
       }
 
-  pub attempts-shorter : (o : Option Stepped) → o ≡ None → AttemptIs old new o → 65553 - length new.seen < 65553 - length old.seen
+  pub attempts-shorter : (o : Option Stepped) → o ≡ None → AttemptIs old new o → longest - length new.seen < longest - length old.seen
   attempts-shorter o none t =
       let overtaken : IsOvertaken old new = subst (AttemptIs old new) none t in
       let longer = overtaken.longer in

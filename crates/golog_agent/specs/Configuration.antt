@@ -7,7 +7,7 @@ use Rattle.golog_semantics.specs.Truth.{Values}
 use Rattle.golog_semantics.specs.Journal.{Journal}
 use Rattle.golog_semantics.specs.Progress.{after_entry, values_after, left_after}
 use Rattle.golog_semantics.specs.ProgFits.{fits}
-use Rattle.golog_semantics.specs.SortLaws.{AreInSorts}
+use Rattle.golog_semantics.specs.InSorts.{AreInSorts}
 use Rattle.golog_semantics.specs.WellFormed.{WellFormed}
 
 -- an agent, the values that are known, and the program left

@@ -14,7 +14,7 @@ use Rattle.golog_semantics.specs.Answer.{answer_after}
 use Rattle.golog_semantics.specs.Online.{may_step}
 use Rattle.golog_semantics.specs.Inline.{entry_for, lead, step_by}
 use Rattle.golog_lead.specs.Rounds.{Adds}
-use Rattle.golog_agent.specs.Waiting.{has_no_step, waits}
+use Rattle.golog_agent.specs.Waiting.{takes_no_step, waits}
 
 -- where each device is closed or at rest, the program does not wait
 awake : (quiet none stuck : Bool) → quiet ≡ true → (not quiet && none && stuck) ≡ false
@@ -26,7 +26,7 @@ pub quiet_goes_on : (agent : Agent) (journal : Journal) → IsTrue (is_quiet age
 unfolding waits
 quiet_goes_on agent journal quiet =
     awake (is_quiet agent journal) (is_none (answer_after agent journal))
-    (not (is_settled agent journal) || has_no_step agent journal) quiet
+    (not (is_settled agent journal) || takes_no_step agent journal) quiet
 
 -- ---- it adds to the list
 

@@ -55,7 +55,7 @@ pub record EndStood (old new : Sight) : Type 0 where
   pub ended : has_end old.seen ≡ true
   pub follows : Follows old new []
 
--- the fuel of a search block was wanted: the program is heavy, the journal is not full, and no result is awaited
+-- the fuel of a search block was wanted: the program is heavy and waits for no result, and the journal is not full
 pub record LacksFuel (agent : Agent) (journal : Journal) (answer : Answer) : Type 0 where
   pub is : answer ≡ Fuel
   pub not_full : is_full journal ≡ false

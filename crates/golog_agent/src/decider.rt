@@ -38,14 +38,15 @@ fn copied(alloc: Global, values: &[u8]) -> Option<Bytes>
     List::copy_of(alloc, values).ok()
 }
 
-/// What is kept of a decision that is handed out, if anything: that there is neither an end nor a step, or that fuel
-/// is lacking.
+/// What is kept of a decision that is handed out, if anything: that there is an end, or neither an end nor a step, or
+/// that fuel is lacking.
 fn standing(decided: &Option<Decision>) -> Option<Option<Decision>>
     ensures ahead { IfSome result (λ ahead. ahead ≡ decided.now) }
     ensures stands { is_some result ≡ is_standing decided.now }
 {
     match decided {
         None => Some(None),
+        Some(Decision::Final) => Some(Some(Decision::Final)),
         Some(Decision::Fuel) => Some(Some(Decision::Fuel)),
         Some(_) => None,
     }
@@ -143,7 +144,7 @@ impl<'a> Decider<'a> {
     }
 
     /// What the program does next, where it certainly ends or steps. It is decided anew only where it isn't kept
-    /// at these values. Where it neither ends nor steps, or lacks fuel, that is kept.
+    /// at these values. Where it ends, neither ends nor steps, or lacks fuel, that is kept.
     pub(crate) fn decide(&mut self, alloc: Global) -> Result<Option<Decision>, NoMemory>
         requires { IsSound self.old }
         ensures same { self.new ≡ self.old }

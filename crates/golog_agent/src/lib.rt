@@ -3,6 +3,7 @@
 
 mod decider;
 mod driver;
+mod held;
 mod laws;
 mod pen;
 mod plan;

@@ -16,13 +16,19 @@ pub(crate) enum Plan {
     Step(Move),
 }
 
-/// What the program is to do that decides so where no result is awaited, and, if it is blocked, no device
-/// may post any more.
-pub(crate) fn planned(decision: Decision) -> Plan
-    ensures { result ≡ plan_by decision }
+/// What the program is to do that decides so where it waits for no result, and, if it is blocked, no device may
+/// post any more. `comes` says whether a result may still come.
+pub(crate) fn planned(decision: Decision, comes: bool) -> Plan
+    ensures { result ≡ plan_by comes decision }
 {
     match decision {
-        Decision::Final => Plan::End(Answer::Done),
+        Decision::Final => {
+            if comes {
+                Plan::Wait
+            } else {
+                Plan::End(Answer::Done)
+            }
+        }
         Decision::Deep => Plan::End(Answer::Deep),
         Decision::Fuel => Plan::End(Answer::Fuel),
         Decision::Step(step) => Plan::Step(step),

@@ -2,7 +2,7 @@
 ghost use Rattle.std.specs.Prelude.{◌≡◌, ◌<◌, ◌≤◌, IfOk, IfSome, IsTrue, true, false, [], ◌∷◌, ◌++◌, length, unwrap_or};
 ghost use Rattle.golog_tree.specs.Nest.{nest};
 ghost use Rattle.golog_semantics.specs.Blocks.{moves};
-ghost use Rattle.golog_semantics.specs.Journal.{has_end, is_open, is_full, is_quiet, is_settled, longest};
+ghost use Rattle.golog_semantics.specs.Journal.{has_end, is_open, is_full, is_quiet, is_settled, lacks_results, may_be_answered, longest};
 ghost use Rattle.golog_semantics.specs.Answer.{is_unanswered};
 ghost use Rattle.golog_semantics.specs.Progress.{values_after, left_after};
 ghost use Rattle.golog_semantics.specs.Search.{final, nest_limit};
@@ -11,10 +11,11 @@ ghost use Rattle.golog_semantics.specs.WellFormed.{WellFormed};
 ghost use Rattle.golog_search.specs.Decided.{IsAhead};
 ghost use Rattle.golog_journal.specs.Boards.{IsBoardList};
 ghost use Rattle.golog_lead.specs.Keeping.{EndsBy, KeepsRules};
-ghost use Rattle.golog_agent.specs.Keeping.{awaited_by, ended_by, IsUnderWay};
+ghost use Rattle.golog_agent.specs.Keeping.{ended_by, IsUnderWay};
 ghost use Rattle.golog_agent.specs.Planned.{PlanIs, IsNextStep};
 
 use crate::decider::Decider;
+use crate::held::{Held, held_after};
 use crate::plan::{Plan, planned};
 use golog_base::{NoMemory, both};
 use golog_journal::Counts;
@@ -34,8 +35,8 @@ pub struct Core<'a> {
     counts: Counts,
     /// What is known after the entries, and what is decided there.
     decider: Decider<'a>,
-    /// The device whose result is still to come.
-    awaited: Option<u8>,
+    /// The command whose result the program waits for.
+    held: Option<Held>,
     /// How the program ended.
     ended: Option<Answer>,
 }
@@ -56,22 +57,7 @@ impl<'a> Model for Core<'a> {
     ghost view = { λ core. record { agent = core.counts.agent; list = core.counts.entries } };
 
     ghost invariant = { λ core.
-        KeepsUp core.counts.agent core.counts.entries core.decider core.awaited core.ended };
-}
-
-/// The device whose result is still to come after one more entry.
-fn awaited_after(counts: &Counts, awaited: Option<u8>, entry: Entry) -> Option<u8>
-    ensures { result ≡ awaited_by counts.now.agent awaited entry }
-{
-    match entry {
-        Entry::Do { action } => counts.asked_of(action),
-        Entry::Sense { .. } => None,
-        Entry::Test
-        | Entry::Exo { .. }
-        | Entry::Rest { .. }
-        | Entry::Close { .. }
-        | Entry::End { .. } => awaited,
-    }
+        KeepsUp core.counts.agent core.counts.entries core.decider core.held core.ended };
 }
 
 /// How the program ended, after one more entry.
@@ -100,7 +86,7 @@ impl<'a> Core<'a> {
             alloc,
             counts,
             decider,
-            awaited: None,
+            held: None,
             ended: None,
         })
     }
@@ -122,11 +108,11 @@ impl<'a> Core<'a> {
         requires nests { IfSome left (λ left. nest left ≤ nest_limit) }
         ensures { self.new ≡ record { agent = self.old.agent; list = self.old.list ++ entry ∷ [] } }
     {
-        let awaited = awaited_after(&self.counts, self.awaited, entry);
+        let held = held_after(&self.counts, self.held, entry);
         let ended = ended_after(self.ended, entry);
         self.decider.take(entry, left);
         self.counts.add(entry);
-        self.awaited = awaited;
+        self.held = held;
         self.ended = ended;
     }
 
@@ -159,6 +145,20 @@ impl<'a> Core<'a> {
         self.counts.is_quiet()
     }
 
+    // Whether a result is still to come.
+    fn lacks_results(&self) -> bool
+        ensures { result ≡ lacks_results self.now.agent self.now.list }
+    {
+        self.counts.lacks_results()
+    }
+
+    // Whether a result is still to come of a device that is open.
+    fn may_be_answered(&self) -> bool
+        ensures { result ≡ may_be_answered self.now.agent self.now.list }
+    {
+        self.counts.may_be_answered()
+    }
+
     // What the program does next, where it certainly ends or steps. It is decided anew only where the values or the
     // program left have changed since.
     fn ahead(&mut self) -> Result<Option<Decision>, NoMemory>
@@ -179,7 +179,8 @@ impl<'a> Core<'a> {
         }
     }
 
-    // What the program is to do, where no result is awaited and there is room.
+    // What the program is to do, where it waits for no result and there is room. Where it may end, it waits for the
+    // results that may still come.
     fn decided_plan(&mut self) -> Plan
         requires settled { IsTrue (is_settled self.old.agent self.old.list) }
         requires answered { is_unanswered self.old.agent self.old.list ≡ false }
@@ -189,14 +190,15 @@ impl<'a> Core<'a> {
     {
         self.keeps_rules();
         match self.ahead() {
-            Ok(Some(decision)) => planned(decision),
+            Ok(Some(decision)) => planned(decision, self.may_be_answered()),
             Ok(None) if self.is_quiet() => self.blocked_plan(),
             Ok(None) => Plan::Wait,
             Err(_) => Plan::End(Answer::Memory),
         }
     }
 
-    // What the program is to do that neither certainly ends nor steps, where no device may post any more.
+    // What the program is to do that neither certainly ends nor steps, where no device may post any more: results that
+    // are lacking will not come.
     fn blocked_plan(&self) -> Plan
         requires settled { IsTrue (is_settled self.now.agent self.now.list) }
         requires answered { is_unanswered self.now.agent self.now.list ≡ false }
@@ -208,8 +210,11 @@ impl<'a> Core<'a> {
             Mode.Must (left_after self.now.agent self.now.list))) }
         ensures { PlanIs self.now.agent self.now.list result }
     {
+        if self.lacks_results() {
+            return Plan::End(Answer::Unanswered);
+        }
         match self.decider.why_blocked(self.alloc) {
-            Ok(decision) => planned(decision),
+            Ok(decision) => planned(decision, false),
             Err(_) => Plan::End(Answer::Memory),
         }
     }
@@ -223,8 +228,8 @@ impl<'a> Core<'a> {
         if self.counts.is_full() {
             return Plan::End(Answer::Full);
         }
-        match self.awaited {
-            Some(device) if self.counts.is_open(device) => Plan::Wait,
+        match self.held {
+            Some(command) if self.counts.is_open(command.device) => Plan::Wait,
             Some(_) => Plan::End(Answer::Unanswered),
             None => self.decided_plan(),
         }

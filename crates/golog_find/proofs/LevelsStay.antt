@@ -8,7 +8,7 @@ use Rattle.golog_semantics.specs.declared.Mode.{Mode}
 use Rattle.golog_semantics.specs.Truth.{Values}
 use Rattle.golog_semantics.specs.Values.{after}
 use Rattle.golog_semantics.specs.Search.{final, is_followed, plain_ways}
-use Rattle.golog_semantics.specs.SortLaws.{AreInSorts}
+use Rattle.golog_semantics.specs.InSorts.{AreInSorts}
 use Rattle.golog_semantics.specs.WellFormed.{WellFormed}
 use Rattle.golog_semantics.proofs.ByParts.{OfEach}
 use Rattle.golog_semantics.proofs.CausesKeep.{steps_stay_in_sorts}

@@ -1,7 +1,7 @@
 ghost use Rattle.std.specs.Prelude.{◌≡◌, ◌+◌, ◌<◌, [], ◌∷◌, IfOk, IsTrue, MatchOption, false, not, true};
 ghost use Rattle.golog_semantics.specs.BlockFree.{has_block};
 ghost use Rattle.golog_semantics.specs.ProgFits.{fits};
-ghost use Rattle.golog_semantics.specs.SortLaws.{AreInSorts};
+ghost use Rattle.golog_semantics.specs.InSorts.{AreInSorts};
 ghost use Rattle.golog_semantics.specs.Truth.{Values};
 ghost use Rattle.golog_semantics.specs.WellFormed.{WellFormed};
 ghost use Rattle.golog_find.specs.Finding.{found, found_by, mode_of as mode_for};

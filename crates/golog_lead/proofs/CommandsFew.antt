@@ -8,7 +8,7 @@ use Rattle.std.proofs.lemmas.List.Sums.{sum_by-cons, count_by-le-length}
 use Rattle.golog_tree.specs.declared.agent.Agent.{Agent}
 use Rattle.golog_semantics.specs.declared.journal.Entry.{Entry}
 use Rattle.golog_semantics.specs.declared.journal.Entry.TheVariants.{Do, Test, Exo, Sense, Rest, Close, End}
-use Rattle.golog_semantics.specs.Journal.{Journal, device_of, devices, command_at, commands, is_carried_by, is_counted, count}
+use Rattle.golog_semantics.specs.Journal.{Journal, device_of, devices, command_at, commands, is_carried_by, is_counted, count, limit}
 use Rattle.golog_journal.specs.Boards.{IsBoardList}
 
 abbrev one_if : Bool → ℕ
@@ -133,8 +133,8 @@ module _ (agent : Agent) (journal : Journal) where
   pub taken_few : (taken : List ℕ) → ((d x : ℕ) → d < length taken → get_or taken d x ≤ length (commands agent d journal)) → sum taken ≤ count journal
   taken_few taken within = taken_by_few (λ x. x) taken within
 
-  pub taken_within : IsBoardList agent journal → (taken : List ℕ) → ((d x : ℕ) → d < length taken → get_or taken d x ≤ length (commands agent d journal)) → sum taken ≤ 65536
+  pub taken_within : IsBoardList agent journal → (taken : List ℕ) → ((d x : ℕ) → d < length taken → get_or taken d x ≤ length (commands agent d journal)) → sum taken ≤ limit
   taken_within list taken within =
       let few = taken_few taken within in
-      let room : count journal ≤ 65536 = list.room in
+      let room : count journal ≤ limit = list.room in
       omega (arith, few, room)

@@ -10,7 +10,7 @@ use Rattle.std.proofs.lemmas.List.Folds.{list_any-append, list_all-append}
 use Rattle.golog_tree.specs.declared.agent.Agent.{Agent}
 use Rattle.golog_semantics.specs.declared.journal.Entry.TheVariants.{End}
 use Rattle.golog_semantics.specs.declared.journal.Answer.{Answer}
-use Rattle.golog_semantics.specs.Journal.{Journal, is_close, is_end, is_open, is_posted_by, has_end, commands, entries_by}
+use Rattle.golog_semantics.specs.Journal.{Journal, is_close, is_end, is_open, is_posted_by, has_end, commands, entries_by, longest, limit}
 use Rattle.golog_semantics.specs.Inline.{Scripted, Stage, turns_from, round, rounds}
 use Rattle.golog_semantics.specs.InlineText.{new_scripted}
 use Rattle.golog_semantics.specs.Dealt.{Script}
@@ -147,7 +147,7 @@ module _ (agent : Agent) where
     }
 
   -- a run comes no further than so far
-  pub progress-few : (m : Moment) → IsBoardList agent m.journal → MayGoOn agent m.journal m.taken → length m.journal ≤ 65553 → progress m ≤ 131089
+  pub progress-few : (m : Moment) → IsBoardList agent m.journal → MayGoOn agent m.journal m.taken → length m.journal ≤ longest → progress m ≤ (longest + limit)
   progress-few m list on short =
       let few = taken_within agent m.journal list m.taken few-each in
       omega (arith, few, short)
@@ -157,7 +157,7 @@ module _ (agent : Agent) where
 
   -- a run that is over
   module _ (keeps : Journal → Type 0) (turned : Journal → Journal) (early : Answer → Type 0) (start now : Moment) (none_taken : (device : ℕ) → taken_by start.taken device ≡ 0)
-      (list : IsBoardList agent now.journal) (short : length now.journal ≤ 65553) (kept : keeps now.journal) (whole : is_whole agent now.journal ≡ true)
+      (list : IsBoardList agent now.journal) (short : length now.journal ≤ longest) (kept : keeps now.journal) (whole : is_whole agent now.journal ≡ true)
       (made : RoundsMade agent turned early start now) where
     over : IsOverAll now.journal (length agent.devices)
     over = over_is agent now.journal whole
@@ -185,7 +185,7 @@ module _ (agent : Agent) where
         at j (Some a) None both = absurd both
         at j (Some a) (Some b) both = by j (nat_lt j (length agent.devices)) refl a b both
 
-    few-rounds : made.count ≤ 131089
+    few-rounds : made.count ≤ (longest + limit)
     few-rounds = let g = made.goes in let p = progress-few now list made.on short in omega (arith, g, p)
 
     tell-scripts : (scripts : List Script) → length scripts ≡ length agent.devices → TellLeft start.standings scripts

@@ -8,7 +8,7 @@ use Rattle.golog_semantics.specs.declared.journal.Entry.TheVariants.{End}
 use Rattle.golog_semantics.specs.declared.journal.Answer.{Answer}
 use Rattle.golog_semantics.specs.Journal.{Journal, has_end, is_close}
 use Rattle.golog_semantics.specs.Dealt.{Script}
-use Rattle.golog_semantics.specs.Inline.{Stage, rounds, turns_from}
+use Rattle.golog_semantics.specs.Inline.{Stage, round_limit, rounds, turns_from}
 use Rattle.golog_semantics.specs.InlineText.{new_scripted}
 use Rattle.golog_lead.specs.Rounds.{Adds, FollowsRounds}
 use Rattle.golog_lead.proofs.Adding.{more_rounds, rounds_keep, turns_then_add}
@@ -56,10 +56,10 @@ module _ (agent : Agent) (made : Journal → Journal) (early : Answer → Type 0
   abbrev pub begun : Stage
   begun = record { journal = old; devices = map new_scripted scripts }
 
-  pub follows_whole_at : (k : ℕ) (s : Stage) → rounds agent made k begun ≡ s → k ≤ 200000 → IsOverAll s.journal (length scripts) → new ≡ s.journal → FollowsRounds made early agent scripts old new
+  pub follows_whole_at : (k : ℕ) (s : Stage) → rounds agent made k begun ≡ s → k ≤ round_limit → IsOverAll s.journal (length scripts) → new ≡ s.journal → FollowsRounds made early agent scripts old new
   follows_whole_at k s is within over same =
-      whole-so agent made early adds stays k 200000 begun s new is within (subst (IsOverAll s.journal) (sym (length-map scripts new_scripted)) over) same
+      whole-so agent made early adds stays k round_limit begun s new is within (subst (IsOverAll s.journal) (sym (length-map scripts new_scripted)) over) same
 
-  pub follows_starved_at : (k : ℕ) (s : Stage) → rounds agent made k begun ≡ s → k < 200000 → (closings : Journal) (answer : Answer) → list_all is_close closings ≡ true → early answer
+  pub follows_starved_at : (k : ℕ) (s : Stage) → rounds agent made k begun ≡ s → k < round_limit → (closings : Journal) (answer : Answer) → list_all is_close closings ≡ true → early answer
       → new ≡ (turns_from agent 0 s.journal s.devices).0 ++ End answer ∷ closings → FollowsRounds made early agent scripts old new
-  follows_starved_at k s is within closings answer closes short same = starved-so agent made early adds stays k 200000 begun s new closings answer is within closes short same
+  follows_starved_at k s is within closings answer closes short same = starved-so agent made early adds stays k round_limit begun s new closings answer is within closes short same

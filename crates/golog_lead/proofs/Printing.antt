@@ -6,7 +6,7 @@ use Rattle.golog_tree.specs.declared.agent.Agent.{Agent}
 use Rattle.golog_tree.specs.declared.prog.Label.{Label}
 use Rattle.golog_semantics.specs.declared.journal.Entry.{Entry}
 use Rattle.golog_semantics.specs.InlineText.{begun_runs, report_of}
-use Rattle.golog_semantics.specs.Journal.{Journal}
+use Rattle.golog_semantics.specs.Journal.{Journal, longest}
 use Rattle.golog_semantics.specs.Progress.{values_after}
 use Rattle.golog_semantics.specs.Reports.{IsReport}
 use Rattle.golog_semantics.specs.Text.{Text, line_text, run_at, with_line_feed}
@@ -22,7 +22,7 @@ use Rattle.golog_lead.proofs.BegunRuns.{run-here}
 use Rattle.golog_lead.proofs.RunsFit.{begun-few, is-report-within}
 
 module _ (agent : Agent) (journal : Journal) (e : Entry) where
-  module _ (formed : WellFormed agent) (lawful : IsBoardList agent (journal ++ e ∷ [])) (short : length journal ≤ 65553) where
+  module _ (formed : WellFormed agent) (lawful : IsBoardList agent (journal ++ e ∷ [])) (short : length journal ≤ longest) where
     reports : IsReport agent (report_of agent (journal ++ e ∷ []))
     reports = is-report-within agent (journal ++ e ∷ []) formed lawful (let l = length-append journal (e ∷ []) in omega (arith, l, short))
 

@@ -1,5 +1,5 @@
 -- What records the entries, from call to call.
-use Rattle.std.proofs.Common.{◌≡◌, List, Option, refl, sym, ◌∙◌, subst}
+use Rattle.std.proofs.Common.{None, ◌≡◌, List, Option, refl, sym, ◌∙◌, subst}
 use Rattle.golog_tree.specs.declared.agent.Agent.{Agent}
 use Rattle.golog_semantics.specs.declared.journal.PlacedRun.{PlacedRun}
 use Rattle.golog_semantics.specs.declared.journal.Report.{Report}
@@ -32,5 +32,5 @@ module _ {R : Type 0} (outlet : R → Option Outlet) (stands : Agent → Journal
 
 -- what was kept is the report
 pub reported : (agent : Agent) (journal entries : Journal) (runs : List PlacedRun) → IsKept agent journal entries runs
-    → ◌≡◌ {A = Report} (record { entries = entries; runs = runs }) (report_of agent journal)
-reported agent journal entries runs kept = λ i. record { entries = kept.entries_so i; runs = kept.runs_so i }
+    → ◌≡◌ {A = Report} (record { entries = entries; runs = runs; start = None }) (report_of agent journal)
+reported agent journal entries runs kept = λ i. record { entries = kept.entries_so i; runs = kept.runs_so i; start = None }

@@ -16,11 +16,11 @@ use Rattle.golog_semantics.specs.declared.journal.Entry.TheVariants.{Do, Test, E
 use Rattle.golog_semantics.specs.declared.journal.PlacedRun.{PlacedRun}
 use Rattle.golog_semantics.specs.Blocks.{moves}
 use Rattle.golog_semantics.specs.Ways.{is_empty}
-use Rattle.golog_semantics.specs.Journal.{Journal}
+use Rattle.golog_semantics.specs.Journal.{Journal, longest}
 use Rattle.golog_semantics.specs.Progress.{values_after, left_after}
 use Rattle.golog_semantics.specs.Online.{label_of, run_of}
 use Rattle.golog_semantics.specs.InlineText.{placed_run, report_of, run_after}
-use Rattle.golog_semantics.specs.Reports.{IsReport, fits_entry, fits_label, fits_run, grow_from}
+use Rattle.golog_semantics.specs.Reports.{IsReport, entry_limit, fits_entry, fits_label, fits_run, grow_from}
 use Rattle.golog_semantics.specs.Text.{at_each}
 use Rattle.golog_semantics.specs.WellFormed.{WellFormed}
 use Rattle.golog_semantics.proofs.BlocksFit.{step_stays}
@@ -124,13 +124,14 @@ module _ (agent : Agent) where
       (lawful-parts agent before e k.0).of_agent (fits-each (before ++ e ∷ []) rest k.1)
 
   -- the report of a board's list has a text
-  pub is-report-within : (journal : Journal) → WellFormed agent → IsBoardList agent journal → length journal ≤ 1048576 → IsReport agent (report_of agent journal)
+  pub is-report-within : (journal : Journal) → WellFormed agent → IsBoardList agent journal → length journal ≤ entry_limit → IsReport agent (report_of agent journal)
   is-report-within journal formed lawful within = record {
     entries = fits-each [] journal lawful.lawful;
     runs = runs-fit formed [] journal;
     in_order = runs-grow [] journal 0 (omega arith);
-    in_bounds = le-leb (length journal) 1048576 within;
+    in_bounds = le-leb (length journal) entry_limit within;
+    start = tt;
   }
 
-  pub is-report : (journal : Journal) → WellFormed agent → IsBoardList agent journal → length journal ≤ 65553 → IsReport agent (report_of agent journal)
+  pub is-report : (journal : Journal) → WellFormed agent → IsBoardList agent journal → length journal ≤ longest → IsReport agent (report_of agent journal)
   is-report journal formed lawful short = is-report-within journal formed lawful (omega (arith, short))

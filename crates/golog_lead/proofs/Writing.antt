@@ -50,6 +50,7 @@ written-as text same was is before after faulted e w = subst (λ t. IsWritten t 
 pub written-first : (text : Text) (was : Option Text) (before : ℕ) → text ≡ [] → IsWritten text was was before before false
 written-first text was before none = record {
   whole = λ no. sym (ap (and_then_bytes was) none ∙ and_then-none was);
+  no_fault = λ no. refl;
   cut = λ yes. absurd (cc);
   rose = λ yes. absurd (cc);
   counted = omega arith;
@@ -57,9 +58,10 @@ written-first text was before none = record {
 
 module _ (text line : Text) (was now is : Option Text) (before between after : ℕ) (so_far : IsWritten text was now before between false) (counted : between ≤ after) where
   -- a line more
-  written-next : is ≡ and_then_bytes now line → IsWritten (text ++ line) was is before after false
-  written-next added = record {
+  written-next : is ≡ and_then_bytes now line → after ≡ between → IsWritten (text ++ line) was is before after false
+  written-next added still = record {
     whole = λ no. added ∙ ap (λ t. and_then_bytes t line) (so_far.whole refl) ∙ and_then-append was text line;
+    no_fault = λ no. still ∙ so_far.no_fault refl;
     cut = λ yes. absurd (cc);
     rose = λ yes. absurd (cc);
     counted = let earlier = so_far.counted in omega (arith, earlier, counted);
@@ -69,6 +71,7 @@ module _ (text line : Text) (was now is : Option Text) (before between after : �
   written-cut : AddsPrefix now is line → Rose between after → IsWritten (text ++ line) was is before after true
   written-cut prefix rose = record {
     whole = λ no. absurd (cc);
+    no_fault = λ no. absurd (cc);
     cut = λ yes. prefix-behind was now is text line (so_far.whole refl) prefix;
     rose = λ yes. rose-since before between after so_far.counted rose;
     counted = let earlier = so_far.counted in omega (arith, earlier, counted);
@@ -78,6 +81,7 @@ module _ (text line : Text) (was now is : Option Text) (before between after : �
 written-more : (text more : Text) (was is : Option Text) (before after : ℕ) → IsWritten text was is before after true → IsWritten (text ++ more) was is before after true
 written-more text more was is before after w = record {
   whole = λ no. absurd (cc);
+  no_fault = λ no. absurd (cc);
   cut = λ yes. prefix-more was is text more (w.cut refl);
   rose = w.rose;
   counted = w.counted;
@@ -98,12 +102,12 @@ module _ (agent : Agent) (was now is : Option Text) (before between after : ℕ)
 
     -- the line of one more entry was written, or the write failed
     pub line-done : (text : Text) → text ≡ line → HasWritten agent journal was now before between false → between ≤ after
-        → {T E : Type 0} (r : Result T E) → OnOk r (is ≡ and_then_bytes now text) → OnErr r (AddsPrefix now is text) → OnErr r (Rose between after)
+        → {T E : Type 0} (r : Result T E) → OnOk r (is ≡ and_then_bytes now text) → OnOk r (after ≡ between) → OnErr r (AddsPrefix now is text) → OnErr r (Rose between after)
         → HasWritten agent (journal ++ e ∷ []) was is before after (is_err r)
-    line-done text same so_far counted (Ok x) added prefix rose =
+    line-done text same so_far counted (Ok x) added still prefix rose =
         written-as (whole_text agent journal ++ line) (whole_text agent (journal ++ e ∷ [])) was is before after false (whole-next agent journal e)
-        (written-next (whole_text agent journal) line was now is before between after so_far counted (added ∙ ap (and_then_bytes now) same))
-    line-done text same so_far counted (Err x) added prefix rose =
+        (written-next (whole_text agent journal) line was now is before between after so_far counted (added ∙ ap (and_then_bytes now) same) still)
+    line-done text same so_far counted (Err x) added still prefix rose =
         written-as (whole_text agent journal ++ line) (whole_text agent (journal ++ e ∷ [])) was is before after true (whole-next agent journal e)
         (written-cut (whole_text agent journal) line was now is before between after so_far counted (subst (AddsPrefix now is) same prefix) rose)
 

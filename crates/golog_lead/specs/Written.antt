@@ -7,10 +7,11 @@ use Rattle.golog_semantics.specs.Journal.{Journal}
 use Rattle.golog_semantics.specs.InlineText.{report_of}
 use Rattle.golog_semantics.specs.Text.{Text, report_text}
 
--- Behind what was taken at first stands this text. Where a write has failed, a prefix of it stands there, and the
--- count of faults has risen since; it never falls.
+-- Behind what was taken at first stands this text, and the count of faults stands as it did. Where a write has failed,
+-- a prefix of it stands there, and the count has risen since; it never falls.
 pub record IsWritten (text : Text) (was is : Option Text) (before after : ℕ) (faulted : Bool) : Type 0 where
   pub whole : faulted ≡ false → is ≡ and_then_bytes was text
+  pub no_fault : faulted ≡ false → after ≡ before
   pub cut : faulted ≡ true → AddsPrefix was is text
   pub rose : faulted ≡ true → Rose before after
   pub counted : before ≤ after

@@ -1,5 +1,5 @@
 //! The entries of a program under way, kept with the runs that they begin.
-ghost use Rattle.std.specs.Prelude.{◌≡◌, ◌≤◌, [], ◌∷◌, ◌++◌, length, IfOk};
+ghost use Rattle.std.specs.Prelude.{◌≡◌, ◌≤◌, [], ◌∷◌, ◌++◌, length, None, IfOk};
 ghost use Rattle.golog_semantics.specs.Journal.{longest};
 
 use crate::runs::Runs;
@@ -77,11 +77,12 @@ impl Kept {
 
     /// What was kept, as a report.
     pub fn into_report(self) -> Report
-        ensures { result ≡ record { entries = self.entries; runs = self.runs } }
+        ensures { result ≡ record { entries = self.entries; runs = self.runs; start = None } }
     {
         Report {
             entries: self.entries.into_list(),
             runs: self.runs.into_list(),
+            start: None,
         }
     }
 }

@@ -39,6 +39,7 @@ pub fn run_inline<L: RoundLead, D: Device, B: Board>(
     ensures same_board { SameBoard (B.sight board.old) (B.sight board.new) }
     ensures lawful { IsBoardList agent.now (B.sight board.new).seen }
     ensures whole { (L.mind lead.new).list ≡ (B.sight board.new).seen }
+    ensures short { length (B.sight board.new).seen ≤ longest }
     ensures ran { RunsToEnd (L.keeps (L.mind lead.old).bounds agent.now) (L.alone (L.mind lead.old).bounds agent.now) L.short
         agent.now (B.sight board.old).seen (B.sight board.new).seen
         (standings D.fresh D.meaning devices.old) (standings D.fresh D.meaning devices.new) }

@@ -14,7 +14,7 @@ use Rattle.golog_semantics.specs.Search.{final}
 use Rattle.golog_semantics.specs.Blocks.{block_moves, moves}
 use Rattle.golog_semantics.specs.Guarded.{IsGuarded}
 use Rattle.golog_semantics.specs.Heavy.{Reached, front_blocks, heavy, is_above}
-use Rattle.golog_semantics.specs.SortLaws.{AreInSorts}
+use Rattle.golog_semantics.specs.InSorts.{AreInSorts}
 use Rattle.golog_semantics.specs.WellFormed.{WellFormed}
 use Rattle.golog_ways.specs.First.{head_of}
 use Rattle.golog_ways.specs.FirstMove.{first_move}

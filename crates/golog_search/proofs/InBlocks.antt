@@ -11,7 +11,7 @@ use Rattle.golog_semantics.specs.ProgFits.{Position, block_fits, depth_limit, fu
 use Rattle.golog_semantics.proofs.ByParts as parts
 use Rattle.golog_semantics.proofs.ProgPut.{at_scope}
 use Rattle.golog_semantics.proofs.Tests.{and_cases}
-use Rattle.golog_semantics.specs.SortLaws.{AreInSorts}
+use Rattle.golog_semantics.specs.InSorts.{AreInSorts}
 use Rattle.golog_semantics.specs.Truth.{Values}
 use Rattle.golog_fronts.specs.Closed.{IsClosed}
 use Rattle.golog_search.specs.BlockSteps.{IsSearchedIn}

@@ -9,7 +9,7 @@ use Rattle.golog_semantics.specs.Ways.{is_empty}
 use Rattle.golog_semantics.specs.Search.{Run}
 use Rattle.golog_semantics.specs.Blocks.{block_moves, is_kept}
 use Rattle.golog_semantics.specs.Heavy.{is_above}
-use Rattle.golog_semantics.specs.SortLaws.{AreInSorts}
+use Rattle.golog_semantics.specs.InSorts.{AreInSorts}
 use Rattle.golog_semantics.specs.WellFormed.{WellFormed}
 use Rattle.golog_ways.specs.declared.reaches.Reach.{Reach}
 use Rattle.golog_ways.specs.First.{head_of}

@@ -9,7 +9,7 @@ use Rattle.golog_semantics.specs.declared.journal.Answer.TheVariants as answer
 use Rattle.golog_semantics.specs.Truth.{Values}
 use Rattle.golog_semantics.specs.Blocks.{moves}
 use Rattle.golog_semantics.specs.BlockFree.{has_block}
-use Rattle.golog_semantics.specs.Journal.{Journal, is_full, is_settled, is_quiet}
+use Rattle.golog_semantics.specs.Journal.{Journal, is_full, is_settled, is_quiet, lacks_results, may_be_answered}
 use Rattle.golog_semantics.specs.Progress.{left_after}
 use Rattle.golog_semantics.specs.Answer.{is_unanswered, answer_at}
 use Rattle.golog_search.specs.declared.decision.Blocked.{Blocked}
@@ -24,21 +24,25 @@ blocked_answer Unknown = answer.Unknown
 blocked_answer Depth = answer.Depth
 blocked_answer Stuck = answer.Stuck
 
--- the answer of a program that does this next, where no result is awaited: while a device may still post, a
--- blocked program waits for it
-abbrev pub answer_of : Bool → Decision → Option Answer
-answer_of quiet Final = Some answer.Done
-answer_of quiet (Step m) = None
-answer_of quiet (Blocking b) = if quiet then Some (blocked_answer b) else None
-answer_of quiet Fuel = Some answer.Fuel
-answer_of quiet Deep = Some answer.Deep
+-- The answer of a program that does this next, where it waits for no result. Where a result may still come, a
+-- program that may end waits for it. While a device may still post, a blocked program waits for it, and where none
+-- may but a result is lacking, that will not come.
+abbrev pub answer_of : Bool → Bool → Bool → Decision → Option Answer
+answer_of comes quiet lacks Final = if comes then None else Some answer.Done
+answer_of comes quiet lacks (Step m) = None
+answer_of comes quiet lacks (Blocking b) =
+    if quiet then (if lacks then Some answer.Unanswered else Some (blocked_answer b)) else None
+answer_of comes quiet lacks Fuel = Some answer.Fuel
+answer_of comes quiet lacks Deep = Some answer.Deep
 
--- where the journal is not full and no result is awaited, the answer is that of what the program does next
+-- where the journal is not full and the program waits for no result, the answer is that of what the program does next
 abbrev pub DecidedIsAnswered : Type 0
 DecidedIsAnswered =
     (agent : Agent) (journal : Journal) (values : Values) (p : Prog) → is_full journal ≡ false
     → is_unanswered agent journal ≡ false → is_settled agent journal ≡ true
-    → answer_at agent journal values p ≡ answer_of (is_quiet agent journal) (decision agent values p)
+    → answer_at agent journal values p
+    ≡ answer_of (may_be_answered agent journal) (is_quiet agent journal) (lacks_results agent journal)
+    (decision agent values p)
 
 -- a step of a program without blocks begins no run, and leaves one without blocks
 pub record IsBlocklessStep (agent : Agent) (step : Move) : Type 0 where

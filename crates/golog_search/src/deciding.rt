@@ -6,7 +6,7 @@ ghost use Rattle.golog_semantics.specs.Certain.{EndIsCertain, StepIsCertain, Stu
 ghost use Rattle.golog_semantics.specs.Heavy.{heavy as is_heavy};
 ghost use Rattle.golog_semantics.specs.ProgFits.{fits};
 ghost use Rattle.golog_semantics.specs.Search.{final, nest_limit};
-ghost use Rattle.golog_semantics.specs.SortLaws.{AreInSorts};
+ghost use Rattle.golog_semantics.specs.InSorts.{AreInSorts};
 ghost use Rattle.golog_semantics.specs.Ways.{is_empty};
 ghost use Rattle.golog_semantics.specs.WellFormed.{WellFormed};
 ghost use Rattle.golog_search.specs.Decided.{IsAhead, IsDecided, decision, stepping as after_step};

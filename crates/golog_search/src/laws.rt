@@ -10,7 +10,7 @@ pub fn blockless_left()
     ensures { BlocklessLeft }
 {}
 
-/// Where no result is awaited and the journal is not full, the answer is that of what the program does next.
+/// Where the program waits for no result and the journal is not full, the answer is that of what the program does next.
 pub fn decided_is_answered()
     ensures { DecidedIsAnswered }
 {}

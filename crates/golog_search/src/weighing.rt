@@ -4,7 +4,7 @@ ghost use Rattle.golog_semantics.specs.BlockFree.{has_block};
 ghost use Rattle.golog_semantics.specs.Blocks.{is_kept as keeps_run};
 ghost use Rattle.golog_semantics.specs.Heavy.{front_blocks, is_above};
 ghost use Rattle.golog_semantics.specs.ProgFits.{fits};
-ghost use Rattle.golog_semantics.specs.SortLaws.{AreInSorts};
+ghost use Rattle.golog_semantics.specs.InSorts.{AreInSorts};
 ghost use Rattle.golog_semantics.specs.WellFormed.{WellFormed};
 ghost use Rattle.golog_fronts.specs.Closed.{IsClosed};
 ghost use Rattle.golog_find.specs.Finding.{mode_of};

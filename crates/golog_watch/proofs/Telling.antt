@@ -21,7 +21,7 @@ use Rattle.golog_semantics.specs.Fronts.{IsEnd}
 use Rattle.golog_semantics.specs.Modes.{holds}
 use Rattle.golog_semantics.specs.Same.{same_prog, same_way}
 use Rattle.golog_semantics.specs.Search.{Run, plain_ways}
-use Rattle.golog_semantics.specs.SortLaws.{AreInSorts}
+use Rattle.golog_semantics.specs.InSorts.{AreInSorts}
 use Rattle.golog_semantics.specs.Truth.{Values, env_of, truth_of}
 use Rattle.golog_semantics.specs.Values.{after}
 use Rattle.golog_semantics.specs.Ways.{is_so}

@@ -12,7 +12,7 @@ use Rattle.golog_tree.specs.declared.prog.Label.{Label}
 use Rattle.golog_tree.specs.declared.prog.Label.TheVariants.{Quiet, Do}
 use Rattle.golog_tree.specs.declared.prog.Prog.{Prog}
 use Rattle.golog_tree.specs.declared.prog.Way.{Way}
-use Rattle.golog_semantics.specs.SortLaws.{AreInSorts}
+use Rattle.golog_semantics.specs.InSorts.{AreInSorts}
 use Rattle.golog_semantics.specs.declared.Mode.TheVariants.{Must}
 use Rattle.golog_semantics.specs.BlockFree.{has_block}
 use Rattle.golog_semantics.specs.Blocks.{goes_through}

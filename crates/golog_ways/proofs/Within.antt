@@ -11,7 +11,7 @@ use Rattle.golog_semantics.specs.ProgFits.{Position, prog_fits, prog_step, way_s
 use Rattle.golog_semantics.proofs.FoldsRelated.{Leaf, free, Answers, WayAnswers, folds_related, ones, twos}
 use Rattle.golog_semantics.proofs.ProgPut.{at_scope}
 use Rattle.golog_semantics.proofs.Tests.{and_both, and_cases, neither_first, neither_second}
-use Rattle.golog_semantics.specs.SortLaws.{AreInSorts}
+use Rattle.golog_semantics.specs.InSorts.{AreInSorts}
 use Rattle.golog_semantics.specs.Truth.{Values}
 use Rattle.golog_ways.specs.Searched.{IsSearched}
 

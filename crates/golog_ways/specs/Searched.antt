@@ -5,7 +5,7 @@ use Rattle.golog_tree.specs.declared.prog.Prog.{Prog}
 use Rattle.golog_semantics.specs.Truth.{Values}
 use Rattle.golog_semantics.specs.BlockFree.{has_block}
 use Rattle.golog_semantics.specs.ProgFits.{fits}
-use Rattle.golog_semantics.specs.SortLaws.{AreInSorts}
+use Rattle.golog_semantics.specs.InSorts.{AreInSorts}
 
 -- a program that a search of an agent may reach, and the values there: it stays inside the agent, has no
 -- block, and the values are in their sorts

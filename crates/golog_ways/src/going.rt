@@ -5,7 +5,7 @@ ghost use Rattle.golog_semantics.specs.Blocks.{goes_through as leads_to_final};
 ghost use Rattle.golog_semantics.specs.Reports.{fits_label};
 ghost use Rattle.golog_semantics.specs.Same.{same_way};
 ghost use Rattle.golog_semantics.specs.Search.{plain_ways};
-ghost use Rattle.golog_semantics.specs.SortLaws.{AreInSorts};
+ghost use Rattle.golog_semantics.specs.InSorts.{AreInSorts};
 ghost use Rattle.golog_semantics.specs.Values.{after};
 ghost use Rattle.golog_semantics.specs.WellFormed.{WellFormed};
 ghost use Rattle.golog_ways.specs.Searched.{IsSearched};
@@ -72,7 +72,7 @@ fn is_among(way: &Way, ways: &[Way]) -> bool
 }
 
 /// Whether the way is a certain step of the program.
-fn is_certain(
+pub fn is_certain(
     alloc: Global,
     agent: &Agent,
     prog: &Prog,

@@ -20,7 +20,7 @@ mod without;
 
 pub use answering::{Blocks, Stop};
 pub use following::Following;
-pub use going::{copy_way, copy_ways, goes_through, state_after};
+pub use going::{copy_way, copy_ways, goes_through, is_certain, state_after};
 pub use golog_fronts::{
     Front, body_of, conjunction, end_cond, fronts, has_front_block, may_skip, none_is_reached,
     well_formed_is_fit,

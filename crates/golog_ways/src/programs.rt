@@ -2,7 +2,7 @@ ghost use Rattle.std.specs.Prelude.{◌≡◌, IfOk, IfSome, IsTrue, false, not}
 ghost use Rattle.golog_semantics.specs.Blocks.{ways};
 ghost use Rattle.golog_semantics.specs.ProgFits.{fits};
 ghost use Rattle.golog_semantics.specs.Search.{final};
-ghost use Rattle.golog_semantics.specs.SortLaws.{AreInSorts};
+ghost use Rattle.golog_semantics.specs.InSorts.{AreInSorts};
 ghost use Rattle.golog_semantics.specs.Ways.{is_empty};
 ghost use Rattle.golog_semantics.specs.WellFormed.{WellFormed};
 ghost use Rattle.golog_fronts.specs.Closed.{IsClosed};

@@ -1,4 +1,5 @@
 use Rattle.std.proofs.Common.{◌≡◌, ◌≤◌, true, length, refl, sym, ap, ◌∙◌, subst, arith}
+use Rattle.golog_semantics.specs.Journal.{longest}
 use Rattle.golog_semantics.specs.WellFormed.{WellFormed}
 use Rattle.golog_semantics.specs.Online.{is_whole}
 use Rattle.golog_journal.specs.Boards.{IsBoardList}
@@ -29,7 +30,7 @@ loop-taken-init g c =
       same = record { same_agent = refl; same_alone = refl; same_holds = refl };
       lawful = subst (IsBoardList agent) (sym same) c.requires.lawful;
       whole = c.gather.ensures.whole;
-      short = subst (λ j. length j ≤ 65553) c.gather.ensures.whole c.keeps_rules.ensures.short;
+      short = subst (λ j. length j ≤ longest) c.gather.ensures.whole c.keeps_rules.ensures.short;
       made = rounds-none agent _ _ _ (on-first agent new.seen 16 (subst (AreReady agent) (sym same) c.requires.ready));
     }
 
@@ -72,7 +73,7 @@ loop-taken-preserved g c =
       };
       lawful = later.lawful;
       whole = later.whole;
-      short = subst (λ j. length j ≤ 65553) later.whole later.short;
+      short = subst (λ j. length j ≤ longest) later.whole later.short;
       made = rounds-next c.args.agent.now _ _ _ _ _ later.lawful now.made
           (subst (λ b. RoundMade c.args.agent.now (g.L.RoundLead.alone b c.args.agent.now) g.L.RoundLead.short
           (moment (g.B.Board.sight c.loop-taken.board).seen c.loop-taken.taken (standings g.D.Device.fresh g.D.Device.meaning c.loop-taken.devices))
@@ -115,6 +116,7 @@ returns g c =
       };
       lawful = now.lawful;
       whole = now.whole;
+      short = now.short;
       ran =
           subst (λ b. RunsToEnd (g.L.RoundLead.keeps b agent) (g.L.RoundLead.alone b agent) g.L.RoundLead.short agent before.seen last.seen olds news)
           c.gather.ensures.same.same_bounds

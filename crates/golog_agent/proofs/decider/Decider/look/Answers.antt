@@ -1,7 +1,7 @@
 use Rattle.std.proofs.Common.{true, Option, Some, sym, ap, ◌∙◌, subst}
 use Rattle.std.specs.Prelude.{IfOk, IsTrue}
 use Rattle.golog_semantics.specs.ProgFits.{fits}
-use Rattle.golog_semantics.specs.SortLaws.{AreInSorts}
+use Rattle.golog_semantics.specs.InSorts.{AreInSorts}
 use Rattle.golog_semantics.specs.WellFormed.{WellFormed}
 use Rattle.golog_search.specs.declared.decision.Decision.{Decision}
 use Rattle.golog_search.specs.Decided.{IsAhead}

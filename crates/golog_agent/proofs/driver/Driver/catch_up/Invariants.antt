@@ -1,4 +1,5 @@
 use Rattle.std.proofs.Common.{◌-◌, length}
+use Rattle.golog_semantics.specs.Journal.{longest}
 use Rattle.golog_lead.specs.Recording.{Records}
 use Rattle.golog_agent.proofs.Copying.{Copies}
 use Rattle.golog_agent.proofs.driver.Driver.catch_up.Given as goal
@@ -11,4 +12,4 @@ invariant-loop-more g l = record {
 }
 
 abbrev pub decreases-loop-more : goal.decreases-loop-more
-decreases-loop-more g l = 65553 - length l.self.core.list
+decreases-loop-more g l = longest - length l.self.core.list

@@ -1,4 +1,5 @@
 use Rattle.std.proofs.Common.{◌-◌, length}
+use Rattle.golog_semantics.specs.Journal.{longest}
 use Rattle.golog_lead.specs.Recording.{Records}
 use Rattle.golog_agent.proofs.Turning.{Attempts}
 use Rattle.golog_agent.proofs.driver.Driver.turn.Given as goal
@@ -11,4 +12,4 @@ invariant-loop-stepped g l = record {
 }
 
 abbrev pub decreases-loop-stepped : goal.decreases-loop-stepped
-decreases-loop-stepped g l = 65553 - length (g.B.Board.sight l.board).seen
+decreases-loop-stepped g l = longest - length (g.B.Board.sight l.board).seen

@@ -14,7 +14,7 @@ decide-requires c =
 pub invariant_of-self : goal.invariant_of-self
 invariant_of-self c =
     let r = c.self.inside in
-    kept-same r.counts.agent r.counts.entries r.decider c.decide.new.self r.awaited r.ended c.decide.ensures.same c.self.invariant
+    kept-same r.counts.agent r.counts.entries r.decider c.decide.new.self r.held r.ended c.decide.ensures.same c.self.invariant
 
 pub returns-clause-ahead : goal.returns-clause-ahead
 returns-clause-ahead c =

@@ -1,4 +1,4 @@
-use Rattle.std.proofs.Common.{◌≡◌, true, false, sym, subst}
+use Rattle.std.proofs.Common.{◌≡◌, true, false, sym, subst, ◌∙◌}
 use Rattle.std.specs.Prelude.{IsTrue}
 use Rattle.golog_semantics.specs.declared.Mode.TheVariants.{Must}
 use Rattle.golog_semantics.specs.Search.{final}
@@ -10,7 +10,7 @@ use Rattle.golog_agent.specs.Keeping.{IsUnderWay}
 use Rattle.golog_agent.specs.Planned.{PlanIs}
 use Rattle.golog_lead.specs.Courses.{Course}
 use Rattle.golog_agent.proofs.Growth.{sound}
-use Rattle.golog_agent.proofs.Planning.{blocked-plan, known-inside, known-seen}
+use Rattle.golog_agent.proofs.Planning.{blocked-plan, known-inside, known-seen, lacking-plan}
 use Rattle.golog_agent.proofs.under_way.Core.blocked_plan.Goals as goal
 
 pub why_blocked-requires-clause-sound : goal.why_blocked-requires-clause-sound
@@ -30,6 +30,12 @@ why_blocked-requires-clause-stepless c =
     known-inside r.counts.agent r.counts.entries c.args.self.now c.self.view_is r.decider c.self.invariant.known_so
     (λ (known : Configuration). IsTrue (is_empty (moves known.agent known.values Must known.left))) c.requires.stepless
 
+pub returns-then-lacks_results : goal.returns-then-lacks_results
+returns-then-lacks_results c =
+    let now = c.args.self.now in
+    lacking-plan now.agent now.list c.requires.room c.requires.answered c.requires.settled c.requires.unended c.requires.stepless c.requires.quiet
+    (sym c.lacks_results.ensures ∙ c.if-lacks_results.true)
+
 pub returns-in-Ok : goal.returns-in-Ok
 returns-in-Ok c =
     let r = c.self.inside in
@@ -39,4 +45,4 @@ returns-in-Ok c =
     c.requires.room c.requires.answered c.requires.settled c.in-Ok.decision
     (known-seen r.counts.agent r.counts.entries now c.self.view_is r.decider c.self.invariant.known_so
     (λ (known : Configuration). IsDecided known.agent known.values known.left true c.in-Ok.decision) c.in-Ok.ensures)
-    c.requires.quiet)
+    c.requires.quiet (sym c.lacks_results.ensures ∙ c.if-lacks_results.false))

@@ -2,7 +2,7 @@ use Rattle.std.proofs.Common.{◌≡◌, true, false, ap, sym, ◌∙◌, subst}
 use Rattle.golog_semantics.specs.declared.Mode.TheVariants.{Must}
 use Rattle.golog_semantics.specs.Answer.{is_unanswered}
 use Rattle.golog_semantics.specs.Blocks.{moves}
-use Rattle.golog_semantics.specs.Journal.{is_full, is_quiet, is_settled}
+use Rattle.golog_semantics.specs.Journal.{is_full, is_quiet, is_settled, may_be_answered}
 use Rattle.golog_semantics.specs.Progress.{values_after, left_after}
 use Rattle.golog_semantics.specs.Search.{final}
 use Rattle.golog_semantics.specs.Ways.{is_empty}
@@ -16,7 +16,8 @@ pub returns-in-Ok-Some-clause-plan : goal.returns-in-Ok-Some-clause-plan
 returns-in-Ok-Some-clause-plan c =
     let now = c.args.self.now in
     subst (PlanIs now.agent now.list) (sym c.planned.ensures)
-    (ahead-plan now.agent now.list c.keeps_rules.ensures.under_way c.requires.room c.requires.answered c.requires.settled c.in-Ok-Some.decision
+    (ahead-plan now.agent now.list c.keeps_rules.ensures.under_way c.requires.room c.requires.answered c.requires.settled c.may_be_answered.result
+    (ap (λ (v : Course). may_be_answered v.agent v.list) (sym c.ahead.ensures.same) ∙ sym c.may_be_answered.ensures) c.in-Ok-Some.decision
     (subst (IsAhead now.agent (values_after now.agent now.list) (left_after now.agent now.list) true) c.in-Ok-Some.field-0-is c.in-Ok-Some.ensures.ahead))
 
 pub blocked_plan-requires-clause-settled : goal.blocked_plan-requires-clause-settled

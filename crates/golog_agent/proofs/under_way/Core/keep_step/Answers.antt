@@ -19,4 +19,4 @@ keep-requires c =
 pub invariant_of-self : goal.invariant_of-self
 invariant_of-self c =
     let r = c.self.inside in
-    kept-same r.counts.agent r.counts.entries r.decider c.keep.new.self r.awaited r.ended c.keep.ensures c.self.invariant
+    kept-same r.counts.agent r.counts.entries r.decider c.keep.new.self r.held r.ended c.keep.ensures c.self.invariant

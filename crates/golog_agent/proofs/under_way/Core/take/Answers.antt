@@ -1,4 +1,4 @@
-use Rattle.std.proofs.Common.{◌≤◌, ◌∷◌, [], ◌++◌, ap, ◌∙◌, subst}
+use Rattle.std.proofs.Common.{◌∷◌, [], ◌++◌, ap, ◌∙◌}
 use Rattle.golog_journal.specs.Boards.{AgentJournal}
 use Rattle.golog_lead.specs.Courses.{Course}
 use Rattle.golog_agent.proofs.Growth.{entries-fit, kept-then, lawful-inside, seen_as, sound}
@@ -23,9 +23,9 @@ add-requires c =
 pub invariant_of-self : goal.invariant_of-self
 invariant_of-self c =
     let r = c.self.inside in
-    kept-then r.counts c.add.new.self c.args.self.now c.args.entry r.decider c.take.new.self c.args.left r.awaited c.awaited_after-awaited.result r.ended c.ended_after-ended.result
+    kept-then r.counts c.add.new.self c.args.self.now c.args.entry r.decider c.take.new.self c.args.left r.held c.held_after-held.result r.ended c.ended_after-ended.result
     c.self.view_is c.self.invariant c.requires.lawful c.requires.online c.requires.left
-    c.add.ensures c.take.ensures c.awaited_after-awaited.ensures c.ended_after-ended.ensures
+    c.add.ensures c.take.ensures c.held_after-held.ensures c.ended_after-ended.ensures
 
 pub returns : goal.returns
 returns c =

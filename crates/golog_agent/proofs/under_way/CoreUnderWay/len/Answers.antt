@@ -1,4 +1,5 @@
 use Rattle.std.proofs.Common.{◌≤◌, length, ap, subst, ◌∙◌}
+use Rattle.golog_semantics.specs.Journal.{longest}
 use Rattle.golog_lead.specs.Courses.{Course}
 use Rattle.golog_agent.proofs.under_way.CoreUnderWay.len.Goals as goal
 
@@ -6,4 +7,4 @@ pub returns-clause-number : goal.returns-clause-number
 returns-clause-number c = c.len.ensures.number ∙ ap (λ (v : Course). length v.list) c.self.view_is
 
 pub returns-clause-most : goal.returns-clause-most
-returns-clause-most c = subst (λ (v : Course). length v.list ≤ 65553) c.self.view_is c.len.ensures.most
+returns-clause-most c = subst (λ (v : Course). length v.list ≤ longest) c.self.view_is c.len.ensures.most

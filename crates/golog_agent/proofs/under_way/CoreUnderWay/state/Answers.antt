@@ -1,6 +1,6 @@
 use Rattle.std.proofs.Common.{sym, ap, ◌∙◌, subst}
 use Rattle.golog_semantics.specs.Progress.{values_after}
-use Rattle.golog_semantics.specs.SortLaws.{AreInSorts}
+use Rattle.golog_semantics.specs.InSorts.{AreInSorts}
 use Rattle.golog_agent.specs.Configuration.{Configuration}
 use Rattle.golog_lead.specs.Courses.{Course}
 use Rattle.golog_agent.proofs.Growth.{sound}

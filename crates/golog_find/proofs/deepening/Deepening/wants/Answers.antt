@@ -1,5 +1,5 @@
 use Rattle.std.proofs.Common.{sym, subst}
-use Rattle.golog_semantics.specs.SortLaws.{AreInSorts}
+use Rattle.golog_semantics.specs.InSorts.{AreInSorts}
 use Rattle.golog_semantics.proofs.CausesKeep.{steps_stay_in_sorts}
 use Rattle.golog_find.proofs.deepening.Deepening.wants.Goals as goal
 

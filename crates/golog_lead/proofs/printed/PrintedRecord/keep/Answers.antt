@@ -1,6 +1,6 @@
 use Rattle.std.proofs.Common.{[], ◌∷◌, ◌++◌, false, true, sym, ◌∙◌, subst}
 use Rattle.std.specs.Prelude.{IfSome, option_copied}
-use Rattle.golog_semantics.specs.SortLaws.{AreInSorts}
+use Rattle.golog_semantics.specs.InSorts.{AreInSorts}
 use Rattle.golog_semantics.specs.WellFormed.{WellFormed}
 use Rattle.golog_text.specs.Filled.{IsLineOf}
 use Rattle.golog_text.specs.Named.{AreLabels, IsNamed}
@@ -49,7 +49,7 @@ returns-then-not-self-clause-stands g c = λ stood.
     subst (λ f. HasWritten agent (list ++ e ∷ []) was is before after f) (sym c.is_err-self.ensures.value)
     (line-done agent was now is before between after list e text so
     (subst (λ f. HasWritten agent list was now before between f) c.if-not-self.true stood)
-    wrote.faults c.write_all.result wrote.added wrote.prefix wrote.failed)
+    wrote.faults c.write_all.result wrote.added wrote.no_fault wrote.prefix wrote.failed)
 
 pub returns-clause-stands : goal.returns-clause-stands
 returns-clause-stands g c = λ stood.
