@@ -11,7 +11,7 @@ use Rattle.golog_semantics.specs.Ways.{is_empty}
 use Rattle.golog_semantics.specs.Search.{final}
 use Rattle.golog_semantics.specs.Blocks.{moves}
 use Rattle.golog_semantics.specs.Heavy.{heavy}
-use Rattle.golog_semantics.specs.Journal.{Journal, is_full, is_quiet, is_settled}
+use Rattle.golog_semantics.specs.Journal.{Journal, is_full, is_quiet, is_settled, lacks_results, may_be_answered}
 use Rattle.golog_semantics.specs.Answer.{answer_at, first_that_fits, is_deep, is_unanswered}
 use Rattle.golog_semantics.specs.Online.{may_end, same_answer}
 use Rattle.golog_semantics.specs.Progress.{left_after, values_after}
@@ -63,10 +63,12 @@ module _ (agent : Agent) (journal : Journal) where
       ((full, Some answer.Full)
       ∷ (unanswered, Some answer.Unanswered)
       ∷ (not settled, None)
+      ∷ (final agent values Must p && may_be_answered agent journal, None)
       ∷ (final agent values Must p, Some answer.Done)
       ∷ (is_deep (moves agent values Must p), Some answer.Deep)
       ∷ (not (is_empty (moves agent values Must p)), None)
       ∷ (not (is_quiet agent journal), None)
+      ∷ (lacks_results agent journal, Some answer.Unanswered)
       ∷ (not (is_empty (moves agent values Near p)) || final agent values Near p, Some answer.Unknown)
       ∷ (not (is_empty (moves agent values May p)), Some answer.Depth)
       ∷ [])
@@ -97,7 +99,8 @@ module _ (agent : Agent) (journal : Journal) where
 
   -- in the words of what the program does next
   pub answer-decided : is_full journal ≡ false → is_unanswered agent journal ≡ false → is_settled agent journal ≡ true
-      → (quiet : Bool) (d : Decision) (found : Option Answer) → found ≡ answer_of quiet d → quiet ≡ is_quiet agent journal → d ≡ decision agent values p
+      → (comes quiet lacks : Bool) (d : Decision) (found : Option Answer) → found ≡ answer_of comes quiet lacks d
+      → comes ≡ may_be_answered agent journal → quiet ≡ is_quiet agent journal → lacks ≡ lacks_results agent journal → d ≡ decision agent values p
       → found ≡ answer_at agent journal values p
-  answer-decided f u s quiet d found is q e =
-      is ∙ (λ i. answer_of (q i) (e i)) ∙ sym (decided_answered agent journal values p f u s)
+  answer-decided f u s comes quiet lacks d found is c q l e =
+      is ∙ (λ i. answer_of (c i) (q i) (l i) (e i)) ∙ sym (decided_answered agent journal values p f u s)

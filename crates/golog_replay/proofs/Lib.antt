@@ -1,6 +1,7 @@
 mod Faults
 mod Steps
 mod Awaiting
+mod Scanning
 mod Tracking
 mod Along
 mod Noting

@@ -27,6 +27,8 @@ use Rattle.golog_semantics.proofs.NoFaults.{no_fault_is_online}
 use Rattle.golog_reports.specs.Codes.{NO_BODY}
 use Rattle.golog_reports.specs.Reads.{journal_from, journal_of, line_of, with_line}
 use Rattle.golog_reports.proofs.Says.{row-ok, then-ok}
+use Rattle.golog_reports.proofs.JournalOnly.{read-says}
+use Rattle.golog_semantics.proofs.Starts.{own_text}
 use Rattle.golog_reports.proofs.WholeReports.{journal-fits}
 use Rattle.golog_replay.specs.Laws.{OnlineIsAnOnlineRun, ReplaysOnline}
 use Rattle.golog_semantics.specs.Verdicts.{VerdictIs, lines_in}
@@ -92,11 +94,11 @@ module _ (agent : Agent) where
   all-read before [] whole h e = absurd (omega (arith, h))
   all-read before (first ∷ parts) whole h e = are-read before first parts whole e
 
-  journal-read : (bytes : Text) (report : Report) → (journal_of agent bytes).outcome ≡ Ok report → AreRead (lines_in bytes) (record { entries = []; runs = [] }) report
+  journal-read : (bytes : Text) (report : Report) → (journal_of agent bytes).outcome ≡ Ok report → AreRead (lines_in bytes) (record { entries = []; runs = []; start = None }) report
   unfolding journal_of
   journal-read bytes report e =
       let k = length-slice_split (λ b. b == 10) bytes in
-      all-read (record { entries = []; runs = [] }) (lines_in bytes) report (omega (arith, k)) e
+      all-read (record { entries = []; runs = []; start = None }) (lines_in bytes) report (omega (arith, k)) e
 
   -- ---- lines with their line feeds
 
@@ -154,7 +156,7 @@ get-left (x ∷ xs) ys zero h = refl
 get-left (x ∷ xs) ys (suc i) h = get-left xs ys i (omega (arith, h))
 
 module _ (agent : Agent) (bytes : Text) (report : Report) (read : (journal_of agent bytes).outcome ≡ Ok report) where
-  parts : AreRead (lines_in bytes) (record { entries = []; runs = [] }) report
+  parts : AreRead (lines_in bytes) (record { entries = []; runs = []; start = None }) report
   parts = journal-read agent bytes report read
 
   its-line : (given : Option Text) (line : Text) → same_line given line ≡ true → given ≡ Some line
@@ -197,14 +199,21 @@ module _ (agent : Agent) (bytes : Text) (report : Report) (read : (journal_of ag
 pub online_is_an_online_run : OnlineIsAnOnlineRun
 online_is_an_online_run agent well bytes report read answer =
     let tells = no_fault_is_online.of_report agent (Some (lines_in bytes)) report in
+    let own = (read-says agent well bytes report read).start in
+    let spells : VerdictIs agent bytes report (Online answer) → SpellsReport agent bytes report =
+    λ v. record {
+      fits = journal-fits agent well bytes report read;
+      text = text-so agent bytes report read (tells.its_lines v.0) ∙ sym (own_text agent report own);
+    } in
     record {
       run = λ v. record {
         report = report;
-        spelled = record { fits = journal-fits agent well bytes report read; text = text-so agent bytes report read (tells.its_lines v.0) };
+        begun = own;
+        spelled = spells v;
         online = tells.online v.0;
         ended = record { answer = answer; stands = v.1; shown = refl };
       };
       online = λ v. tells.online v.0;
-      spelled = λ v. record { fits = journal-fits agent well bytes report read; text = text-so agent bytes report read (tells.its_lines v.0) };
-      verdict = λ spells online ends. (tells.none online (lines-so agent bytes report read spells.text), ends);
+      spelled = spells;
+      verdict = λ spelled online ends. (tells.none online (lines-so agent bytes report read (spelled.text ∙ own_text agent report own)), ends);
     }

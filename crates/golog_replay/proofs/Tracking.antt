@@ -1,9 +1,9 @@
 -- What is kept of the devices with one more entry.
-use Rattle.std.proofs.Common.{◌≡◌, ◌≢◌, ℕ, zero, suc, ◌+◌, ◌≤◌, ◌<◌, Bool, true, false, not, ◌&&◌, ◌||◌, ◌==◌, if◌then◌else◌, List, [], ◌∷◌, ◌++◌, length, length-append, set, get_or, Option, Some, None, ◌⊎◌, inl, inr, refl, sym, ap, ◌∙◌, subst, arith, get_or-set_same, get_or-set_other, length-set, replicate}
-use Rattle.std.specs.Prelude.{Contains, MatchOption, filter, is_none, max, nat_le, nat_lt}
+use Rattle.std.proofs.Common.{◌≡◌, ◌≢◌, ℕ, suc, ◌+◌, ◌≤◌, ◌<◌, Bool, true, false, not, ◌&&◌, ◌||◌, ◌==◌, if◌then◌else◌, List, [], ◌∷◌, ◌++◌, length, length-append, set, get_or, Option, Some, None, ◌⊎◌, inl, inr, refl, sym, ap, ◌∙◌, subst, arith, get_or-set_same, get_or-set_other, length-set, replicate}
+use Rattle.std.specs.Prelude.{Contains, MatchOption, is_some, max, nat_le}
 use Rattle.std.specs.List.{list_all, list_any, range_with_len}
-use Rattle.std.specs.Option.{option_map_or, option_to_list}
-use Rattle.std.proofs.lemmas.Bool.{and_from, and_parts, cases_eq, eq-eqb, le-leb, leb-false, leb-true, lt-leb, ne_eqb}
+use Rattle.std.specs.Option.{option_map_or, option_or, option_to_list}
+use Rattle.std.proofs.lemmas.Bool.{and_from, cases_eq, eq-eqb, le-leb, leb-false, leb-true, lt-leb, ne_eqb}
 use Rattle.std.proofs.lemmas.List.{append-nil, get_or-replicate, length-replicate}
 use Rattle.std.proofs.lemmas.List.Folds.{list_all-append}
 use Rattle.golog_tree.specs.declared.agent.Agent.{Agent}
@@ -11,15 +11,17 @@ use Rattle.golog_semantics.specs.declared.journal.Answer.{Answer}
 use Rattle.golog_semantics.specs.declared.journal.Entry.{Entry}
 use Rattle.golog_semantics.specs.declared.journal.Entry.TheVariants.{Do, Test, Exo, Sense, Rest, Close, End}
 use Rattle.golog_semantics.specs.Ways.{is_empty}
-use Rattle.golog_semantics.specs.Journal.{Journal, Command, commands, command_at, device_of, has_end, is_at_rest, is_carried_by, is_close, is_open, is_posted_by, is_quiet, is_rest_after, is_result_of, last_of, entries_by, poster_of}
-use Rattle.golog_semantics.specs.Online.{is_whole, may_have_taken, told_taken}
+use Rattle.golog_semantics.specs.Journal.{Journal, Command, commands, device_of, has_end, is_at_rest, is_carried_by, is_close, is_open, is_posted_by, is_quiet, is_rest_after, is_result_of, lacks_result, lacks_results, last_of, may_be_answered, entries_by, poster_of}
+use Rattle.golog_semantics.specs.Online.{is_whole, keeps_place, may_have_taken, told_taken}
 use Rattle.golog_semantics.specs.OneMore.{and_then, new_command}
 use Rattle.golog_semantics.proofs.Grown.{commands_grow, posts_grow, posted-push}
 use Rattle.golog_semantics.proofs.Pushed.{fold-push}
 use Rattle.golog_journal.specs.Tallies.{rested_after}
 use Rattle.golog_journal.proofs.Staying.{told-all, told-same}
+use Rattle.golog_replay.specs.declared.tracked.Awaited.{Awaited}
 use Rattle.golog_replay.specs.declared.tracked.Tracked.{Tracked}
-use Rattle.golog_replay.specs.Standings.{AreEarlier, AreTracked, EndsBy, IsTracked, TellsOf, is_quiet_by, told_by, untouched}
+use Rattle.golog_replay.specs.Standings.{AreEarlier, AreTracked, AwaitsFrom, EndsBy, IsTracked, awaited_by, is_quiet_by, may_tell, told_by, untouched}
+use Rattle.golog_replay.proofs.Awaiting.{awaits-more, awaits-same, earlier-place, its-result, lacks-by, none-any, others-untold, tells-number}
 
 -- ---- no entry
 
@@ -40,6 +42,7 @@ start-tracked agent ts are =
       few = omega arith;
       told_so = λ taken. sym (le-leb 0 taken (omega arith));
       rested_so = refl;
+      awaits = record { answered = []; coming = []; split = refl; come = refl; to_come = refl; first_so = refl };
     }
 
 -- ---- what the rules ask
@@ -102,6 +105,21 @@ module _ (agent : Agent) (journal : Journal) where
       (λ k d below. (are.each k d below).open_so ∙ ap (λ n. is_open n journal) (omega arith))
       ∙ ap (λ n. list_any (λ d. is_open d journal) (range_with_len 0 n)) are.one_each
 
+  pub lacks-any : (ts : List Tracked) → AreTracked agent journal ts → list_any (λ (t : Tracked). is_some t.first) ts ≡ lacks_results agent journal
+  lacks-any ts are =
+      any-of (λ t. is_some t.first) (lacks_result agent journal) ts 0
+      (λ k d below. lacks-by agent journal k (get_or ts k d).first (are.each k d below).awaits ∙ ap (lacks_result agent journal) (omega arith))
+      ∙ ap (λ n. list_any (lacks_result agent journal) (range_with_len 0 n)) are.one_each
+
+  pub may-any : (ts : List Tracked) → AreTracked agent journal ts → list_any may_tell ts ≡ may_be_answered agent journal
+  may-any ts are =
+      any-of may_tell (λ d. is_open d journal && lacks_result agent journal d) ts 0
+      (λ k d below.
+      ap (λ b. b && is_some (get_or ts k d).first) (are.each k d below).open_so
+      ∙ ap (λ b. is_open k journal && b) (lacks-by agent journal k (get_or ts k d).first (are.each k d below).awaits)
+      ∙ ap (λ n. is_open n journal && lacks_result agent journal n) (omega arith))
+      ∙ ap (λ n. list_any (λ d. is_open d journal && lacks_result agent journal d) (range_with_len 0 n)) are.one_each
+
   abbrev any-open : Bool
   any-open = list_any (λ d. is_open d journal) (range_with_len 0 (length agent.devices))
 
@@ -159,8 +177,8 @@ module _ (agent : Agent) (journal : Journal) (e : Entry) (results : AreEarlier j
   -- the entry is not the device's, whose commands are these then
   sent-so : (d n : ℕ) (t new : Tracked) → is_posted_by d e ≡ false → length (commands agent d after) ≡ length (commands agent d journal) + n → n ≤ 1
       → new.is_open ≡ t.is_open → new.is_silent ≡ t.is_silent → new.commands ≡ t.commands + n → new.told ≡ t.told → new.rested ≡ t.rested
-      → IsTracked agent journal d t → IsTracked agent after d new
-  sent-so d n t new other more one opened silent commands told rested is = record {
+      → AwaitsFrom agent after d new.first → IsTracked agent journal d t → IsTracked agent after d new
+  sent-so d n t new other more one opened silent commands told rested awaits is = record {
     open_so = opened ∙ is.open_so ∙ ap (λ es. not (list_any is_close es)) (sym (posted-other d other));
     silent_so = silent ∙ is.silent_so ∙ ap is_empty (sym (posted-other d other));
     commands_so = let k = is.commands_so in omega (arith, commands, more, k);
@@ -169,18 +187,24 @@ module _ (agent : Agent) (journal : Journal) (e : Entry) (results : AreEarlier j
         ap (list_all (λ x. nat_le (told_taken agent after x) taken)) (posted-other d other)
         ∙ told-still d taken ∙ is.told_so taken ∙ ap (λ k. nat_le k taken) (sym told);
     rested_so = rested ∙ is.rested_so ∙ ap (λ es. rested_after (last_of es)) (sym (posted-other d other));
+    awaits = awaits;
   }
 
-  same-so : (d : ℕ) (t : Tracked) → is_posted_by d e ≡ false → new_command agent journal e d ≡ [] → IsTracked agent journal d t → IsTracked agent after d t
-  same-so d t other none is =
+  -- the entry is no result of the device's commands that are to come
+  abbrev LeavesOut : ℕ → Type 0
+  LeavesOut d = (o : Option Awaited) → (is : AwaitsFrom agent journal d o) → list_any (λ (c : Command). is_result_of c.place e) is.coming ≡ false
+
+  same-so : (d : ℕ) (t : Tracked) → is_posted_by d e ≡ false → new_command agent journal e d ≡ [] → LeavesOut d → IsTracked agent journal d t → IsTracked agent after d t
+  same-so d t other none untold is =
       sent-so d 0 t t other
-      (let k = ap (λ (cs : List Command). length cs) (same-commands d none) in omega (arith, k)) (omega arith) refl refl (omega arith) refl refl is
+      (let k = ap (λ (cs : List Command). length cs) (same-commands d none) in omega (arith, k)) (omega arith) refl refl (omega arith) refl refl
+      (awaits-same agent journal e d none t.first is.awaits (untold t.first is.awaits)) is
 
   pub own-so : (d : ℕ) (t new : Tracked) → is_posted_by d e ≡ true → new_command agent journal e d ≡ []
-      → told_taken agent after e ≡ told_by e (length (commands agent d journal))
-      → new.is_open ≡ (t.is_open && not (is_close e)) → new.is_silent ≡ false → new.commands ≡ t.commands → new.told ≡ max t.told (told_by e t.commands) → new.rested ≡ rested_after (Some e)
-      → IsTracked agent journal d t → IsTracked agent after d new
-  own-so d t new own none tells opened silent commands told rested is = record {
+      → told_taken agent after e ≡ told_by e t.first
+      → new.is_open ≡ (t.is_open && not (is_close e)) → new.is_silent ≡ false → new.commands ≡ t.commands → new.told ≡ max t.told (told_by e t.first) → new.rested ≡ rested_after (Some e)
+      → AwaitsFrom agent after d new.first → IsTracked agent journal d t → IsTracked agent after d new
+  own-so d t new own none tells opened silent commands told rested awaits is = record {
     open_so = opened ∙ ap (λ b. b && not (is_close e)) is.open_so ∙ ap (λ b. is_open d journal && not (b && is_close e)) (sym own) ∙ sym (posts_grow journal e d).open_still;
     silent_so = silent ∙ sym (ap is_empty (posted-own d own) ∙ some (entries_by d journal));
     commands_so = commands ∙ is.commands_so ∙ ap (λ (cs : List Command). length cs) (sym (same-commands d none));
@@ -189,10 +213,11 @@ module _ (agent : Agent) (journal : Journal) (e : Entry) (results : AreEarlier j
         ap (list_all (λ x. nat_le (told_taken agent after x) taken)) (posted-own d own)
         ∙ list_all-append (λ x. nat_le (told_taken agent after x) taken) (entries_by d journal) (e ∷ [])
         ∙ ap (λ b. b && (nat_le (told_taken agent after e) taken && true)) (told-still d taken ∙ is.told_so taken)
-        ∙ ap (λ k. nat_le t.told taken && (nat_le k taken && true)) (tells ∙ ap (told_by e) (sym is.commands_so))
-        ∙ ap (λ b. nat_le t.told taken && b) (and-true (nat_le (told_by e t.commands) taken))
-        ∙ max-below t.told (told_by e t.commands) taken ∙ ap (λ k. nat_le k taken) (sym told);
+        ∙ ap (λ k. nat_le t.told taken && (nat_le k taken && true)) tells
+        ∙ ap (λ b. nat_le t.told taken && b) (and-true (nat_le (told_by e t.first) taken))
+        ∙ max-below t.told (told_by e t.first) taken ∙ ap (λ k. nat_le k taken) (sym told);
     rested_so = rested ∙ ap rested_after (sym (fold-push _ None (entries_by d journal) e)) ∙ ap (λ es. rested_after (last_of es)) (sym (posted-own d own));
+    awaits = awaits;
   }
     where
       and-true : (b : Bool) → (b && true) ≡ b
@@ -204,17 +229,18 @@ module _ (agent : Agent) (journal : Journal) (e : Entry) (results : AreEarlier j
       some (x ∷ es) = refl
 
   -- nothing changes
-  pub none-change : (ts : List Tracked) → ((d : ℕ) → is_posted_by d e ≡ false) → ((d : ℕ) → new_command agent journal e d ≡ []) → AreTracked agent journal ts → AreTracked agent after ts
-  none-change ts others none are = record {
+  pub none-change : (ts : List Tracked) → ((d : ℕ) → is_posted_by d e ≡ false) → ((d : ℕ) → new_command agent journal e d ≡ []) → ((d : ℕ) → LeavesOut d)
+      → AreTracked agent journal ts → AreTracked agent after ts
+  none-change ts others none untold are = record {
     one_each = are.one_each;
-    each = λ d x below. same-so d (get_or ts d x) (others d) (none d) (are.each d x below);
+    each = λ d x below. same-so d (get_or ts d x) (others d) (none d) (untold d) (are.each d x below);
   }
 
   -- what is kept of one device changes
   pub one-changes : (ts : List Tracked) (i : ℕ) (new : Tracked) → i < length ts
-      → ((d : ℕ) → d ≢ i → (is_posted_by d e ≡ false) × (new_command agent journal e d ≡ []))
+      → ((d : ℕ) → d ≢ i → (is_posted_by d e ≡ false) × (new_command agent journal e d ≡ [])) → ((d : ℕ) → d ≢ i → LeavesOut d)
       → IsTracked agent after i new → AreTracked agent journal ts → AreTracked agent after (set ts i new)
-  one-changes ts i new inside others this are = record {
+  one-changes ts i new inside others untold this are = record {
     one_each = length-set ts i new ∙ are.one_each;
     each = each;
   }
@@ -231,7 +257,7 @@ module _ (agent : Agent) (journal : Journal) (e : Entry) (results : AreEarlier j
               (subst (IsTracked agent after i) (sym (get_or-set_same ts i new x inside)) this)
           go (inr other) =
               let apart = others d other in
-              subst (IsTracked agent after d) (sym (get_or-set_other ts i d new x other)) (same-so d (get_or ts d x) apart.0 apart.1 (are.each d x within))
+              subst (IsTracked agent after d) (sym (get_or-set_other ts i d new x other)) (same-so d (get_or ts d x) apart.0 apart.1 (untold d other) (are.each d x within))
 
 -- ---- an action
 
@@ -239,20 +265,30 @@ module _ (agent : Agent) (journal : Journal) (action : ℕ) (results : AreEarlie
   no-command : (d : ℕ) → is_carried_by agent d action ≡ false → new_command agent journal (Do action) d ≡ []
   no-command d h = ap (λ b. option_to_list (if b then Some (record { place = length journal; action = action }) else None)) h
 
+  no-result : (d : ℕ) → LeavesOut agent journal (Do action) results d
+  no-result d o is = none-any (λ (c : Command). is_result_of c.place (Do action)) is.coming (λ c. refl)
+
   pub nobody-sent : device_of agent action ≡ None → (ts : List Tracked) → AreTracked agent journal ts → AreTracked agent (and_then journal (Do action)) ts
   nobody-sent none ts are =
-      none-change agent journal (Do action) results ts (λ d. refl) (λ d. no-command d (ap (λ o. option_map_or (λ k. k == d) o false) none)) are
+      none-change agent journal (Do action) results ts (λ d. refl) (λ d. no-command d (ap (λ o. option_map_or (λ k. k == d) o false) none)) no-result are
 
   pub one-sent : (device : ℕ) → device_of agent action ≡ Some device → (ts : List Tracked) (t new : Tracked) → device < length ts → t ≡ get_or ts device new
       → new.is_open ≡ t.is_open → new.is_silent ≡ t.is_silent → new.commands ≡ t.commands + 1 → new.told ≡ t.told → new.rested ≡ t.rested
+      → new.first ≡ option_or t.first (awaited_by agent (length journal) action (t.commands + 1))
       → AreTracked agent journal ts → AreTracked agent (and_then journal (Do action)) (set ts device new)
-  one-sent device sent ts t new inside was opened silent sends told rested are =
+  one-sent device sent ts t new inside was opened silent sends told rested first are =
       one-changes agent journal (Do action) results ts device new inside
       (λ d other. (refl, no-command d (ap (λ o. option_map_or (λ k. k == d) o false) sent ∙ ne_eqb device d (λ same. other (sym same)))))
+      (λ d other. no-result d)
       (sent-so agent journal (Do action) results device 1 t new refl more (omega arith) opened silent sends told rested
-      (subst (IsTracked agent journal device) (sym was) (are.each device new inside)))
+      (subst (AwaitsFrom agent (and_then journal (Do action)) device) (sym first)
+      (awaits-more agent journal action results device new-one t.first here.awaits t.commands here.commands_so))
+      here)
       are
     where
+      here : IsTracked agent journal device t
+      here = subst (IsTracked agent journal device) (sym was) (are.each device new inside)
+
       own : is_carried_by agent device action ≡ true
       own = ap (λ o. option_map_or (λ k. k == device) o false) sent ∙ eq-eqb device device refl
 
@@ -280,33 +316,55 @@ module _ (agent : Agent) (journal : Journal) (results : AreEarlier journal) wher
   no-new (Close q r t) p h d = refl
   no-new (End a) p h d = absurd (cc)
 
-  tells-so : (e : Entry) (p : ℕ) → poster_of e ≡ Some p → TellsOf agent journal e → told_taken agent (and_then journal e) e ≡ told_by e (length (commands agent p journal))
-  tells-so (Do action) p h t = absurd (cc)
-  tells-so Test p h t = absurd (cc)
-  tells-so (Exo q a) p h t = refl
-  tells-so (Sense q at f v) p h t =
+  -- the first of its commands whose result is to come tells how many it had taken
+  tells-so : (e : Entry) (p : ℕ) → poster_of e ≡ Some p → keeps_place agent journal e ≡ true → (o : Option Awaited) → AwaitsFrom agent journal p o
+      → told_taken agent (and_then journal e) e ≡ told_by e o
+  tells-so (Do action) p h k o is = absurd (cc)
+  tells-so Test p h k o is = absurd (cc)
+  tells-so (Exo q a) p h k o is = refl
+  tells-so (Sense q at f v) p h k o is =
       let same : q ≡ p = cc in
-      told-same agent journal (Sense q at f v ∷ []) (Sense q at f v) (λ place high. ne_eqb at place (λ e. omega (arith, e, high, t.1)))
-      ∙ t.0 ∙ ap (λ d. length (commands agent d journal)) same
-  tells-so (Rest q n) p h t = refl
-  tells-so (Close q r n) p h t = refl
-  tells-so (End a) p h t = absurd (cc)
+      let r = its-result agent journal q o (subst (λ d. AwaitsFrom agent journal d o) (sym same) is) at f v k in
+      told-same agent journal (Sense q at f v ∷ []) (Sense q at f v)
+      (λ place high. ne_eqb at place (λ e. let low = earlier-place agent journal q at o r in omega (arith, e, high, low)))
+      ∙ tells-number agent journal q at f v o r
+  tells-so (Rest q n) p h k o is = refl
+  tells-so (Close q r n) p h k o is = refl
+  tells-so (End a) p h k o is = absurd (cc)
 
-  pub one-posts : (e : Entry) (p : ℕ) → poster_of e ≡ Some p → TellsOf agent journal e → (ts : List Tracked) (t new : Tracked) → p < length ts → t ≡ get_or ts p new
-      → new.is_open ≡ (t.is_open && not (is_close e)) → new.is_silent ≡ false → new.commands ≡ t.commands → new.told ≡ max t.told (told_by e t.commands) → new.rested ≡ rested_after (Some e)
-      → AreTracked agent journal ts → AreTracked agent (and_then journal e) (set ts p new)
-  one-posts e p own tells ts t new inside was opened silent commands told rested are =
+  -- it is the result of no command of another device
+  untold-so : (e : Entry) (p : ℕ) → poster_of e ≡ Some p → keeps_place agent journal e ≡ true → (o : Option Awaited) → AwaitsFrom agent journal p o
+      → (d : ℕ) → d ≢ p → LeavesOut agent journal e results d
+  untold-so (Do action) p h k o is d other = absurd (cc)
+  untold-so Test p h k o is d other = absurd (cc)
+  untold-so (Exo q a) p h k o is d other = λ first here. none-any (λ (c : Command). is_result_of c.place (Exo q a)) here.coming (λ c. refl)
+  untold-so (Sense q at f v) p h k o is d other =
+      let same : q ≡ p = cc in
+      let r = its-result agent journal q o (subst (λ d. AwaitsFrom agent journal d o) (sym same) is) at f v k in
+      others-untold agent journal q at f v d (λ e. other (sym e ∙ same)) o r
+  untold-so (Rest q n) p h k o is d other = λ first here. none-any (λ (c : Command). is_result_of c.place (Rest q n)) here.coming (λ c. refl)
+  untold-so (Close q r n) p h k o is d other = λ first here. none-any (λ (c : Command). is_result_of c.place (Close q r n)) here.coming (λ c. refl)
+  untold-so (End a) p h k o is d other = absurd (cc)
+
+  pub one-posts : (e : Entry) (p : ℕ) → poster_of e ≡ Some p → keeps_place agent journal e ≡ true → (ts : List Tracked) (t new : Tracked) → p < length ts → t ≡ get_or ts p new
+      → new.is_open ≡ (t.is_open && not (is_close e)) → new.is_silent ≡ false → new.commands ≡ t.commands → new.told ≡ max t.told (told_by e t.first) → new.rested ≡ rested_after (Some e)
+      → AwaitsFrom agent (and_then journal e) p new.first → AreTracked agent journal ts → AreTracked agent (and_then journal e) (set ts p new)
+  one-posts e p own place ts t new inside was opened silent commands told rested awaits are =
       one-changes agent journal e results ts p new inside
       (λ d other. (ap (λ o. option_map_or (λ k. k == d) o false) own ∙ ne_eqb p d (λ same. other (sym same)), no-new e p own d))
-      (own-so agent journal e results p t new (ap (λ o. option_map_or (λ k. k == p) o false) own ∙ eq-eqb p p refl) (no-new e p own p) (tells-so e p own tells)
-      opened silent commands told rested (subst (IsTracked agent journal p) (sym was) (are.each p new inside)))
+      (untold-so e p own place t.first here.awaits)
+      (own-so agent journal e results p t new (ap (λ o. option_map_or (λ k. k == p) o false) own ∙ eq-eqb p p refl) (no-new e p own p)
+      (tells-so e p own place t.first here.awaits) opened silent commands told rested awaits here)
       are
+    where
+      here : IsTracked agent journal p t
+      here = subst (IsTracked agent journal p) (sym was) (are.each p new inside)
 
   -- it is of no device, and no action
   pub nobody-so : (e : Entry) → poster_of e ≡ None → ((action : ℕ) → e ≡ Do action → ⊥) → (ts : List Tracked) → AreTracked agent journal ts → AreTracked agent (and_then journal e) ts
   nobody-so (Do action) own other ts are = absurd (other action refl)
-  nobody-so Test own other ts are = none-change agent journal Test results ts (λ d. refl) (λ d. refl) are
-  nobody-so (End a) own other ts are = none-change agent journal (End a) results ts (λ d. refl) (λ d. refl) are
+  nobody-so Test own other ts are = none-change agent journal Test results ts (λ d. refl) (λ d. refl) (λ d o is. none-any (λ (c : Command). is_result_of c.place Test) is.coming (λ c. refl)) are
+  nobody-so (End a) own other ts are = none-change agent journal (End a) results ts (λ d. refl) (λ d. refl) (λ d o is. none-any (λ (c : Command). is_result_of c.place (End a)) is.coming (λ c. refl)) are
   nobody-so (Exo q a) own other ts are = absurd (cc)
   nobody-so (Sense q at f v) own other ts are = absurd (cc)
   nobody-so (Rest q t) own other ts are = absurd (cc)

@@ -1,10 +1,10 @@
 //! The course of a journal: one entry after another is judged and taken, and nothing is gone through again.
 
-ghost use Rattle.std.specs.Prelude.{◌≡◌, ◌<◌, [], ◌∷◌, ◌++◌, length, IfOk, IsTrue, MatchOption, None, Some, true, false, unwrap_or};
+ghost use Rattle.std.specs.Prelude.{◌≡◌, ◌<◌, [], ◌∷◌, ◌++◌, length, IfOk, IsTrue, MatchOption, None, Some, true, false, if◌then◌else◌, unwrap_or};
 ghost use Rattle.std.specs.Option.{option_copied};
 ghost use Rattle.std.specs.Cmp.Lexicographic.{pointwise};
 ghost use Rattle.golog_search.specs.Decided.{decision};
-ghost use Rattle.golog_search.specs.Laws.{answer_of as answer_by};
+ghost use Rattle.golog_search.specs.Laws.{answer_of as answer_by, blocked_answer};
 ghost use Rattle.golog_semantics.specs.Answer.{answer_at};
 ghost use Rattle.golog_semantics.specs.Journal.{is_full, is_settled};
 ghost use Rattle.golog_semantics.specs.Online.{keeps_answer as keeps_answer_in, keeps_place, keeps_step, label_of as label_in, may_end as may_end_in, same_answer};
@@ -22,7 +22,7 @@ use crate::standing::Standing;
 use golog_base::{List, NoMemory};
 use golog_memo::is_same_label;
 use golog_progress::{State, start};
-use golog_search::{Decision, decide_unbounded, heavy};
+use golog_search::{Blocked, Decision, decide_unbounded, heavy};
 use golog_semantics::{Answer, Entry, Move, PlacedRun, Why};
 use golog_text::run_here;
 use golog_tree::{Agent, Label, Prog, copy_prog};
@@ -93,16 +93,27 @@ fn keeps_run(runs: &[PlacedRun], place: usize, begun: &Option<List<Label>>) -> b
     is_same_run(run_here(runs, place), begun)
 }
 
-/// The answer of a program that does this next, where no result is to come.
-fn answer_of(quiet: bool, decision: &Decision) -> Option<Answer>
-    ensures { result ≡ answer_by quiet decision.now }
+/// The answer of a program that is blocked, where no device may still post, by whether a result is lacking.
+fn answer_of_blocked(lacks: bool, blocked: Blocked) -> Option<Answer>
+    ensures { result ≡ (if lacks then Some Answer.Unanswered else Some (blocked_answer blocked)) }
+{
+    if lacks {
+        return Some(Answer::Unanswered);
+    }
+    Some(blocked.answer())
+}
+
+/// The answer of a program that does this next, where it waits for no result: by whether one may still come, no
+/// device may still post, and one is lacking.
+fn answer_of(comes: bool, quiet: bool, lacks: bool, decision: &Decision) -> Option<Answer>
+    ensures { result ≡ answer_by comes quiet lacks decision.now }
 {
     match decision {
-        Decision::Final => Some(Answer::Done),
+        Decision::Final => { if comes { None } else { Some(Answer::Done) } }
         Decision::Step(_) => None,
         Decision::Blocked(blocked) => {
             if quiet {
-                Some((*blocked).answer())
+                answer_of_blocked(lacks, *blocked)
             } else {
                 None
             }
@@ -250,7 +261,10 @@ impl Course {
             return Ok(None);
         }
         let decision = self.decide(alloc, agent, before)?;
-        let answer = answer_of(self.standing.is_quiet(agent, before), &decision);
+        let comes = self.standing.may_be_answered(agent, before);
+        let quiet = self.standing.is_quiet(agent, before);
+        let lacks = self.standing.lacks_results(agent, before);
+        let answer = answer_of(comes, quiet, lacks, &decision);
         drop(decision);
         Ok(answer)
     }

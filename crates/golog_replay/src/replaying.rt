@@ -1,11 +1,10 @@
-ghost use Rattle.std.specs.Prelude.{◌≡◌, ◌<◌, ◌≤◌, [], ◌∷◌, ◌++◌, length, List, None, Some, IfOk, IsTrue, slice_get, drop};
-ghost use Rattle.golog_semantics.specs.declared.journal.PlacedRun.{PlacedRun as AnyRun};
-ghost use Rattle.golog_semantics.specs.OneMore.{with_runs};
+ghost use Rattle.std.specs.Prelude.{◌≡◌, ◌<◌, ◌≤◌, [], ◌∷◌, ◌++◌, length, None, Some, IfOk, IsTrue, slice_get, drop};
+ghost use Rattle.golog_semantics.specs.declared.journal.Report.{Report as AnyReport};
 ghost use Rattle.golog_semantics.specs.Online.{first_fault, same_line};
 ghost use Rattle.golog_semantics.specs.Progress.{values_after};
 ghost use Rattle.golog_semantics.specs.Reports.{IsReport, entry_limit, fits_entry};
 ghost use Rattle.golog_semantics.specs.Same.{same_values};
-ghost use Rattle.golog_semantics.specs.SortLaws.{AreInSorts};
+ghost use Rattle.golog_semantics.specs.InSorts.{AreInSorts};
 ghost use Rattle.golog_semantics.specs.Text.{Text, line_text};
 ghost use Rattle.golog_semantics.specs.WellFormed.{WellFormed};
 ghost use Rattle.golog_text.specs.Named.{AreFrom, AreNamed, IsNamed};
@@ -140,8 +139,8 @@ fn take(
 fn last_verdict(course: &Course, agent: &Agent, entries: &[Entry]) -> Verdict
     requires follows { Follows agent.now entries.now course.now }
     requires short { length entries.now ≤ entry_limit }
-    ensures { (bytes : Text) (runs : List AnyRun) → first_fault agent.now (Some (lines_in bytes)) (with_runs runs entries.now) ≡ None
-        → VerdictIs agent.now bytes (with_runs runs entries.now) result }
+    ensures { (bytes : Text) (report : AnyReport) → report.entries ≡ entries.now
+        → first_fault agent.now (Some (lines_in bytes)) report ≡ None → VerdictIs agent.now bytes report result }
 {
     match course.standing.whole(agent, entries) {
         Some(answer) => Verdict::Online(answer),

@@ -1,31 +1,32 @@
 //! What is kept of the entries of a journal, and the rules that speak of nothing else.
-ghost use Rattle.std.specs.Prelude.{◌≡◌, ◌==◌, ◌<◌, ◌≤◌, ℕ, [], ◌∷◌, ◌++◌, length, true, false, IfOk, IsTrue, MatchOption, Contains, take, replicate};
+ghost use Rattle.std.specs.Prelude.{◌≡◌, ◌==◌, ◌<◌, ◌≤◌, ◌+◌, ℕ, [], ◌∷◌, ◌++◌, length, true, false, IfOk, IsTrue, MatchOption, Contains, Some, option_and_then, take, replicate};
 ghost use Rattle.std.specs.List.{list_any};
 ghost use Rattle.std.specs.Option.{option_map_or};
 ghost use Rattle.golog_semantics.specs.declared.journal.Entry.TheVariants.{Do, End};
-ghost use Rattle.golog_semantics.specs.Journal.{Journal, commands, has_end, is_full as is_full_in, is_open as is_open_in, is_outstanding, is_quiet as is_quiet_in, is_settled as is_settled_in, entries_by, poster_of as posted_by};
+ghost use Rattle.golog_semantics.specs.Journal.{Journal, commands, has_end, is_full as is_full_in, is_open as is_open_in, is_outstanding, is_quiet as is_quiet_in, is_settled as is_settled_in, entries_by, lacks_results as lacks_results_in, may_be_answered as may_be_answered_in, poster_of as posted_by};
 ghost use Rattle.golog_semantics.specs.Ways.{is_empty};
 ghost use Rattle.golog_semantics.specs.Answer.{is_unanswered as is_unanswered_in};
 ghost use Rattle.golog_semantics.specs.Online.{is_declared, is_whole as is_whole_in, keeps_after as keeps_after_in, keeps_close as keeps_close_in, keeps_place as keeps_place_in, keeps_poster as keeps_poster_in, keeps_taken as keeps_taken_in, may_close as may_close_in, may_have_taken as may_have_taken_in};
 ghost use Rattle.golog_semantics.specs.Reports.{entry_limit, fits_entry};
 ghost use Rattle.golog_semantics.specs.WellFormed.{WellFormed};
 ghost use Rattle.golog_journal.specs.Agents.{ServesDevices};
-ghost use Rattle.golog_replay.specs.Standings.{AreEarlier, AreTracked, AwaitsFrom, EndsBy, IsStanding, IsTracked, TellsOf, tells, untouched};
+ghost use Rattle.golog_replay.specs.Standings.{AreEarlier, AreTracked, AwaitsFrom, EndsBy, HoldsBy, IsStanding, IsTracked, awaited_by, command_of, commands_from, first_awaited, unless_at, untouched};
 
-use crate::tracked::{Tracked, all_quiet, put, some_open, tracked_at, untouched};
+use crate::tracked::{
+    Awaited, Tracked, all_quiet, number_of, put, some_lacks, some_may_tell, some_open, tracked_at,
+    untouched,
+};
 use golog_base::NoMemory;
 use golog_journal::{AgentFacts, LIMIT, is_counted, poster_of};
 use golog_semantics::{Answer, Entry, Reason};
 use golog_tree::Agent;
 use std::alloc::Global;
 
-/// The command whose result is to come.
+/// The command whose result the program waits for.
 #[derive(Clone, Copy)]
-pub(crate) struct Awaited {
+pub(crate) struct Held {
     pub(crate) device: u8,
     pub(crate) place: u32,
-    /// The ground fluent that it senses.
-    pub(crate) fluent: u32,
 }
 
 /// What is kept of the entries so far.
@@ -33,8 +34,8 @@ pub(crate) struct Awaited {
 pub(crate) struct Standing {
     pub(crate) facts: AgentFacts,
     pub(crate) devices: Vec<Tracked>,
-    /// The one command whose result is to come, if one is.
-    pub(crate) awaited: Option<Awaited>,
+    /// The one command whose result the program waits for, if it waits for one.
+    pub(crate) held: Option<Held>,
     /// How many entries are counted.
     pub(crate) counted: u32,
     pub(crate) ended: Option<Answer>,
@@ -62,7 +63,7 @@ impl Standing {
         Ok(Standing {
             facts,
             devices,
-            awaited: None,
+            held: None,
             counted: 0,
             ended: None,
         })
@@ -129,23 +130,39 @@ impl Standing {
         self.ended.is_some()
     }
 
-    /// Whether no result is to come.
+    /// Whether the program waits for no result.
     pub(crate) fn is_settled(&self, agent: &Agent, before: &[Entry]) -> bool
         requires { IsStanding agent.now before.now self.now }
         ensures { result ≡ is_settled_in agent.now before.now }
     {
-        self.awaited.is_none()
+        self.held.is_none()
     }
 
-    /// Whether a result is to come of a device that is closed.
+    /// Whether the program waits for the result of a device that is closed.
     pub(crate) fn is_unanswered(&self, agent: &Agent, before: &[Entry]) -> bool
         requires { IsStanding agent.now before.now self.now }
         ensures { result ≡ is_unanswered_in agent.now before.now }
     {
-        match self.awaited {
-            Some(awaited) => !self.is_open(agent, before, awaited.device),
+        match self.held {
+            Some(held) => !self.is_open(agent, before, held.device),
             None => false,
         }
+    }
+
+    /// Whether a result is to come.
+    pub(crate) fn lacks_results(&self, agent: &Agent, before: &[Entry]) -> bool
+        requires { IsStanding agent.now before.now self.now }
+        ensures { result ≡ lacks_results_in agent.now before.now }
+    {
+        some_lacks(&self.devices)
+    }
+
+    /// Whether a result is to come of a device that is open.
+    pub(crate) fn may_be_answered(&self, agent: &Agent, before: &[Entry]) -> bool
+        requires { IsStanding agent.now before.now self.now }
+        ensures { result ≡ may_be_answered_in agent.now before.now }
+    {
+        some_may_tell(&self.devices)
     }
 
     /// Whether each device is closed or at rest.
@@ -214,19 +231,7 @@ impl Standing {
         self.is_declared(agent, before, entry) && self.is_of_open(agent, before, entry)
     }
 
-    /// Whether this would be the result of the command whose result is to come.
-    fn tells(&self, poster: u8, place: u32, fluent: u32) -> bool
-        ensures { result ≡ tells self.now.awaited poster place fluent }
-    {
-        match self.awaited {
-            Some(awaited) => {
-                awaited.device == poster && awaited.place == place && awaited.fluent == fluent
-            }
-            None => false,
-        }
-    }
-
-    /// A result is that of the command whose result is to come.
+    /// A result is that of the first command of its device whose result is to come.
     pub(crate) fn keeps_place(&self, agent: &Agent, before: &[Entry], entry: Entry) -> bool
         requires standing { IsStanding agent.now before.now self.now }
         requires fits { IsTrue (fits_entry agent.now before.now entry) }
@@ -238,7 +243,7 @@ impl Standing {
                 place,
                 fluent,
                 ..
-            } => self.tells(poster, place, fluent),
+            } => self.tracked(agent, before, poster).tells(place, fluent),
             Entry::Do { .. }
             | Entry::Test
             | Entry::Exo { .. }
@@ -258,18 +263,13 @@ impl Standing {
         taken <= tracked.commands && tracked.told <= taken
     }
 
-    /// Whether the command whose result is to come is among the first so many of the device.
+    /// Whether a result is to come of one of the first so many commands of the device.
     fn awaits_among(&self, agent: &Agent, before: &[Entry], device: u8, taken: u32) -> bool
         requires standing { IsStanding agent.now before.now self.now }
         requires device { device < length agent.now.devices }
         ensures { result ≡ list_any (is_outstanding agent.now before.now) (take taken (commands agent.now device before.now)) }
     {
-        match self.awaited {
-            Some(awaited) => {
-                awaited.device == device && self.tracked(agent, before, device).commands <= taken
-            }
-            None => false,
-        }
+        self.tracked(agent, before, device).awaits_among(taken)
     }
 
     /// What is said to be taken may have been, and at a Rest the results of that have come.
@@ -333,26 +333,34 @@ impl Standing {
         }
     }
 
-    /// The command whose result is to come after one more entry.
-    fn awaited_after(&self, agent: &Agent, before: &[Entry], entry: Entry) -> Option<Awaited>
+    /// The command whose result the program waits for after an action.
+    fn held_by(&self, agent: &Agent, before: &[Entry], action: u32) -> Option<Held>
         requires standing { IsStanding agent.now before.now self.now }
-        requires place { IsTrue (keeps_place_in agent.now before.now entry) }
+        requires settled { IsTrue (is_settled_in agent.now before.now) }
+        requires short { length before.now < entry_limit }
+        ensures { HoldsBy agent.now (before.now ++ Do action ∷ []) result }
+    {
+        let device = self.facts.device_of(action)?;
+        if !self.facts.is_held(action) {
+            return None;
+        }
+        Some(Held {
+            device,
+            place: before.len() as u32,
+        })
+    }
+
+    /// The command whose result the program waits for after one more entry.
+    fn held_after(&self, agent: &Agent, before: &[Entry], entry: Entry) -> Option<Held>
+        requires standing { IsStanding agent.now before.now self.now }
         requires settled { (action : ℕ) → entry ≡ Do action → IsTrue (is_settled_in agent.now before.now) }
         requires short { length before.now < entry_limit }
-        ensures { AwaitsFrom agent.now (before.now ++ entry ∷ []) result }
+        ensures { HoldsBy agent.now (before.now ++ entry ∷ []) result }
     {
         match entry {
-            Entry::Do { action } => {
-                let device = self.facts.device_of(action)?;
-                let fluent = self.facts.sensed(action)?;
-                Some(Awaited {
-                    device,
-                    place: before.len() as u32,
-                    fluent,
-                })
-            }
-            Entry::Sense { .. } => None,
-            _ => self.awaited,
+            Entry::Do { action } => self.held_by(agent, before, action),
+            Entry::Sense { place, .. } => unless_at(self.held, place),
+            _ => self.held,
         }
     }
 
@@ -365,9 +373,9 @@ impl Standing {
         requires short { length before.now < entry_limit }
         ensures { IsStanding agent.now (before.now ++ entry ∷ []) self.new }
     {
-        let awaited = self.awaited_after(agent, before, entry);
+        let held = self.held_after(agent, before, entry);
         track(&mut self.devices, &self.facts, before, entry);
-        self.awaited = awaited;
+        self.held = held;
         self.counted += u32::from(is_counted(entry));
         self.ended = ended_after(self.ended, entry);
     }
@@ -383,6 +391,109 @@ fn ended_after(ended: Option<Answer>, entry: Entry) -> Option<Answer>
     }
 }
 
+/// The command whose result the program waits for, unless it stands at this place.
+fn unless_at(held: Option<Held>, place: u32) -> Option<Held>
+    ensures { result ≡ unless_at held place }
+{
+    match held {
+        Some(held) => {
+            if held.place == place {
+                return None;
+            }
+            Some(held)
+        }
+        None => None,
+    }
+}
+
+/// The action of the entry, if it is a command of the device.
+fn command_of(facts: &AgentFacts, device: u8, entry: Entry) -> Option<u32>
+    ensures { result ≡ command_of facts.now device entry }
+{
+    let Entry::Do { action } = entry else {
+        return None;
+    };
+    match facts.device_of(action) {
+        Some(carrier) => {
+            if carrier == device {
+                return Some(action);
+            }
+            None
+        }
+        None => None,
+    }
+}
+
+/// An action at a place, as a command whose result is to come, if it has one: its device was sent so many up to it.
+fn awaited_by(facts: &AgentFacts, place: u32, action: u32, number: u32) -> Option<Awaited>
+    ensures { result ≡ awaited_by facts.now place action number }
+{
+    let fluent = facts.sensed(action)?;
+    Some(Awaited {
+        place,
+        fluent,
+        number,
+    })
+}
+
+/// The action of a command at a place, if there is one, as a command whose result is to come, if it has one.
+fn awaited_if(facts: &AgentFacts, place: u32, command: Option<u32>, number: u32) -> Option<Awaited>
+    ensures { result ≡ option_and_then (λ action. awaited_by facts.now place action number) command }
+{
+    let action = command?;
+    awaited_by(facts, place, action, number)
+}
+
+/// The first sensing command of a device among these entries, which stand behind a place up to which it was sent so
+/// many.
+fn first_among(
+    facts: &AgentFacts,
+    rest: &[Entry],
+    device: u8,
+    place: u32,
+    sent: u32,
+) -> Option<Awaited>
+    requires room { place + 1 + length rest.now ≤ entry_limit }
+    requires few { sent + length (commands_from facts.now device (place + 1) rest.now) ≤ entry_limit }
+    ensures { result ≡ first_awaited facts.now sent (commands_from facts.now device (place + 1) rest.now) }
+{
+    let mut number = sent;
+    let mut at = place;
+    for entry in rest {
+        at += 1;
+        let command = command_of(facts, device, *entry);
+        let found = awaited_if(facts, at, command, number + 1);
+        if found.is_some() {
+            return found;
+        }
+        number += u32::from(command.is_some());
+    }
+    None
+}
+
+/// The first command of a device whose result is to come after one more entry of it, where this was the first.
+fn first_after(
+    facts: &AgentFacts,
+    before: &[Entry],
+    first: Option<Awaited>,
+    device: u8,
+    entry: Entry,
+) -> Option<Awaited>
+    requires awaits { AwaitsFrom facts.now before.now device first }
+    requires place { IsTrue (keeps_place_in facts.now before.now entry) }
+    requires poster { posted_by entry ≡ Some device }
+    requires short { length before.now < entry_limit }
+    ensures { AwaitsFrom facts.now (before.now ++ entry ∷ []) device result }
+{
+    match entry {
+        Entry::Sense { place, .. } => {
+            let rest = &before[place as usize + 1..];
+            first_among(facts, rest, device, place, number_of(first))
+        }
+        _ => first,
+    }
+}
+
 /// What is kept of the devices after an action.
 fn track_action(devices: &mut [Tracked], facts: &AgentFacts, before: &[Entry], action: u32)
     requires tracked { AreTracked facts.now before.now devices.old }
@@ -395,7 +506,9 @@ fn track_action(devices: &mut [Tracked], facts: &AgentFacts, before: &[Entry], a
         return;
     };
     let tracked = tracked_at(devices, device);
-    put(devices, device, tracked.sent());
+    let new = awaited_by(facts, before.len() as u32, action, tracked.number());
+    let first = tracked.first.or(new);
+    put(devices, device, tracked.sent(first));
 }
 
 /// What is kept of the devices after an entry of one of them.
@@ -407,21 +520,23 @@ fn track_posted(
     entry: Entry,
 )
     requires tracked { AreTracked facts.now before.now devices.old }
-    requires told { TellsOf facts.now before.now entry }
+    requires place { IsTrue (keeps_place_in facts.now before.now entry) }
     requires poster { posted_by entry ≡ Some poster }
     requires device { poster < length facts.now.devices }
     requires results { AreEarlier before.now }
+    requires short { length before.now < entry_limit }
     ensures { AreTracked facts.now (before.now ++ entry ∷ []) devices.new }
 {
     let tracked = tracked_at(devices, poster);
-    put(devices, poster, tracked.after(entry));
+    let first = first_after(facts, before, tracked.first, poster, entry);
+    put(devices, poster, tracked.after(entry, first));
 }
 
 /// What is kept of the devices after one more entry, which keeps the rules.
 fn track(devices: &mut [Tracked], facts: &AgentFacts, before: &[Entry], entry: Entry)
     requires tracked { AreTracked facts.now before.now devices.old }
     requires serves { ServesDevices facts.now }
-    requires told { TellsOf facts.now before.now entry }
+    requires place { IsTrue (keeps_place_in facts.now before.now entry) }
     requires fits { IsTrue (fits_entry facts.now before.now entry) }
     requires results { AreEarlier before.now }
     requires short { length before.now < entry_limit }

@@ -1,11 +1,22 @@
-ghost use Rattle.std.specs.Prelude.{◌≡◌, ◌<◌, ◌+◌, ◌&&◌, not, false, max, length, slice_index_or, slice_set};
+ghost use Rattle.std.specs.Prelude.{◌≡◌, ◌<◌, ◌+◌, ◌&&◌, not, false, is_some, max, length, slice_index_or, slice_set};
 ghost use Rattle.std.specs.List.{list_all, list_any};
+ghost use Rattle.std.specs.Option.{option_map_or};
 ghost use Rattle.golog_semantics.specs.Journal.{is_close};
 ghost use Rattle.golog_semantics.specs.Reports.{entry_limit};
 ghost use Rattle.golog_journal.specs.Tallies.{rested_after};
-ghost use Rattle.golog_replay.specs.Standings.{is_quiet_by, told_by, untouched};
+ghost use Rattle.golog_replay.specs.Standings.{awaits_among, is_quiet_by, may_tell, tells, told_by, untouched};
 
 use golog_semantics::Entry;
+
+/// A command whose result is to come.
+#[derive(Clone, Copy)]
+pub(crate) struct Awaited {
+    pub(crate) place: u32,
+    /// The ground fluent that it senses.
+    pub(crate) fluent: u32,
+    /// How many commands its device was sent up to it.
+    pub(crate) number: u32,
+}
 
 /// What is kept of a device.
 #[derive(Clone, Copy)]
@@ -19,6 +30,8 @@ pub(crate) struct Tracked {
     pub(crate) told: u32,
     /// How many it had taken at its last entry, where that is a Rest.
     pub(crate) rested: Option<u32>,
+    /// The first of its commands whose result is to come, if one is.
+    pub(crate) first: Option<Awaited>,
 }
 
 /// A device at the start.
@@ -31,15 +44,26 @@ pub(crate) fn untouched() -> Tracked
         commands: 0,
         told: 0,
         rested: None,
+        first: None,
     }
 }
 
-/// How many commands an entry of a device tells of that was sent so many.
-fn told_by(entry: Entry, sent: u32) -> u32
-    ensures { result ≡ told_by entry sent }
+/// How many commands a device was sent up to this one, if there is one.
+pub(crate) fn number_of(first: Option<Awaited>) -> u32
+    ensures { result ≡ option_map_or (λ a. a.number) first 0 }
+{
+    match first {
+        Some(awaited) => awaited.number,
+        None => 0,
+    }
+}
+
+/// How many commands an entry of a device tells of, of whose commands this is the first whose result is to come.
+fn told_by(entry: Entry, first: Option<Awaited>) -> u32
+    ensures { result ≡ told_by entry first }
 {
     match entry {
-        Entry::Sense { .. } => sent,
+        Entry::Sense { .. } => number_of(first),
         Entry::Rest { taken, .. } => taken,
         Entry::Do { .. }
         | Entry::Test
@@ -72,31 +96,42 @@ fn is_close(entry: Entry) -> bool
 }
 
 impl Tracked {
-    /// What is kept of it after one more entry of its own.
-    pub(crate) fn after(self, entry: Entry) -> Tracked
+    /// What is kept of it after one more entry of its own; then this is the first whose result is to come.
+    pub(crate) fn after(self, entry: Entry, first: Option<Awaited>) -> Tracked
         ensures opened { result.is_open ≡ (self.is_open && not (is_close entry)) }
         ensures silent { result.is_silent ≡ false }
         ensures commands { result.commands ≡ self.commands }
-        ensures told { result.told ≡ max self.told (told_by entry self.commands) }
+        ensures told { result.told ≡ max self.told (told_by entry self.first) }
         ensures rested { result.rested ≡ rested_after (Some entry) }
+        ensures first { result.first ≡ first }
     {
         Tracked {
             is_open: self.is_open && !is_close(entry),
             is_silent: false,
             commands: self.commands,
-            told: self.told.max(told_by(entry, self.commands)),
+            told: self.told.max(told_by(entry, self.first)),
             rested: rested_after(entry),
+            first,
         }
     }
 
-    /// What is kept of it after one more command.
-    pub(crate) fn sent(self) -> Tracked
+    /// How many commands it was sent with one more.
+    pub(crate) fn number(self) -> u32
+        requires { self.commands < entry_limit }
+        ensures { result ≡ self.commands + 1 }
+    {
+        self.commands + 1
+    }
+
+    /// What is kept of it after one more command; then this is the first whose result is to come.
+    pub(crate) fn sent(self, first: Option<Awaited>) -> Tracked
         requires { self.commands < entry_limit }
         ensures opened { result.is_open ≡ self.is_open }
         ensures silent { result.is_silent ≡ self.is_silent }
         ensures commands { result.commands ≡ self.commands + 1 }
         ensures told { result.told ≡ self.told }
         ensures rested { result.rested ≡ self.rested }
+        ensures first { result.first ≡ first }
     {
         Tracked {
             is_open: self.is_open,
@@ -104,6 +139,27 @@ impl Tracked {
             commands: self.commands + 1,
             told: self.told,
             rested: self.rested,
+            first,
+        }
+    }
+
+    /// Whether this would be the result of the first whose result is to come.
+    pub(crate) fn tells(self, place: u32, fluent: u32) -> bool
+        ensures { result ≡ tells self.first place fluent }
+    {
+        match self.first {
+            Some(awaited) => awaited.place == place && awaited.fluent == fluent,
+            None => false,
+        }
+    }
+
+    /// Whether a result is to come of one of its first so many commands.
+    pub(crate) fn awaits_among(self, taken: u32) -> bool
+        ensures { result ≡ awaits_among self.first taken }
+    {
+        match self.first {
+            Some(awaited) => awaited.number <= taken,
+            None => false,
         }
     }
 }
@@ -138,6 +194,34 @@ pub(crate) fn some_open(devices: &[Tracked]) -> bool
     ensures { result ≡ list_any (λ t. t.is_open) devices.now }
 {
     devices.iter().any(|device| is_open(device))
+}
+
+/// Whether a result of the device is to come.
+fn lacks(device: &Tracked) -> bool
+    ensures { result ≡ is_some device.now.first }
+{
+    device.first.is_some()
+}
+
+/// Whether a result of one is to come.
+pub(crate) fn some_lacks(devices: &[Tracked]) -> bool
+    ensures { result ≡ list_any (λ t. is_some t.first) devices.now }
+{
+    devices.iter().any(|device| lacks(device))
+}
+
+/// Whether the device is open and a result of it is to come.
+fn may_tell(device: &Tracked) -> bool
+    ensures { result ≡ may_tell device.now }
+{
+    device.is_open && device.first.is_some()
+}
+
+/// Whether one is open of which a result is to come.
+pub(crate) fn some_may_tell(devices: &[Tracked]) -> bool
+    ensures { result ≡ list_any may_tell devices.now }
+{
+    devices.iter().any(|device| may_tell(device))
 }
 
 /// What is kept of a device.

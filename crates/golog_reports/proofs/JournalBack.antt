@@ -172,19 +172,20 @@ module _ (agent : Agent) (well : WellFormed agent) (apart : TellsApart agent) (r
     pub line-lacks : (old : Option ℕ) → fits_entry agent before e ≡ true → MayStand agent e old → Lacks 10 (said_line agent report.runs (length before) old e)
     line-lacks old fit may = let back = line-is-back old fit may in subst (Lacks 10) back.text (said-lacks back.said back.forms)
 
-  pub lines-read : (before entries : Journal) (runs behind : List PlacedRun) (bytes : Text)
+  pub lines-read : report.start ≡ None → (before entries : Journal) (runs behind : List PlacedRun) (bytes : Text)
       → report.entries ≡ before ++ entries → report.runs ≡ runs ++ behind → Clear (length before) runs → AreFrom (length before) behind
       → list_all (λ fits. fits) (at_each (fits_entry agent) before entries) ≡ true
       → AreLines agent report.runs (length before) entries bytes
-      → (journal_from agent (record { entries = before; runs = runs }) (parts 10 bytes)).outcome ≡ Ok report
+      → (journal_from agent (record { entries = before; runs = runs; start = None }) (parts 10 bytes)).outcome ≡ Ok report
   unfolding journal_from
-  lines-read before [] runs behind bytes es rs clear from fit lines =
+  lines-read own before [] runs behind bytes es rs clear from fit lines =
       let all : before ≡ report.entries = sym (es ∙ append-nil before) in
       let none = none-behind (length before) behind (omega (arith, ap length all)) from (runs-fit runs behind rs) in
+      let start : None ≡ report.start = sym own in
       let whole : runs ≡ report.runs = sym (rs ∙ ap (λ rs. runs ++ rs) (sym none) ∙ append-nil runs) in
-      ap (λ bs. (journal_from agent (record { entries = before; runs = runs }) (parts 10 bs)).outcome) lines
-      ∙ (λ i. Ok (record { entries = all i; runs = whole i }))
-  lines-read before (e ∷ entries) runs behind bytes es rs clear from fit lines =
+      ap (λ bs. (journal_from agent (record { entries = before; runs = runs; start = None }) (parts 10 bs)).outcome) lines
+      ∙ (λ i. Ok (record { entries = all i; runs = whole i; start = start i }))
+  lines-read own before (e ∷ entries) runs behind bytes es rs clear from fit lines =
       let n = length before in
       let run = run_at report.runs n in
       let old = lines.0 in
@@ -198,16 +199,16 @@ module _ (agent : Agent) (well : WellFormed agent) (apart : TellsApart agent) (r
       let same : run ≡ run_at behind n = ap (λ rs. run_at rs n) rs ∙ run_at-behind runs behind n (clear n (omega arith)) in
       let on : RunsGoOn agent n behind run = subst (RunsGoOn agent n behind) (sym same) (go-on agent n behind from) in
       let count : length (before ++ e ∷ []) ≡ n + 1 = length-append before (e ∷ []) in
-      let next = lines-read (before ++ e ∷ []) entries (runs ++ placed_run n run) on.behind rest
+      let next = lines-read own (before ++ e ∷ []) entries (runs ++ placed_run n run) on.behind rest
       (es ∙ sym (append_assoc before (e ∷ []) entries))
       (rs ∙ ap (λ xs. runs ++ xs) on.are ∙ sym (append_assoc runs (placed_run n run) on.behind))
       (subst (λ m. Clear m (runs ++ placed_run n run)) (sym count) (clear-next n runs run clear))
       (subst (λ m. AreFrom m on.behind) (sym count) on.grow)
       (and-right (fits_entry agent before e) later fit)
       (subst (λ m. AreLines agent report.runs m entries rest) (sym count) lines.4) in
-      ap (λ ts. (journal_from agent (record { entries = before; runs = runs }) ts).outcome) cut
-      ∙ one-line agent (record { entries = before; runs = runs }) text rest (record { entry = e; run = run }) back.outcome ∙ next
+      ap (λ ts. (journal_from agent (record { entries = before; runs = runs; start = None }) ts).outcome) cut
+      ∙ one-line agent (record { entries = before; runs = runs; start = None }) text rest (record { entry = e; run = run }) back.outcome ∙ next
 
-  pub said-is-read : (bytes : Text) → AreLines agent report.runs 0 report.entries bytes → (journal_of agent bytes).outcome ≡ Ok report
+  pub said-is-read : report.start ≡ None → (bytes : Text) → AreLines agent report.runs 0 report.entries bytes → (journal_of agent bytes).outcome ≡ Ok report
   unfolding journal_of
-  said-is-read bytes lines = lines-read [] report.entries [] report.runs bytes refl refl (λ k h. refl) fits.in_order fits.entries lines
+  said-is-read own bytes lines = lines-read own [] report.entries [] report.runs bytes refl refl (λ k h. refl) fits.in_order fits.entries lines

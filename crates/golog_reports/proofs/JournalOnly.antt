@@ -33,6 +33,7 @@ use Rattle.golog_reports.proofs.JournalBack.{Clear, clear-next, placed-elsewhere
 use Rattle.golog_reports.proofs.NamesOnly.{line-only, named-only}
 use Rattle.golog_reports.proofs.SaidOnly.{said-only}
 use Rattle.golog_reports.proofs.Says.{is_read, row-ok, then-ok}
+use Rattle.golog_semantics.proofs.Starts.{own_text}
 use Rattle.golog_reports.proofs.WholeReports.{journal-fits}
 
 module _ (agent : Agent) (well : WellFormed agent) where
@@ -82,6 +83,7 @@ module _ (agent : Agent) (well : WellFormed agent) where
   record LinesSay (report : Report) (texts : List Text) (whole : Report) : Type 0 where
     added : Journal
     entries : whole.entries ≡ report.entries ++ added
+    start : whole.start ≡ report.start
     runs : (k : ℕ) → k < length report.entries → run_at whole.runs k ≡ run_at report.runs k
     lines : AreLines agent whole.runs (length report.entries) added (join_with_byte 10 texts)
     kept : (before all : List Text) → all ≡ before ++ texts → length before ≡ length report.entries → TextsAreKept agent whole all
@@ -91,6 +93,7 @@ module _ (agent : Agent) (well : WellFormed agent) where
   nothing-more report texts e = record {
     added = [];
     entries = sym (append-nil report.entries);
+    start = refl;
     runs = λ k h. refl;
     lines = e;
     kept = λ before all h k kept. e;
@@ -121,6 +124,7 @@ module _ (agent : Agent) (well : WellFormed agent) where
       record {
         added = line.entry ∷ rest.added;
         entries = es;
+        start = rest.start;
         runs = λ k h. rest.runs k (omega (arith, count, h)) ∙ run_at-before report.runs (placed_run n line.run) k (placed-elsewhere n line.run k (omega (arith, h)));
         lines = (
           one.old,
@@ -140,14 +144,15 @@ module _ (agent : Agent) (well : WellFormed agent) where
       }
 
   module _ (bytes : Text) (report : Report) (e : (journal_of agent bytes).outcome ≡ Ok report) where
-    all-lines : LinesSay (record { entries = []; runs = [] }) (lines_in bytes) report
+    all-lines : LinesSay (record { entries = []; runs = []; start = None }) (lines_in bytes) report
     unfolding journal_of
-    all-lines = lines-say (record { entries = []; runs = [] }) (lines_in bytes) report (λ k h. refl) e
+    all-lines = lines-say (record { entries = []; runs = []; start = None }) (lines_in bytes) report (λ k h. refl) e
 
     pub read-says : ReadsAs agent bytes report
     read-says =
         let said = all-lines in record {
           fits = journal-fits agent well bytes report e;
+          start = said.start;
           lines = subst (λ es. AreLines agent report.runs 0 es bytes) (sym said.entries) (subst (AreLines agent report.runs 0 said.added) (join_with_byte-slice_split 10 bytes) said.lines);
         }
 
@@ -158,5 +163,6 @@ module _ (agent : Agent) (well : WellFormed agent) where
           fits = journal-fits agent well bytes report e;
           text =
               sym (join_with_byte-slice_split 10 bytes) ∙ said.kept [] (lines_in bytes) refl refl kept
-              ∙ ap (λ es. flat_map (with_line_feed agent) (at_each (line_text agent report.runs) [] es)) (sym said.entries);
+              ∙ ap (λ es. flat_map (with_line_feed agent) (at_each (line_text agent report.runs) [] es)) (sym said.entries)
+              ∙ sym (own_text agent report said.start);
         }

@@ -61,6 +61,6 @@ module _ (agent : Agent) where
 
   -- the first part
   pub begun : (bytes first : Text) (others : List Text) → parts 10 bytes ≡ first ∷ others
-      → (journal_from agent (record { entries = []; runs = [] }) (first ∷ others)).outcome ≡ (journal_of agent bytes).outcome
+      → (journal_from agent (record { entries = []; runs = []; start = None }) (first ∷ others)).outcome ≡ (journal_of agent bytes).outcome
   unfolding journal_of
-  begun bytes first others h = ap (λ ts. (journal_from agent (record { entries = []; runs = [] }) ts).outcome) (sym h)
+  begun bytes first others h = ap (λ ts. (journal_from agent (record { entries = []; runs = []; start = None }) ts).outcome) (sym h)

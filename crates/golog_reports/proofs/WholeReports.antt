@@ -122,6 +122,7 @@ module _ (agent : Agent) where
           (runs-kept report.entries line.entry report.runs fits.runs) (new-run line.run told.labels told.steps);
       in_order = places-grow line.run;
       in_bounds = le-leb (length entries) (place_limit + 1) (omega (arith, few, length-append report.entries (line.entry ∷ [])));
+      start = fits.start;
     }
 
   -- a number that is a place is small, and so are those of the body
@@ -150,12 +151,12 @@ module _ (agent : Agent) where
       let r = then-ok (line_of agent report.entries text) (λ line. journal_from agent (with_line report line) (next ∷ texts)) whole e in
       from-fits well (with_line report r.0) (next ∷ texts) whole (line-is-report well report text r.0 fits r.1) r.2
 
-  none-read : IsReport agent (record { entries = []; runs = [] })
-  none-read = record { entries = refl; runs = refl; in_order = refl; in_bounds = refl }
+  none-read : IsReport agent (record { entries = []; runs = []; start = None })
+  none-read = record { entries = refl; runs = refl; in_order = refl; in_bounds = refl; start = tt }
 
   pub journal-fits : WellFormed agent → (bytes : Text) (report : Report) → (journal_of agent bytes).outcome ≡ Ok report → IsReport agent report
   unfolding journal_of
-  journal-fits well bytes report e = from-fits well (record { entries = []; runs = [] }) (lines_in bytes) report none-read e
+  journal-fits well bytes report e = from-fits well (record { entries = []; runs = []; start = None }) (lines_in bytes) report none-read e
 
   pub answer-fits : WellFormed agent → (bytes : Text) (result : Result Report TextFault) → Answers result (journal_of agent bytes) → IfOk result (IsReport agent)
   answer-fits well bytes (Ok report) e = journal-fits well bytes report e

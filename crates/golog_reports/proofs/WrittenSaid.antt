@@ -15,7 +15,8 @@ use Rattle.golog_semantics.specs.Journal.{Journal, commands}
 use Rattle.golog_semantics.specs.Online.{is_result}
 use Rattle.golog_semantics.specs.Progress.{values_after}
 use Rattle.golog_semantics.specs.Reports.{IsReport, fits_entry, is_device, is_value}
-use Rattle.golog_semantics.specs.SortLaws.{AreInSorts, ResultsFit}
+use Rattle.golog_semantics.specs.InSorts.{AreInSorts}
+use Rattle.golog_semantics.specs.SortLaws.{ResultsFit}
 use Rattle.golog_semantics.specs.Text.{at_each, body_text, device_text, line_text, report_text, run_at, value_text, with_line_feed}
 use Rattle.golog_semantics.specs.Truth.{Values, is_known, unknown}
 use Rattle.golog_semantics.specs.Values.{fluent_sort}
@@ -121,6 +122,6 @@ module _ (agent : Agent) where
             (lines-from well runs (before ++ e ∷ []) entries (results-next before e results (one-result before e one)) (and-right (fits_entry agent before e) later fit)),
       )
 
-  pub written-says : WellFormed agent → (report : Report) → IsReport agent report → ReadsAs agent (report_text agent report) report
+  pub written-says : WellFormed agent → (report : Report) → IsReport agent report → report.start ≡ None → ReadsAs agent (report_text agent report) report
   unfolding report_text
-  written-says well report fits = record { fits = fits; lines = lines-from well report.runs [] report.entries tt fits.entries }
+  written-says well report fits own = record { fits = fits; start = own; lines = lines-from well report.runs [] report.entries tt fits.entries }

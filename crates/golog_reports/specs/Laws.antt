@@ -1,5 +1,5 @@
 -- Laws of journals that are read.
-use Rattle.std.specs.Prelude.{◌≡◌, ℕ, IsTrue, List, ◌∷◌, ◌++◌, Result, Ok, Err, Some}
+use Rattle.std.specs.Prelude.{◌≡◌, ℕ, IsTrue, List, ◌∷◌, ◌++◌, Result, Ok, Err, None, Some}
 use Rattle.golog_rows.specs.Reading.{first}
 use Rattle.golog_tree.specs.declared.agent.Agent.{Agent}
 use Rattle.golog_semantics.specs.declared.journal.Entry.{Entry}
@@ -48,11 +48,11 @@ ReadOrRefused =
     (agent : Agent) → WellFormed agent → TellsApart agent → (bytes : Text)
     → IsReadOrRefused agent bytes (journal_of agent bytes).outcome
 
--- the text of a report is read as that report
+-- the text of a report from the agent's own start is read as that report
 abbrev pub WrittenReadsBack : Type 0
 WrittenReadsBack =
     (agent : Agent) → WellFormed agent → TellsApart agent → (report : Report) → IsReport agent report
-    → (journal_of agent (report_text agent report)).outcome ≡ Ok report
+    → report.start ≡ None → (journal_of agent (report_text agent report)).outcome ≡ Ok report
 
 -- each of these lines is the text of its entry
 abbrev pub TextsAreKept : Agent → Report → List Text → Type 0

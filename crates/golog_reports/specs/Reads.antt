@@ -176,6 +176,7 @@ abbrev pub with_line : Report → Line → Report
 with_line report line = record {
   entries = report.entries ++ line.entry ∷ [];
   runs = report.runs ++ placed_run (length report.entries) line.run;
+  start = report.start;
 }
 
 module _ (agent : Agent) where
@@ -188,4 +189,4 @@ module _ (agent : Agent) where
 
   -- the report that the text of a journal says, or its first refusal
   unfoldable pub journal_of : Text → Reading Report
-  journal_of bytes = journal_from (record { entries = []; runs = [] }) (lines_in bytes)
+  journal_of bytes = journal_from (record { entries = []; runs = []; start = None }) (lines_in bytes)

@@ -41,4 +41,5 @@ module _ (agent : Agent) where
 -- the bytes say the report
 pub record ReadsAs (agent : Agent) (bytes : Text) (report : Report) : Type 0 where
   pub fits : IsReport agent report
+  pub start : report.start ≡ None
   pub lines : AreLines agent report.runs 0 report.entries bytes

@@ -7,7 +7,7 @@ use thiserror::Error;
 /// The line has no body of the table, names and numbers left open, or lacks its line feed.
 pub const NO_BODY: u8 = 50;
 
-/// The line's number isn't its place, or a number in it is above 1,048,575.
+/// The line's number isn't its place, or a number in it is above 2,097,151.
 pub const MISPLACED: u8 = 51;
 
 /// An action, a device or a constant isn't the agent's, or not one for its place.

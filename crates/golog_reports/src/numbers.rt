@@ -7,7 +7,7 @@ ghost use Rattle.golog_reports.specs.Said.{if_so};
 use golog_base::amount_within;
 
 /// The greatest number that a line may have.
-const GREATEST: u32 = 1_048_575;
+const GREATEST: u32 = 2_097_151;
 
 // The number that digits spell, where a line may have it.
 pub(crate) fn number_in(digits: &[u8]) -> Option<u32>

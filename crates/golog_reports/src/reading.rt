@@ -1,5 +1,5 @@
 // The report that the text of a journal says.
-ghost use Rattle.std.specs.Prelude.{◌≡◌, ◌<◌, ◌≤◌, [], true, length, is_some, IfOk, IsTrue, OnOk};
+ghost use Rattle.std.specs.Prelude.{◌≡◌, ◌<◌, ◌≤◌, [], None, true, length, is_some, IfOk, IsTrue, OnOk};
 ghost use Rattle.std.specs.Option.{option_map_or};
 ghost use Rattle.golog_tree.specs.Ground.{fluent_args, ground_count};
 ghost use Rattle.golog_rows.specs.Answers.{Leaves};
@@ -228,7 +228,7 @@ fn read_lines(
 ) -> Result<(), TextFault>
     requires formed { WellFormed agent.now }
     requires facts { facts.now ≡ agent.now }
-    requires empty { (report.old.entries ≡ []) × (report.old.runs ≡ []) }
+    requires empty { (report.old.entries ≡ []) × (report.old.runs ≡ []) × (report.old.start ≡ None) }
     ensures { Leaves code_at result report.new (journal_of agent.now bytes.now) }
 {
     let (mut text, mut behind) = cut(bytes, b'\n');
@@ -262,6 +262,7 @@ fn report_in(
     let mut report = Report {
         entries: List::new(alloc),
         runs: List::new(alloc),
+        start: None,
     };
     match read_lines(&mut report, alloc, agent, facts, bytes) {
         Ok(()) => Ok(report),
@@ -277,7 +278,7 @@ fn report_in(
 /// may stand as the value known before, or none.
 ///
 /// The codes: 50, where the line has no such form, names and numbers left open, or lacks its line feed; 51,
-/// where its number isn't its place, or a number in it is above 1,048,575; 52, where an action, a device or a
+/// where its number isn't its place, or a number in it is above 2,097,151; 52, where an action, a device or a
 /// constant isn't the agent's, an action is exogenous in `do` or in a run or not exogenous in `exo`, or the
 /// device behind `@` isn't that of the action; 53, where a result is of no earlier sensing command of its
 /// device, or a value isn't of the fluent's sort. Lines are counted from 0. The empty text has no line.

@@ -3,7 +3,7 @@ ghost use Rattle.std.specs.Prelude.{◌≡◌, ◌<◌, ◌≤◌, ◌+◌, ◌+
 ghost use Rattle.golog_tree.specs.Ground.{IsCountable, action_args, ground_count};
 ghost use Rattle.golog_semantics.specs.Journal.{device_of as spec_device_of};
 ghost use Rattle.golog_semantics.specs.Reports.{is_value};
-ghost use Rattle.golog_semantics.specs.SortLaws.{AreInSorts, IsOf};
+ghost use Rattle.golog_semantics.specs.InSorts.{AreInSorts, IsOf};
 ghost use Rattle.golog_semantics.specs.Text.{action_text, against_text, at_device, body_text, device_text, value_text};
 ghost use Rattle.golog_semantics.specs.Values.{fluent_sort};
 ghost use Rattle.golog_semantics.specs.WellFormed.{WellFormed};

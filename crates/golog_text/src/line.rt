@@ -1,6 +1,6 @@
 // Room for a line of a report.
 ghost use Rattle.std.specs.Prelude.{◌≡◌, ◌<◌, ◌≤◌, ◌+◌, [], ◌++◌, length, IfOk, IfSome, OnOk, OnErr, option_copied};
-ghost use Rattle.golog_semantics.specs.SortLaws.{AreInSorts};
+ghost use Rattle.golog_semantics.specs.InSorts.{AreInSorts};
 ghost use Rattle.golog_semantics.specs.WellFormed.{WellFormed};
 ghost use Rattle.golog_text.specs.Filled.{IsLineOf, full_line, reserved, run_most};
 ghost use Rattle.golog_text.specs.Named.{AreLabels, IsNamed};

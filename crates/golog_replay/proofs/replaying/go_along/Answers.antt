@@ -1,14 +1,12 @@
-use Rattle.std.proofs.Common.{◌≡◌, ◌≤◌, None, Some, length, take, sym, ap, ◌∙◌, subst}
+use Rattle.std.proofs.Common.{◌≡◌, ◌≤◌, length, take, sym, ap, ◌∙◌, subst}
 use Rattle.std.proofs.lemmas.Bool.{leb-true}
 use Rattle.std.proofs.lemmas.List.{take_all}
 use Rattle.golog_semantics.specs.declared.journal.Entry.TheVariants.{Do}
-use Rattle.golog_semantics.specs.Online.{first_fault}
-use Rattle.golog_semantics.specs.OneMore.{with_runs}
 use Rattle.golog_semantics.specs.Reports.{entry_limit}
 use Rattle.golog_text.specs.Named.{AreFrom}
 use Rattle.golog_text.proofs.RunsBehind.{behind_place, from_grows, from_next, from_start}
 use Rattle.golog_replay.specs.Courses.{Follows}
-use Rattle.golog_semantics.specs.Verdicts.{VerdictIs, lines_in}
+use Rattle.golog_semantics.specs.Verdicts.{lines_in}
 use Rattle.golog_replay.proofs.Along.{from-end, from-start, lent-broken, lent-fits, lent-in-order, lent-kept, lent-named, lent-runs-named, lent-short, not-online}
 use Rattle.golog_replay.proofs.Noting.{not-some}
 use Rattle.golog_replay.proofs.replaying.go_along.Goals as goal
@@ -88,7 +86,4 @@ returns c =
     let bytes = c.args.bytes.now in
     let same : c.as_slice-entries.result.now ≡ c.args.report.now.entries = c.as_slice-entries.ensures in
     let all = subst (λ es. length es ≤ c.loop-place.place) same c.loop-place-test.false in
-    let none = c.loop-place.invariant.so_far ∙ from-end agent (lines_in bytes) report c.loop-place.place all in
-    subst (λ es. VerdictIs agent bytes (with_runs report.runs es) c.last_verdict.result) same
-    (c.last_verdict.ensures bytes report.runs
-    (subst (λ es. first_fault agent (Some (lines_in bytes)) (with_runs report.runs es) ≡ None) (sym same) none))
+    c.last_verdict.ensures bytes report (sym same) (c.loop-place.invariant.so_far ∙ from-end agent (lines_in bytes) report c.loop-place.place all)

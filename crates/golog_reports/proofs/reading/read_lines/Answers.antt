@@ -1,4 +1,4 @@
-use Rattle.std.proofs.Common.{◌≡◌, ◌<◌, Err, Ok, List, [], ◌∷◌, ◌++◌, length, length-append, sym, ap, ◌∙◌, subst, arith}
+use Rattle.std.proofs.Common.{None, ◌≡◌, ◌<◌, Err, Ok, List, [], ◌∷◌, ◌++◌, length, length-append, sym, ap, ◌∙◌, subst, arith}
 use Rattle.golog_semantics.specs.declared.journal.Entry.{Entry}
 use Rattle.golog_reports.specs.declared.reading.Line.{Line}
 use Rattle.golog_reports.specs.Answers.{Answers, code_at}
@@ -15,7 +15,7 @@ loop-behind-init c =
     let others = parts_behind 10 (lent c.cut.result.1) in
     record {
       same =
-          (λ i. (journal_from agent (record { entries = c.requires.empty.0 i; runs = c.requires.empty.1 i }) (first ∷ others)).outcome)
+          (λ i. (journal_from agent (record { entries = c.requires.empty.0 i; runs = c.requires.empty.1 i; start = c.requires.empty.2 i }) (first ∷ others)).outcome)
           ∙ begun agent c.args.bytes.now first others c.cut.ensures.parts;
       few = omega (arith, ap length c.requires.empty.0);
     }
@@ -44,7 +44,7 @@ loop-behind-preserved c =
     let line = c.in_ok-line.line in
     let so_far = subst (λ b. (journal_from agent report (text ∷ parts_behind 10 (lent b))).outcome ≡ whole) c.in-Some.is c.loop-behind.invariant.same in
     let here : (line_of agent report.entries text).outcome ≡ Ok line = subst (λ (es : List Entry). (line_of agent es text).outcome ≡ Ok line) c.as_slice.ensures c.in_ok-line.ensures.said in
-    let few : length report.entries < 1048576 = subst (λ (es : List Entry). length es < 1048576) c.as_slice.ensures c.in_ok-line.ensures.few in
+    let few : length report.entries < 2097152 = subst (λ (es : List Entry). length es < 2097152) c.as_slice.ensures c.in_ok-line.ensures.few in
     let new : c.add_line.new.report.entries ≡ report.entries ++ line.entry ∷ [] = ap (λ r. r.entries) c.in_ok-add_line.ensures in
     record {
       same =

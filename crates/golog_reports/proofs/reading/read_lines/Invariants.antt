@@ -7,7 +7,7 @@ use Rattle.golog_reports.proofs.reading.read_lines.Given as goal
 abbrev pub invariant-loop-behind : goal.invariant-loop-behind
 invariant-loop-behind l = record {
   same : (journal_from l.agent l.report (l.text ∷ parts_behind 10 (lent l.behind))).outcome ≡ (journal_of l.agent l.bytes).outcome;
-  few : length l.report.entries ≤ 1048576;
+  few : length l.report.entries ≤ 2097152;
 }
 
 abbrev pub decreases-loop-behind : goal.decreases-loop-behind

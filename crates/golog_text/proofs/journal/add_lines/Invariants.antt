@@ -1,6 +1,6 @@
 use Rattle.std.proofs.Common.{◌≡◌, ◌++◌, take}
 use Rattle.golog_semantics.specs.Progress.{values_after}
-use Rattle.golog_semantics.specs.SortLaws.{AreInSorts}
+use Rattle.golog_semantics.specs.InSorts.{AreInSorts}
 use Rattle.golog_text.proofs.Lines.{lines_from}
 use Rattle.golog_text.proofs.RunsBehind.{from_place}
 use Rattle.golog_text.proofs.journal.add_lines.Given as goal

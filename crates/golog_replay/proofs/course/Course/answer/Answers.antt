@@ -21,4 +21,5 @@ pub returns : goal.returns
 returns c =
     answer-decided c.args.agent.now c.args.before.now (sym c.is_full.ensures ∙ c.if-is_full.false)
     (sym c.is_unanswered.ensures ∙ c.if-is_unanswered.false) (sym c.is_settled.ensures ∙ c.if-not-is_settled.false)
-    c.is_quiet.result c.in_ok-decision.decision c.answer_of-answer.result c.answer_of-answer.ensures c.is_quiet.ensures c.in_ok-decision.ensures
+    c.may_be_answered-comes.result c.is_quiet-quiet.result c.lacks_results-lacks.result c.in_ok-decision.decision c.answer_of-answer.result
+    c.answer_of-answer.ensures c.may_be_answered-comes.ensures c.is_quiet-quiet.ensures c.lacks_results-lacks.ensures c.in_ok-decision.ensures

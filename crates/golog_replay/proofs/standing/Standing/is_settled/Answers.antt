@@ -6,5 +6,5 @@ use Rattle.golog_replay.proofs.standing.Standing.is_settled.Goals as goal
 
 pub returns : goal.returns
 returns c =
-    flipped (is_some c.args.self.now.awaited) c.is_none.result c.is_none.ensures
-    ∙ sym (settled-by c.args.agent.now c.args.before.now c.args.self.now.awaited c.requires.awaits)
+    flipped (is_some c.args.self.now.held) c.is_none.result c.is_none.ensures
+    ∙ sym (settled-by c.args.agent.now c.args.before.now c.args.self.now.held c.requires.holds)

@@ -1,8 +1,10 @@
-use Rattle.std.proofs.Common.{◌≡◌, ◌+◌, ◌≤◌, [], ◌∷◌, ◌++◌, length, drop, if◌then◌else◌, sym, ap, ◌∙◌, subst, arith}
+use Rattle.std.proofs.Common.{◌≡◌, ◌+◌, [], ◌∷◌, ◌++◌, length, drop, if◌then◌else◌, sym, ap, ◌∙◌, subst, arith}
 use Rattle.golog_tree.specs.declared.agent.Agent.{Agent}
-use Rattle.golog_semantics.specs.Journal.{count, is_counted}
-use Rattle.golog_replay.specs.Standings.{AreTracked, TellsOf}
-use Rattle.golog_replay.proofs.Noting.{as-number, counted-most, count-more, results-still, tells-of, written}
+use Rattle.std.specs.Prelude.{IsTrue}
+use Rattle.golog_semantics.specs.Journal.{is_counted}
+use Rattle.golog_semantics.specs.Online.{keeps_place}
+use Rattle.golog_replay.specs.Standings.{AreTracked}
+use Rattle.golog_replay.proofs.Noting.{as-number, counted-most, count-more, results-still, written}
 use Rattle.golog_replay.proofs.standing.Standing.note.Goals as goal
 
 pub track-requires-clause-tracked : goal.track-requires-clause-tracked
@@ -11,11 +13,9 @@ track-requires-clause-tracked c =
     subst (λ (a : Agent). AreTracked a c.args.before.now c.deref_mut.result.now) (sym s.facts_so)
     (subst (AreTracked c.args.agent.now c.args.before.now) (sym c.deref_mut.ensures.value) s.tracked)
 
-pub track-requires-clause-told : goal.track-requires-clause-told
-track-requires-clause-told c =
-    let s = c.requires.standing in
-    subst (λ (a : Agent). TellsOf a c.args.before.now c.args.entry) (sym s.facts_so)
-    (tells-of c.args.agent.now c.args.before.now c.args.self.now.awaited s.awaits c.args.entry c.requires.place)
+pub track-requires-clause-place : goal.track-requires-clause-place
+track-requires-clause-place c =
+    subst (λ (a : Agent). IsTrue (keeps_place a c.args.before.now c.args.entry)) (sym c.requires.standing.facts_so) c.requires.place
 
 pub returns : goal.returns
 returns c =
@@ -33,9 +33,9 @@ returns c =
           subst (AreTracked agent (before ++ entry ∷ []))
           (sym (written c.args.self.now.devices.len c.track.new.devices (drop (length c.track.new.devices) c.args.self.now.devices.items) same))
           (subst (λ (a : Agent). AreTracked a (before ++ entry ∷ []) c.track.new.devices) s.facts_so c.track.ensures);
-      awaits = c.awaited_after-awaited.ensures;
+      holds = c.held_after-held.ensures;
       counted_so = (λ i. s.counted_so i + one i) ∙ sym (count-more before entry);
       few = counted-most c.args.self.now.counted before entry c.from.result s.few one;
       ends = c.ended_after-self.ensures before s.ends;
-      results = results-still agent before c.args.self.now.awaited s.awaits entry c.requires.place s.results;
+      results = results-still agent before c.args.self.now.devices.items s.tracked entry c.requires.fits c.requires.place s.results;
     }
