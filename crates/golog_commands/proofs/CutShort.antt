@@ -27,6 +27,7 @@ use Rattle.golog_commands.proofs.ExactLemmas.{agents-exclude, agents-one, script
 begins : (agent : Agent) (text : Text) (status n : ℕ) → IsOnlineRun agent text status → BeginsOnline agent (take n text)
 begins agent text status n whole = record {
   report = whole.report;
+  begun = whole.begun;
   rest = drop n text;
   fits = whole.spelled.fits;
   spelled = sym whole.spelled.text ∙ sym (take-append-drop n text);
@@ -71,7 +72,7 @@ module _ (inline : Bool) (before after : Outside) (agent : Agent) (listed : List
   of-report : (status : ℕ) (outcome : Outcome) → Runs agent listed outcome
       → Reports status (outcome_text outcome) (outcome_status outcome) before.taken after.taken before.sink_faults after.sink_faults
       → AddsBeginning agent before.taken after.taken
-  of-report status outcome of (inl (is, written)) =
+  of-report status outcome of (inl (is, written, still)) =
       adds outcome of (length (outcome_text outcome), omega arith, written ∙ ap (and_then_bytes before.taken) (sym (take-length (outcome_text outcome))))
   of-report status outcome of (inr (five, prefix, rose)) = adds outcome of prefix
 
@@ -86,9 +87,10 @@ nothing-adds : (agent : Agent) (old new : Option Text) → new ≡ old → AddsB
 nothing-adds agent old new same = record {
   bytes = [];
   begins = record {
-    report = record { entries = []; runs = [] };
-    rest = report_text agent (record { entries = []; runs = [] });
-    fits = record { entries = refl; runs = refl; in_order = refl; in_bounds = le-leb 0 1048576 (omega arith) };
+    report = record { entries = []; runs = []; start = None };
+    begun = refl;
+    rest = report_text agent (record { entries = []; runs = []; start = None });
+    fits = record { entries = refl; runs = refl; in_order = refl; in_bounds = le-leb 0 2097152 (omega arith); start = tt };
     spelled = refl;
     online = record { entries = λ before e later is. absurd (no-entry before later e is) };
   };

@@ -478,7 +478,7 @@ module _ (status : ℕ) (spelled : Option CommandLine) (before after : Outside) 
 of-report : SpelledCondIsUnrefused → OneCondIsSpelled → (status : ℕ) (spelled : Option CommandLine) (before after : Outside) (outcome : Outcome) → IsCaused spelled before after outcome
     → Reports status (outcome_text outcome) (outcome_status outcome) before.taken after.taken before.sink_faults after.sink_faults
     → SaysItsCause status spelled before after × FollowsItsCause status before after spelled
-of-report unrefused one status spelled before after outcome cause (inl (shown, written)) = (
+of-report unrefused one status spelled before after outcome cause (inl (shown, written, still)) = (
   says status spelled before after outcome (record { cause = cause; shown = shown; written = written }),
   follows status before after unrefused one outcome shown written spelled cause,
 )

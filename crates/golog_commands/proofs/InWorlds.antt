@@ -28,6 +28,7 @@ module _ (status : ℕ) (before after : Outside) (ran : IsRunStatus status) wher
     reads = reads;
     text = text;
     report = of.online.report;
+    begun = of.online.begun;
     spelled = of.online.spelled;
     written = written;
     so = of.so;
@@ -64,7 +65,7 @@ module _ (status : ℕ) (before after : Outside) (ran : IsRunStatus status) wher
   of-report : (spelled : Option CommandLine) (outcome : Outcome) → IsCaused spelled before after outcome
       → Reports status (outcome_text outcome) (outcome_status outcome) before.taken after.taken before.sink_faults after.sink_faults
       → IfRun spelled (λ agent devices inline. PrintsWhatIsSo before after agent)
-  of-report spelled outcome cause (inl (is, written)) = of-command outcome is written spelled cause
+  of-report spelled outcome cause (inl (is, written, still)) = of-command outcome is written spelled cause
   of-report spelled outcome cause (inr (five, prefix, rose)) = absurd (low status 5 five (omega arith) (omega arith) ran)
 
 pub runs-so : (status : ℕ) (before after : Outside) (spelled : Option CommandLine) → CallEnds status spelled before after → RunsAreSo status spelled before after

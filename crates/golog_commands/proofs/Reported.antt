@@ -71,7 +71,7 @@ module _ (agent : Agent) where
       by (inl c) = let no : false ≡ true = sym (unended before closings a lawful) ∙ any-contains is_end before (End b) c refl in absurd (cc)
       by (inr c) = behind c
 
-  inline-is : (scripts : List Scripted) → (rounds agent (lead agent) 200000 (record { journal = []; devices = scripts })).journal ≡ inline_journal agent scripts
+  inline-is : (scripts : List Scripted) → (rounds agent (lead agent) 3000000 (record { journal = []; devices = scripts })).journal ≡ inline_journal agent scripts
   unfolding inline_journal
   inline-is scripts = refl
 
@@ -99,6 +99,7 @@ module _ (agent : Agent) where
       record {
         online = record {
           report = report_of agent journal;
+          begun = refl;
           spelled = record { fits = of_journal.fits; text = text_is };
           online = of_journal.online;
           ended = record { answer = answer; stands = there; shown = refl };

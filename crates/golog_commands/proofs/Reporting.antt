@@ -1,9 +1,9 @@
 -- From what the parts of a call write of what they come to, to how the call ends.
-use Rattle.std.proofs.Common.{◌≡◌, ℕ, Bool, true, false, List, Result, Ok, Err, IfOk, Option, Some, None, IsSome, inl, inr, refl, sym, ap, ◌∙◌, subst}
+use Rattle.std.proofs.Common.{◌≡◌, ℕ, Bool, true, false, List, Result, Ok, Err, IfOk, Option, Some, None, IsSome, inl, inr, refl, sym, ap, ◌∙◌, subst, arith, ◌<◌}
 use Rattle.std.specs.Prelude.{OnErr}
 use Rattle.golog_semantics.specs.Text.{Text, report_text}
 use Rattle.golog_device.specs.Slots.{Standing}
-use Rattle.golog_words.specs.Commands.{CommandLine, run, demo}
+use Rattle.golog_words.specs.Commands.{CommandLine, run, check, replay, ask, demo}
 use Rattle.golog_commands.specs.declared.outcome.Outcome.{Outcome}
 use Rattle.golog_commands.specs.declared.outcome.Outcome.TheVariants.{WordsRefused, Ran}
 use Rattle.golog_commands.specs.declared.ready.Ready.{Ready}
@@ -11,10 +11,11 @@ use Rattle.golog_commands.specs.declared.ready.Unready.{Unready}
 use Rattle.golog_commands.specs.declared.ready.Unready.TheVariants.{Ended, Memory}
 use Rattle.golog_commands.specs.Demos.{Demonstrates}
 use Rattle.golog_commands.specs.Inputs.{scripts_for}
-use Rattle.golog_commands.specs.Outcome.{CallEnds, HoldsRun, IfEnded, IsUntouched, Never, OfAgent, OfScripts, Outside, IsReported, Reports, outcome_status, outcome_text, uses_devices}
+use Rattle.golog_commands.specs.Outcome.{CallEnds, HoldsRun, IfEnded, IsUntouched, Never, OfAgent, OfScripts, Outside, IsReported, LeavesDevices, Reports, outcome_status, outcome_text, uses_devices}
+use Rattle.golog_commands.proofs.Begun.{none-served}
 use Rattle.golog_commands.proofs.Causes.{IsCaused}
 use Rattle.golog_commands.specs.Runs.{IsReportOf}
-use Rattle.golog_commands.specs.Writing.{IfReported, ReportsUnready, WritesReport}
+use Rattle.golog_commands.specs.Writing.{IfReported, ReportsUnready, WritesNothing, WritesReport}
 use Rattle.golog_commands.proofs.OutcomeLemmas.{never-comes, run-comes}
 use Rattle.golog_commands.proofs.Reported.{run-of}
 
@@ -28,13 +29,13 @@ demo-untouched : {E : Type 0} (size : ℕ) (olds news : List Standing) (r : Resu
 demo-untouched size olds news (Ok outcome) made = λ none. let no : true ≡ false = sym (ap uses_devices made.is) ∙ none in absurd (cc)
 demo-untouched size olds news (Err e) made = made
 
-pub outcome-nothing : {E F : Type 0} (r : Result Outcome E) (s : Result ℕ F) (old new : Option Text) (before after : ℕ) → IfReported r s old new before after → OnErr s (new ≡ old)
+pub outcome-nothing : {E F : Type 0} (r : Result Outcome E) (s : Result ℕ F) (old new : Option Text) (before after : ℕ) → IfReported r s old new before after → OnErr s (WritesNothing old new before after)
 outcome-nothing (Ok outcome) (Ok status) old new before after reports = tt
 outcome-nothing (Ok outcome) (Err f) old new before after reports = absurd reports
 outcome-nothing (Err e) (Ok status) old new before after reports = absurd reports
 outcome-nothing (Err e) (Err f) old new before after reports = reports
 
-pub unready-nothing : {F : Type 0} (fault : Unready) (s : Result ℕ F) (old new : Option Text) (before after : ℕ) → ReportsUnready fault s old new before after → OnErr s (new ≡ old)
+pub unready-nothing : {F : Type 0} (fault : Unready) (s : Result ℕ F) (old new : Option Text) (before after : ℕ) → ReportsUnready fault s old new before after → OnErr s (WritesNothing old new before after)
 unready-nothing (Ended outcome) (Ok status) old new before after reports = tt
 unready-nothing (Ended outcome) (Err f) old new before after reports = absurd reports
 unready-nothing Memory (Ok status) old new before after reports = absurd reports
@@ -116,8 +117,31 @@ pub on-err : {A E : Type 0} (r : Result A E) (P : Type 0) → P → OnErr r P
 on-err (Ok a) P so = tt
 on-err (Err e) P so = so
 
+-- devices to which nothing was done
+pub left-alone : (spelled : Option CommandLine) (standings : List Standing) → LeavesDevices spelled standings standings
+left-alone None standings = tt
+left-alone (Some (run name named inline)) standings = none-served standings
+left-alone (Some (check name)) standings = refl
+left-alone (Some (replay name journal)) standings = refl
+left-alone (Some (ask name journal condition)) standings = refl
+left-alone (Some (demo size)) standings = tt
+
 -- what a call comes to that has answered, or lacked memory
 pub call-ends : {E : Type 0} (spelled : Option CommandLine) (before after : Outside) (r : Result ℕ E) (status : ℕ) → IfOk r (λ answer. IsReported answer spelled before after)
-    → OnErr r (IsSome spelled) → OnErr r (after.taken ≡ before.taken) → IfOk r (λ answer. status ≡ answer) → OnErr r (status ≡ 6) → CallEnds status spelled before after
-call-ends spelled before after (Ok answer) status reported command nothing is six = inl (subst (λ s. IsReported s spelled before after) (sym is) reported)
-call-ends spelled before after (Err e) status reported command nothing is six = inr (record { answered = six; command = command; nothing = nothing })
+    → OnErr r (IsSome spelled) → OnErr r (WritesNothing before.taken after.taken before.sink_faults after.sink_faults)
+    → OnErr r (LeavesDevices spelled before.devices after.devices) → IfOk r (λ answer. status ≡ answer) → OnErr r (status ≡ 6) → CallEnds status spelled before after
+call-ends spelled before after (Ok answer) status reported command nothing left is six = inl (subst (λ s. IsReported s spelled before after) (sym is) reported)
+call-ends spelled before after (Err e) status reported command nothing left is six =
+    inr (record { answered = six; command = command; nothing = nothing.0; no_fault = nothing.1; devices = left })
+
+-- a count of faults of the sink that rose in a call gives 5
+pub fault-first : (status : ℕ) (spelled : Option CommandLine) (before after : Outside) → CallEnds status spelled before after
+    → before.sink_faults < after.sink_faults → status ≡ 5
+fault-first status spelled before after (inl reported) rose = by reported.report
+  where
+    by : Reports status (outcome_text reported.outcome) (outcome_status reported.outcome) before.taken after.taken before.sink_faults after.sink_faults → status ≡ 5
+    by (inl (shown, written, still)) = absurd (omega (arith, still, rose))
+    by (inr (five, prefix, cut)) = five
+fault-first status spelled before after (inr starved) rose =
+    let still = starved.no_fault in
+    absurd (omega (arith, still, rose))

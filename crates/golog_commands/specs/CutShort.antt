@@ -7,7 +7,7 @@ use Rattle.golog_semantics.specs.Certain.{JournalIsSo}
 use Rattle.golog_semantics.specs.Execution.{BeginsOnline}
 use Rattle.golog_script.specs.declared.scripts.Script.{Script}
 use Rattle.golog_file.specs.Spelled.{SpellsAgent}
-use Rattle.golog_words.specs.Commands.{CommandLine, run}
+use Rattle.golog_words.specs.Commands.{CommandLine, run, check, replay, ask, demo}
 use Rattle.golog_commands.specs.Inputs.{SpellsScripts}
 use Rattle.golog_commands.specs.Outcome.{Outside, CallEnds}
 use Rattle.golog_commands.specs.Exact.{IsRead}
@@ -39,7 +39,10 @@ LinesBegin None before after = ⊤
 LinesBegin (Some (run name devices inline)) before after =
     (agent : Agent) (listed : List Script) → GivesAgent name before after agent
     → GivesScripts devices before after agent listed → AddsBeginning agent before.taken after.taken
-LinesBegin (Some command) before after = ⊤
+LinesBegin (Some (check name)) before after = ⊤
+LinesBegin (Some (replay name journal)) before after = ⊤
+LinesBegin (Some (ask name journal condition)) before after = ⊤
+LinesBegin (Some (demo size)) before after = ⊤
 
 -- where the files of a run spell an agent and scripts, this is so of each call that ends as a write failed
 abbrev pub CutShortBeginsOnline : Type 0

@@ -53,7 +53,10 @@ pub record Shows (status : ℕ) (spelled : Option CommandLine) (before after : O
 abbrev pub IfRun : Option CommandLine → (Text → Option Text → Bool → Type 0) → Type 0
 IfRun None P = ⊥
 IfRun (Some (run agent devices inline)) P = P agent devices inline
-IfRun (Some command) P = ⊤
+IfRun (Some (check agent)) P = ⊤
+IfRun (Some (replay agent journal)) P = ⊤
+IfRun (Some (ask agent journal condition)) P = ⊤
+IfRun (Some (demo size)) P = ⊤
 
 -- the status of a run that was not stopped for want of memory
 abbrev pub IsRunStatus : ℕ → Type 0

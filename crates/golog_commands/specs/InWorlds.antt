@@ -1,5 +1,5 @@
 -- What a run that was printed says of each world. (This project's own.)
-use Rattle.std.specs.Prelude.{ℕ, Option}
+use Rattle.std.specs.Prelude.{◌≡◌, ℕ, None, Option}
 use Rattle.golog_tree.specs.declared.agent.Agent.{Agent}
 use Rattle.golog_semantics.specs.declared.journal.Report.{Report}
 use Rattle.golog_semantics.specs.Certain.{JournalIsSo}
@@ -17,6 +17,7 @@ pub record PrintsWhatIsSo (before after : Outside) (name : Text) : Type 0 where
   pub reads : ReadsAgent before.held name agent
   pub text : Text
   pub report : Report
+  pub begun : report.start ≡ None
   pub spelled : SpellsReport agent text report
   pub written : Writes before after text
   pub so : JournalIsSo agent report.entries

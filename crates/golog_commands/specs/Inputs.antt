@@ -50,7 +50,7 @@ pub data RefusesScripts (agent : Agent) (bytes : Text) : ℕ → ℕ → Type 0 
 
 -- how many bytes a journal file may have
 abbrev pub journal_limit : ℕ
-journal_limit = 2 ^ 26
+journal_limit = 2 ^ 28
 
 -- the bytes of a journal file are within the limit and say this report
 pub record SpellsJournal (agent : Agent) (bytes : Text) (told : Told) : Type 0 where

@@ -1,5 +1,5 @@
 -- What a call of the program comes to: each outcome with its cause, its text and its status.
-use Rattle.std.specs.Prelude.{◌≡◌, ◌⊎◌, ℕ, ◌<◌, Bool, true, false, not, List, [], ◌++◌, All, Option, None, Some, IsSome, codes, decimal, length}
+use Rattle.std.specs.Prelude.{◌≡◌, ◌⊎◌, ℕ, ◌<◌, Bool, true, false, not, ⊤, List, [], ◌++◌, All, Option, None, Some, IsSome, codes, decimal, length}
 use Rattle.golog_base.specs.Faults.{Rose}
 use Rattle.golog_base.specs.Known.{and_then_bytes, AddsPrefix}
 use Rattle.golog_base.specs.declared.mem_files.HeldFile.{HeldFile}
@@ -35,7 +35,7 @@ use Rattle.golog_commands.specs.declared.ready.Unready.{Unready}
 use Rattle.golog_commands.specs.declared.ready.Unready.TheVariants.{Ended, Memory}
 use Rattle.golog_commands.specs.Inputs.{line, fault_text, input_limit, scripts_for, SpellsScripts, RefusesScripts, SpellsJournal, RefusesJournal, SpellsBoth, ReadsAgent, ReadsScripts, Reads, Tells, IsUnread}
 use Rattle.golog_commands.specs.Demos.{Demonstrates}
-use Rattle.golog_commands.specs.Runs.{IsRunOf}
+use Rattle.golog_commands.specs.Runs.{AreUnserved, IsRunOf}
 
 -- ---- what is written, and the status
 
@@ -179,18 +179,24 @@ outside held file_faults taken sink_faults fresh meaning files out devices = rec
 
 -- whether the devices had a part in an outcome
 abbrev pub uses_devices : Outcome → Bool
+uses_devices WordsRefused = false
+uses_devices (ReadFault input) = false
+uses_devices (Refused input text) = false
 uses_devices (Ran text answer) = true
+uses_devices (Checked text) = false
+uses_devices (Judged verdict text) = false
+uses_devices (Asked truth) = false
 uses_devices (Demonstrated text) = true
-uses_devices outcome = false
 
 -- the devices are as they were, unless they had a part
 abbrev pub IsUntouched : List Standing → List Standing → Outcome → Type 0
 IsUntouched olds news outcome = uses_devices outcome ≡ false → news ≡ olds
 
--- the text was written whole and the status answered, or a write failed and a prefix of the text was written
+-- the text was written whole, no write failed and the status was answered, or a write failed and a prefix of the text
+-- was written
 abbrev pub Reports : ℕ → Text → ℕ → Option Text → Option Text → ℕ → ℕ → Type 0
 Reports answered text status old new faults_before faults_after =
-    ((answered ≡ status) × (new ≡ and_then_bytes old text))
+    ((answered ≡ status) × (new ≡ and_then_bytes old text) × (faults_after ≡ faults_before))
     ⊎ ((answered ≡ 5) × AddsPrefix old new text × Rose faults_before faults_after)
 
 -- the outcome has its cause, and was reported
@@ -201,11 +207,23 @@ pub record IsReported (status : ℕ) (spelled : Option CommandLine) (before afte
   pub report : Reports status (outcome_text outcome) (outcome_status outcome)
       before.taken after.taken before.sink_faults after.sink_faults
 
--- memory ran out while a command was done, and nothing was written
+-- What memory that runs out while a command is done leaves of the devices. In a run each is as it was, or has begun
+-- and was given and told nothing; a demo may have served them; the other commands leave them as they were.
+abbrev pub LeavesDevices : Option CommandLine → List Standing → List Standing → Type 0
+LeavesDevices None olds news = ⊤
+LeavesDevices (Some (run agent devices inline)) olds news = AreUnserved olds news
+LeavesDevices (Some (check agent)) olds news = news ≡ olds
+LeavesDevices (Some (replay agent journal)) olds news = news ≡ olds
+LeavesDevices (Some (ask agent journal condition)) olds news = news ≡ olds
+LeavesDevices (Some (demo size)) olds news = ⊤
+
+-- memory ran out while a command was done, nothing was written, no write failed, and no device was served by a run
 pub record LacksMemory (status : ℕ) (spelled : Option CommandLine) (before after : Outside) : Type 0 where
   pub answered : status ≡ 6
   pub command : IsSome spelled
   pub nothing : after.taken ≡ before.taken
+  pub no_fault : after.sink_faults ≡ before.sink_faults
+  pub devices : LeavesDevices spelled before.devices after.devices
 
 -- how a call ends whose words spell this command, or none: with an outcome that has its cause, or for want of memory
 abbrev pub CallEnds : ℕ → Option CommandLine → Outside → Outside → Type 0
@@ -216,7 +234,10 @@ CallEnds status spelled before after = IsReported status spelled before after �
 -- whether the command is a run over threads
 abbrev pub is_threaded : CommandLine → Bool
 is_threaded (run agent devices inline) = not inline
-is_threaded command = false
+is_threaded (check agent) = false
+is_threaded (replay agent journal) = false
+is_threaded (ask agent journal condition) = false
+is_threaded (demo size) = false
 
 -- where a file is refused or can't be read, and memory didn't run out, this is so of what is said
 abbrev pub IfEnded : Unready → (Outcome → Type 0) → Type 0

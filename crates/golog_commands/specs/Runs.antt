@@ -17,6 +17,7 @@ use Rattle.golog_semantics.specs.Dealt.{Script, WasDealtWith}
 use Rattle.golog_semantics.specs.Inline.{lead}
 use Rattle.golog_journal.specs.Boards.{AgentJournal, IsBoardList}
 use Rattle.golog_journal.specs.Leading.{IsBehind}
+use Rattle.golog_device.specs.Devices.{HasBegun as DeviceBegins}
 use Rattle.golog_device.specs.Scripts.{script_spelled}
 use Rattle.golog_device.specs.Slots.{Standing, EachSlot, ChangesIf, HasAt, HaveBegun}
 use Rattle.golog_lead.specs.Rounds.{AreReady, FollowsRounds}
@@ -40,6 +41,14 @@ AreDealtWith agent scripts journal =
 abbrev pub AllTellLeft : Agent → List Standing → Type 0
 AllTellLeft agent standings =
     (slot : ℕ) → slot < length agent.devices → HasAt standings slot (λ s. IsSome s.meaning.left)
+
+-- a device is as it was, or has begun and was given and told nothing since
+abbrev pub IsUnserved : Standing → Standing → Type 0
+IsUnserved old new = (new ≡ old) ⊎ ((name : Text) × (text : Text) × DeviceBegins old.meaning new.meaning name text)
+
+-- so is each device
+abbrev pub AreUnserved : List Standing → List Standing → Type 0
+AreUnserved olds news = EachSlot (λ slot. IsUnserved) olds news
 
 -- ---- the text, where all devices tell what is left of their scripts
 
@@ -93,13 +102,13 @@ pub record IsReportOf (agent : Agent) (scripts : List Script) (inline : Bool) (o
   pub dealt : AreDealtWith agent scripts journal olds news
   pub scripted : inline ≡ true → AllTellLeft agent olds → FollowsRounds (lead agent) IsShort agent scripts [] journal
 
--- the devices have begun, each with its text, and the journal has what came of it
+-- the devices have begun, each under its name with its text, and the journal has what came of it
 pub record HasBegun (agent : Agent) (texts : List Text) (olds news : List Standing) (journal : AgentJournal)
     : Type 0 where
   pub same_agent : journal.agent ≡ agent
   pub lawful : IsBoardList agent journal.entries
   pub behind : IsBehind [] journal.entries
-  pub begun : HaveBegun (length texts) texts journal.entries olds news
+  pub begun : HaveBegun (length texts) agent.devices texts journal.entries olds news
   pub ready : AreReady agent journal.entries
 
 -- the devices have begun, each with a text of its script

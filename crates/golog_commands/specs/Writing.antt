@@ -11,11 +11,15 @@ use Rattle.golog_commands.specs.declared.ready.Unready.{Unready}
 use Rattle.golog_commands.specs.declared.ready.Unready.TheVariants.{Ended, Memory}
 use Rattle.golog_commands.specs.Outcome.{Reports, outcome_status, outcome_text}
 
+-- nothing was written, and no write failed
+abbrev pub WritesNothing : Option Text → Option Text → ℕ → ℕ → Type 0
+WritesNothing old new faults_before faults_after = (new ≡ old) × (faults_after ≡ faults_before)
+
 -- what an outcome says was reported; without one nothing was written
 abbrev pub IfReported : {E F : Type 0} → Result Outcome E → Result ℕ F → Option Text → Option Text → ℕ → ℕ → Type 0
 IfReported (Ok outcome) (Ok status) old new faults_before faults_after =
     Reports status (outcome_text outcome) (outcome_status outcome) old new faults_before faults_after
-IfReported (Err e) (Err f) old new faults_before faults_after = new ≡ old
+IfReported (Err e) (Err f) old new faults_before faults_after = WritesNothing old new faults_before faults_after
 IfReported (Ok outcome) (Err f) old new faults_before faults_after = ⊥
 IfReported (Err e) (Ok status) old new faults_before faults_after = ⊥
 
@@ -23,7 +27,7 @@ IfReported (Err e) (Ok status) old new faults_before faults_after = ⊥
 abbrev pub ReportsUnready : {F : Type 0} → Unready → Result ℕ F → Option Text → Option Text → ℕ → ℕ → Type 0
 ReportsUnready (Ended outcome) (Ok status) old new faults_before faults_after =
     Reports status (outcome_text outcome) (outcome_status outcome) old new faults_before faults_after
-ReportsUnready Memory (Err f) old new faults_before faults_after = new ≡ old
+ReportsUnready Memory (Err f) old new faults_before faults_after = WritesNothing old new faults_before faults_after
 ReportsUnready (Ended outcome) (Err f) old new faults_before faults_after = ⊥
 ReportsUnready Memory (Ok status) old new faults_before faults_after = ⊥
 

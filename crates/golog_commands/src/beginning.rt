@@ -1,15 +1,15 @@
 // The beginning of a run: each device has its script.
-ghost use Rattle.std.specs.Prelude.{◌≡◌, ◌≤◌, All, IfOk, IsSome, Some, length, find};
+ghost use Rattle.std.specs.Prelude.{◌≡◌, ◌≤◌, All, IfOk, OnErr, IsSome, Some, length, find};
 ghost use Rattle.std.specs.Option.{option_copied};
 ghost use Rattle.golog_semantics.specs.WellFormed.{WellFormed};
 ghost use Rattle.golog_semantics.specs.Same.{same_values};
-ghost use Rattle.golog_semantics.specs.Journal.{longest};
+ghost use Rattle.golog_semantics.specs.Journal.{device_limit};
 ghost use Rattle.golog_device.specs.Scripts.{script_spelled};
 ghost use Rattle.golog_device.specs.Slots.{standings, FreshBelow};
 ghost use Rattle.golog_script.specs.declared.scripts.Script.{Script};
 ghost use Rattle.golog_script.specs.ScriptTexts.{HasTexts};
 ghost use Rattle.golog_commands.specs.Inputs.{empty_script, script_under, scripts_for};
-ghost use Rattle.golog_commands.specs.Runs.{AreTextsOf, HasBegun, HasBegunWith};
+ghost use Rattle.golog_commands.specs.Runs.{AreTextsOf, AreUnserved, HasBegun, HasBegunWith};
 
 use golog_base::{Bytes, List, NoMemory, Word};
 use golog_device::{Device, begin_all};
@@ -18,7 +18,8 @@ use golog_script::{Script, script_text};
 use golog_tree::Agent;
 use std::alloc::Global;
 
-/// The journal of a run whose devices have begun, each with its script among these, or else with the empty one.
+/// The journal of a run whose devices have begun, each with its script among these, or else with the empty one. Where
+/// memory is wanting, some have begun.
 pub fn begun_with<D: Device>(
     alloc: Global,
     agent: &Agent,
@@ -27,9 +28,11 @@ pub fn begun_with<D: Device>(
 ) -> Result<Journal, NoMemory>
     requires formed { WellFormed agent.now }
     requires texts { All HasTexts listed.now }
-    requires boxes { 16 ≤ length devices.old }
-    requires fresh { FreshBelow 16 (standings D.fresh D.meaning devices.old) }
-    ensures { IfOk result (HasBegunWith agent.now (scripts_for agent.now listed.now)
+    requires boxes { device_limit ≤ length devices.old }
+    requires fresh { FreshBelow device_limit (standings D.fresh D.meaning devices.old) }
+    ensures begun { IfOk result (HasBegunWith agent.now (scripts_for agent.now listed.now)
+        (standings D.fresh D.meaning devices.old) (standings D.fresh D.meaning devices.new)) }
+    ensures memory { OnErr result (AreUnserved
         (standings D.fresh D.meaning devices.old) (standings D.fresh D.meaning devices.new)) }
 {
     let texts = texts_for(alloc, agent, listed)?;
@@ -93,11 +96,13 @@ fn begun<D: Device>(
     devices: &mut [D],
 ) -> Result<Journal, NoMemory>
     requires formed { WellFormed agent.now }
-    requires boxes { 16 ≤ length devices.old }
-    requires fresh { FreshBelow 16 (standings D.fresh D.meaning devices.old) }
+    requires boxes { device_limit ≤ length devices.old }
+    requires fresh { FreshBelow device_limit (standings D.fresh D.meaning devices.old) }
     requires one_each { length texts.now ≡ length agent.now.devices }
     requires spelled { All (λ text. IsSome (script_spelled text)) texts.now }
-    ensures { IfOk result (HasBegun agent.now texts.now
+    ensures begun { IfOk result (HasBegun agent.now texts.now
+        (standings D.fresh D.meaning devices.old) (standings D.fresh D.meaning devices.new)) }
+    ensures memory { OnErr result (AreUnserved
         (standings D.fresh D.meaning devices.old) (standings D.fresh D.meaning devices.new)) }
 {
     let mut journal = Journal::new(alloc, agent)?;
@@ -108,14 +113,4 @@ fn begun<D: Device>(
             Err(fault)
         }
     }
-}
-
-/// How long a journal is that goes on no more: short enough for a report.
-pub fn ended_len(journal: Journal) -> u32
-    ensures number { result ≡ length journal.entries }
-    ensures most { length journal.entries ≤ longest }
-{
-    let length = journal.len();
-    drop(journal);
-    length
 }

@@ -10,7 +10,7 @@ mod ready;
 mod verdicts;
 mod writing;
 
-pub use beginning::{begun_with, ended_len};
+pub use beginning::begun_with;
 pub use commands::{asked, checked};
 pub use demos::{demo_of, demo_outcome};
 pub use outcome::{Input, Outcome};

@@ -40,7 +40,7 @@ impl Input {
     {
         match self {
             Input::Agent | Input::Devices | Input::Condition => 1_048_576,
-            Input::Journal => 67_108_864,
+            Input::Journal => 268_435_456,
         }
     }
 

@@ -1,8 +1,7 @@
-ghost use Rattle.std.specs.Prelude.{◌≡◌, ◌≤◌, ◌++◌, IfOk, OnOk, decimal};
+ghost use Rattle.std.specs.Prelude.{◌≡◌, ◌≤◌, ◌++◌, IfOk, OnOk};
 ghost use Rattle.golog_demo.specs.Demo.{demo_agent as spec_demo_agent, demo_devices as spec_demo_devices, push_text, pushes};
 
-use golog_base::{Bytes, NoMemory};
-use itoa::Buffer;
+use golog_base::{Bytes, NoMemory, add_decimal};
 use std::alloc::Global;
 
 // The agent file, cut at the number of its top floor.
@@ -39,23 +38,15 @@ pub struct DemoFiles {
     pub devices: Bytes,
 }
 
-// Adds a number.
-fn add_number(text: &mut Bytes, number: u32) -> Result<(), NoMemory>
-    ensures { OnOk result (text.new ≡ text.old ++ decimal number) }
-{
-    let mut buffer = Buffer::new();
-    text.extend(buffer.format(number).as_bytes())
-}
-
 // The agent file of a lift of so many floors.
 fn demo_agent(alloc: Global, size: u32) -> Result<Bytes, NoMemory>
     ensures { IfOk result (λ text. text ≡ spec_demo_agent size) }
 {
     let mut text = Bytes::new(alloc);
     text.extend(AGENT_HEAD)?;
-    add_number(&mut text, size)?;
+    add_decimal(&mut text, size as usize)?;
     text.extend(AGENT_ITEMS)?;
-    add_number(&mut text, size)?;
+    add_decimal(&mut text, size as usize)?;
     text.extend(AGENT_END)?;
     Ok(text)
 }
@@ -65,7 +56,7 @@ fn add_push(text: &mut Bytes, floor: u32) -> Result<(), NoMemory>
     ensures { OnOk result (text.new ≡ text.old ++ push_text floor) }
 {
     text.extend(b"\"push(")?;
-    add_number(text, floor)?;
+    add_decimal(text, floor as usize)?;
     text.extend(b")\"")
 }
 

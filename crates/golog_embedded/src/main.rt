@@ -2,7 +2,7 @@
 //! and prints the journal. Put your agent, and devices that do something, in their places.
 #![tactic(auto)]
 
-ghost use Rattle.std.specs.Prelude.{◌≡◌, ◌≤◌, Err, IfErr, IfOk, length};
+ghost use Rattle.std.specs.Prelude.{◌≡◌, ◌≤◌, Err, IfErr, IfOk, None, length};
 ghost use Rattle.golog_tree.specs.declared.agent.Agent.{Agent};
 ghost use Rattle.golog_semantics.specs.declared.journal.Report.{Report};
 ghost use Rattle.golog_semantics.specs.Online.{IsOnline};
@@ -62,7 +62,7 @@ fn printed(rt: HostRuntime, text: &Bytes) -> ExitCode {
 /// Or the first refusal of the file, or `Memory` where memory ran out.
 fn journal_text(alloc: Global, file: &[u8]) -> Result<Bytes, AgentFault>
     ensures journal { IfOk result (λ text. (agent : Agent) × (report : Report) × SpellsAgent file.now agent
-        × SpellsReport agent text report × IsOnline agent report) }
+        × SpellsReport agent text report × IsOnline agent report × (report.start ≡ None)) }
     ensures refusal { IfErr result (λ fault. Reads (Err fault) file.now) }
 {
     // Reads and checks the file.
@@ -82,6 +82,7 @@ fn run<D: Device>(alloc: Global, agent: &Agent, devices: &mut [D]) -> Result<Rep
     requires boxes { length agent.now.devices ≤ length devices.old }
     ensures fits { IfOk result (IsReport agent.now) }
     ensures online { IfOk result (IsOnline agent.now) }
+    ensures begun { IfOk result (λ report. report.start ≡ None) }
 {
     // Takes the entries, from the program and from the devices.
     let mut journal = Journal::new(alloc, agent)?;
@@ -89,8 +90,6 @@ fn run<D: Device>(alloc: Global, agent: &Agent, devices: &mut [D]) -> Result<Rep
     let mut runner = Runner::new(alloc, agent)?;
     // Goes on until the program has ended and each device is closed.
     run_inline(&mut runner, devices, agent, &mut journal);
-    // Says to the proof that the journal is short enough for a report.
-    let _entries = journal.len();
     drop(journal);
     Ok(runner.report())
 }

@@ -6,13 +6,13 @@ use Rattle.std.proofs.lemmas.Bool.{eqb-true, lt-ltb}
 use Rattle.std.proofs.lemmas.Bool.Decides.{leb_tells}
 use Rattle.std.proofs.lemmas.List.{length-map}
 use Rattle.golog_tree.specs.declared.agent.Agent.{Agent}
-use Rattle.golog_semantics.specs.Journal.{Journal, is_open}
+use Rattle.golog_semantics.specs.Journal.{Journal, device_limit, is_open}
 use Rattle.golog_semantics.specs.Text.{Text}
 use Rattle.golog_semantics.specs.Dealt.{Script, WasDealtWith}
 use Rattle.golog_semantics.proofs.Tests.{or_cases}
 use Rattle.golog_device.specs.Devices.{Restarts}
 use Rattle.golog_device.specs.Scripts.{script_spelled}
-use Rattle.golog_device.specs.Slots.{Standing, Both, EachSlot, ChangesIf, BeginsUnless, BeginsBelow, HaveBegun, refusal}
+use Rattle.golog_device.specs.Slots.{Standing, Both, EachSlot, ChangesIf, BeginsUnless, BeginsBelow, HaveBegun, name_at, refusal}
 use Rattle.golog_device.specs.Dealing.{DealtNow, HasLeft}
 use Rattle.golog_device.proofs.DealtFirst.{dealt_at_first}
 use Rattle.golog_lead.specs.Rounds.{IsDealtWith, TellLeft}
@@ -78,9 +78,9 @@ same-length P (x ∷ olds) (y ∷ news) each = ap suc (same-length (λ slot. P (
 -- ---- where the run begins
 
 -- the boxes of the agent's devices are all there still
-pub enough-boxes : {A : Type 0} (stand : A → Standing) (olds mids : List A) (k count : ℕ) (texts : List Text) (journal : Journal)
-    → HaveBegun count texts journal (map stand olds) (map stand mids) → k ≤ 16 → 16 ≤ length olds → k ≤ length mids
-enough-boxes stand olds mids k count texts journal begun few many =
+pub enough-boxes : {A : Type 0} (stand : A → Standing) (olds mids : List A) (k count : ℕ) (names texts : List Text) (journal : Journal)
+    → HaveBegun count names texts journal (map stand olds) (map stand mids) → k ≤ device_limit → device_limit ≤ length olds → k ≤ length mids
+enough-boxes stand olds mids k count names texts journal begun few many =
     let same = same-length _ (map stand olds) (map stand mids) begun.begun in
     let a = length-map olds stand in
     let b = length-map mids stand in
@@ -89,7 +89,7 @@ enough-boxes stand olds mids k count texts journal begun few many =
 -- ---- devices that have begun
 
 module _ (agent : Agent) (texts : List Text) (scripts : List Script) (are : AreTextsOf texts scripts) (journal : Journal) (olds mids : List Standing)
-    (begun : HaveBegun (length agent.devices) texts journal olds mids) (one_each : length texts ≡ length agent.devices) where
+    (begun : HaveBegun (length agent.devices) agent.devices texts journal olds mids) (one_each : length texts ≡ length agent.devices) where
   abbrev n : ℕ
   n = length agent.devices
 
@@ -102,9 +102,9 @@ module _ (agent : Agent) (texts : List Text) (scripts : List Script) (are : AreT
   none-left : (left : Option Script) (script : Script) → left ≡ None → IfSome left (λ l. l ≡ script)
   none-left left script none = subst (λ o. IfSome o (λ l. l ≡ script)) (sym none) tt
 
-  begun-left : (r : Bool) (text : Text) (a b : Standing) (script : Script) → BeginsUnless r text a b → script_spelled text ≡ Some script → HasLeft script b.meaning
-  begun-left true text a b script (same, untold) spelled = none-left b.meaning.left script (ap (λ (s : Standing). s.meaning.left) same ∙ untold)
-  begun-left false text a b script (begins, started) spelled = has-left a.meaning.left b.meaning.left text script started.script_left spelled
+  begun-left : (r : Bool) (name text : Text) (a b : Standing) (script : Script) → BeginsUnless r name text a b → script_spelled text ≡ Some script → HasLeft script b.meaning
+  begun-left true name text a b script (same, untold) spelled = none-left b.meaning.left script (ap (λ (s : Standing). s.meaning.left) same ∙ untold)
+  begun-left false name text a b script (begins, started) spelled = has-left a.meaning.left b.meaning.left text script started.script_left spelled
 
   at-slot : (slot : ℕ) → slot < n → script_spelled (get_or texts slot []) ≡ slice_get scripts slot
   at-slot slot within = spelled-at texts scripts are slot (omega (arith, within, one_each))
@@ -119,29 +119,29 @@ module _ (agent : Agent) (texts : List Text) (scripts : List Script) (are : AreT
         let same : told.0 ≡ slot = let e = told.1.0 in omega (arith, e) in
         (ap (λ k. get_or begun.refused k false) (sym same) ∙ told.1.1, closed-by journal slot c)
 
-    as-it-was : (r : Bool) (text : Text) (a b : Standing) → BeginsUnless r text a b → r ≡ true → b ≡ a
-    as-it-was true text a b begins is = begins.0
-    as-it-was false text a b begins is = absurd (cc)
+    as-it-was : (r : Bool) (name text : Text) (a b : Standing) → BeginsUnless r name text a b → r ≡ true → b ≡ a
+    as-it-was true name text a b begins is = begins.0
+    as-it-was false name text a b begins is = absurd (cc)
 
-    dealt-slot : (slot : ℕ) (a b c : Standing) → slot < n → BeginsUnless (get_or begun.refused slot false) (get_or texts slot []) a b
+    dealt-slot : (slot : ℕ) (a b c : Standing) → slot < n → BeginsUnless (get_or begun.refused slot false) (name_at agent.devices slot) (get_or texts slot []) a b
         → ((script : Script) → HasLeft script b.meaning → DealtNow agent slot journal 0 script b.meaning)
         → IsDealtWith agent journal new slot b c → (o : Option Script) → slice_get scripts slot ≡ o → IfSome o (λ script. WasDealtWith agent slot new script c.meaning)
     dealt-slot slot a b c within begins first runs None is = tt
     dealt-slot slot a b c within begins first runs (Some script) is =
-        runs script (first script (begun-left (get_or begun.refused slot false) (get_or texts slot []) a b script begins (at-slot slot within ∙ is)))
+        runs script (first script (begun-left (get_or begun.refused slot false) (name_at agent.devices slot) (get_or texts slot []) a b script begins (at-slot slot within ∙ is)))
 
-    goes-slot : (slot : ℕ) (a b c : Standing) → slot < n → BeginsUnless (get_or begun.refused slot false) (get_or texts slot []) a b
+    goes-slot : (slot : ℕ) (a b c : Standing) → slot < n → BeginsUnless (get_or begun.refused slot false) (name_at agent.devices slot) (get_or texts slot []) a b
         → ((script : Script) → HasLeft script b.meaning → DealtNow agent slot journal 0 script b.meaning)
         → Serves agent journal new slot b c → IsDealt agent scripts new slot a c
     goes-slot slot a b c within begins first serves = record {
       dealt = dealt-slot slot a b c within begins first serves.served.dealt (slice_get scripts slot) refl;
       refused = λ stands.
           let was = refused-first slot (serves.refused stands) in
-          serves.served.shut was.1 ∙ as-it-was (get_or begun.refused slot false) (get_or texts slot []) a b begins was.0;
+          serves.served.shut was.1 ∙ as-it-was (get_or begun.refused slot false) (name_at agent.devices slot) (get_or texts slot []) a b begins was.0;
     }
 
     slot-goes : (slot : ℕ) (v : Bool) → nat_lt slot n ≡ v → (v ≡ true → slot < n) → (x y z : Option Standing)
-        → Both (BeginsBelow n texts begun.refused slot) x y → Both (ChangesIf (nat_lt slot n) (Serves agent journal new slot)) y z
+        → Both (BeginsBelow n agent.devices texts begun.refused slot) x y → Both (ChangesIf (nat_lt slot n) (Serves agent journal new slot)) y z
         → (slot < n → IfSome y (λ s. (script : Script) → HasLeft script s.meaning → DealtNow agent slot journal 0 script s.meaning))
         → Both (ChangesIf v (IsDealt agent scripts new slot)) x z
     slot-goes slot v e within None None None begins runs first = tt
@@ -151,11 +151,11 @@ module _ (agent : Agent) (texts : List Text) (scripts : List Script) (are : AreT
     slot-goes slot v e within (Some a) (Some b) None begins runs first = absurd runs
     slot-goes slot true e within (Some a) (Some b) (Some c) begins runs first =
         goes-slot slot a b c (within refl)
-        (subst (λ u. ChangesIf u (BeginsUnless (get_or begun.refused slot false) (get_or texts slot [])) a b) e begins)
+        (subst (λ u. ChangesIf u (BeginsUnless (get_or begun.refused slot false) (name_at agent.devices slot) (get_or texts slot [])) a b) e begins)
         (first (within refl)) (subst (λ u. ChangesIf u (Serves agent journal new slot) b c) e runs)
     slot-goes slot false e within (Some a) (Some b) (Some c) begins runs first =
         subst (λ u. ChangesIf u (Serves agent journal new slot) b c) e runs
-        ∙ subst (λ u. ChangesIf u (BeginsUnless (get_or begun.refused slot false) (get_or texts slot [])) a b) e begins
+        ∙ subst (λ u. ChangesIf u (BeginsUnless (get_or begun.refused slot false) (name_at agent.devices slot) (get_or texts slot [])) a b) e begins
 
     below : (slot : ℕ) → nat_lt slot n ≡ true → slot < n
     below slot e = by (leb_tells (suc slot) n)
@@ -174,7 +174,7 @@ module _ (agent : Agent) (texts : List Text) (scripts : List Script) (are : AreT
   -- ---- devices that all tell what is left
 
   module _ (tell : AllTellLeft agent olds) where
-    told-so : (slot : ℕ) (r : Bool) → get_or begun.refused slot false ≡ r → (a b : Standing) → IsSome a.meaning.left → BeginsUnless r (get_or texts slot []) a b
+    told-so : (slot : ℕ) (r : Bool) → get_or begun.refused slot false ≡ r → (a b : Standing) → IsSome a.meaning.left → BeginsUnless r (name_at agent.devices slot) (get_or texts slot []) a b
         → (get_or begun.refused slot false ≡ false) × (b.meaning.left ≡ script_spelled (get_or texts slot []))
     told-so slot true is a b tells (same, untold) = let no : false ≡ true = ap is_some (sym untold) ∙ tells in absurd (cc)
     told-so slot false is a b tells (begins, started) = (is, restarted a.meaning.left b.meaning.left tells started.script_left)
@@ -183,13 +183,13 @@ module _ (agent : Agent) (texts : List Text) (scripts : List Script) (are : AreT
         restarted None new some r = let no : ⊥ = cc in absurd no
         restarted (Some l) new some r = r.1
 
-    told-slot : (slot : ℕ) → slot < n → (x y : Option Standing) → Both (BeginsBelow n texts begun.refused slot) x y → IsSomeAnd x (λ s. IsSome s.meaning.left)
+    told-slot : (slot : ℕ) → slot < n → (x y : Option Standing) → Both (BeginsBelow n agent.devices texts begun.refused slot) x y → IsSomeAnd x (λ s. IsSome s.meaning.left)
         → (get_or begun.refused slot false ≡ false) × IsSomeAnd y (λ s. s.meaning.left ≡ script_spelled (get_or texts slot []))
     told-slot slot within None None begins tells = absurd tells
     told-slot slot within None (Some b) begins tells = absurd begins
     told-slot slot within (Some a) None begins tells = absurd begins
     told-slot slot within (Some a) (Some b) begins tells =
-        let begins' = subst (λ u. ChangesIf u (BeginsUnless (get_or begun.refused slot false) (get_or texts slot [])) a b) (lt-ltb slot n within) begins in
+        let begins' = subst (λ u. ChangesIf u (BeginsUnless (get_or begun.refused slot false) (name_at agent.devices slot) (get_or texts slot [])) a b) (lt-ltb slot n within) begins in
         told-so slot (get_or begun.refused slot false) refl a b tells begins'
 
     told-at : (slot : ℕ) → slot < n → (get_or begun.refused slot false ≡ false) × IsSomeAnd (slice_get mids slot) (λ s. s.meaning.left ≡ script_spelled (get_or texts slot []))

@@ -62,7 +62,7 @@ module _ (law : OnlineIsAnOnlineRun) (name journal : Text) (before after : Outsi
 
   of-report : (outcome : Outcome) → IsCaused (Some (replay name journal)) before after outcome
       → Reports 0 (outcome_text outcome) (outcome_status outcome) before.taken after.taken before.sink_faults after.sink_faults → ReplaysRun before after name journal
-  of-report outcome cause (inl (shown, written)) = of-agent outcome shown written cause
+  of-report outcome cause (inl (shown, written, still)) = of-agent outcome shown written cause
   of-report outcome cause (inr (five, prefix, rose)) = nonzero 5 five (λ e. cc)
 
 pub replays-run : OnlineIsAnOnlineRun → OnlineReplaysRun

@@ -20,7 +20,7 @@ use Rattle.golog_main.proofs.Begun.{dealt-with, tell-left, none-stands}
 module _ (agent : Agent) where
   -- what has been run is reported, for all scripts of which the devices have begun with texts
   reports-texts : (texts : List Text) (inline : Bool) (before : Journal) (olds mids news : List Standing) (report : Report) → WellFormed agent → length texts ≡ length agent.devices
-      → HaveBegun (length texts) texts before olds mids → RunsOn agent inline before mids news report → (scripts : List Script) → AreTextsOf texts scripts
+      → HaveBegun (length texts) agent.devices texts before olds mids → RunsOn agent inline before mids news report → (scripts : List Script) → AreTextsOf texts scripts
       → IsReportOf agent scripts inline olds news report
   reports-texts texts inline before olds mids news report formed one_each begun_texts on scripts are = record {
     journal = on.journal;
@@ -34,8 +34,8 @@ module _ (agent : Agent) where
         (on.scripted rounds scripts (sym (as-many texts scripts are) ∙ one_each) (tell-left agent texts scripts are before olds mids begun one_each tell));
   }
     where
-      begun : HaveBegun (length agent.devices) texts before olds mids
-      begun = subst (λ n. HaveBegun n texts before olds mids) one_each begun_texts
+      begun : HaveBegun (length agent.devices) agent.devices texts before olds mids
+      begun = subst (λ n. HaveBegun n agent.devices texts before olds mids) one_each begun_texts
 
   -- and so for the scripts with which they have begun
   pub reports-run : (scripts : List Script) (inline : Bool) (before : AgentJournal) (olds mids news : List Standing) (report : Report) → WellFormed agent

@@ -1,7 +1,6 @@
 -- From what a scribe has written to the report of a run.
-use Rattle.std.proofs.Common.{◌≡◌, ℕ, zero, suc, Bool, true, false, [], Result, Ok, Err, IfOk, Option, Some, None, IsSome, inl, inr, refl, sym, ap, ◌∙◌, subst, take}
+use Rattle.std.proofs.Common.{◌≡◌, ℕ, Bool, true, false, Result, Ok, Err, IfOk, Option, Some, None, IsSome, inl, inr, refl, sym, ◌∙◌, subst}
 use Rattle.std.specs.Prelude.{IfSome}
-use Rattle.golog_base.specs.Known.{and_then_bytes}
 use Rattle.golog_tree.specs.declared.agent.Agent.{Agent}
 use Rattle.golog_semantics.specs.declared.journal.Answer.{Answer}
 use Rattle.golog_semantics.specs.declared.journal.Report.{Report}
@@ -12,7 +11,6 @@ use Rattle.golog_semantics.specs.Text.{Text, report_text}
 use Rattle.golog_journal.specs.Leading.{Outlet}
 use Rattle.golog_lead.specs.Keeping.{EndsBy}
 use Rattle.golog_lead.specs.Written.{HasWritten, IsWritten}
-use Rattle.golog_lead.proofs.Writing.{and_then-none}
 use Rattle.golog_commands.specs.Outcome.{Reports}
 use Rattle.golog_commands.specs.Writing.{WritesReport}
 
@@ -34,16 +32,11 @@ written-of agent list faulted was was' is is' before before' after after' a b c 
     (subst (λ x. HasWritten agent list was is x after' faulted) c
     (subst (λ x. HasWritten agent list was is before x faulted) d has)))
 
--- nothing of nothing
-take-nil : (n : ℕ) → take {A = ℕ} n [] ≡ []
-take-nil zero = refl
-take-nil (suc n) = refl
-
 module _ (old new : Option Text) (before after : ℕ) where
   reports : (faulted : Bool) (text : Text) (answer : Answer) (status : ℕ) → IsWritten text old new before after faulted
       → (faulted ≡ true → status ≡ 5) → (faulted ≡ false → status ≡ answer_status answer) → Reports status text (answer_status answer) old new before after
   reports true text answer status written five shown = inr (five refl, written.cut refl, written.rose refl)
-  reports false text answer status written five shown = inl (shown refl, written.whole refl)
+  reports false text answer status written five shown = inl (shown refl, written.whole refl, written.no_fault refl)
 
   -- the report of the entries that it has copied was written, where these have an end
   pub scribe-writes : (P : Report → Type 0) (agent own : Agent) (list : Journal) (faulted : Bool) (answer : Option Answer) (status : ℕ)
@@ -60,25 +53,6 @@ module _ (old new : Option Text) (before after : ℕ) where
         reports faulted (report_text agent (report_of agent list)) a status
         (subst (λ a. HasWritten a list old new before after faulted) same has) five shown;
   }
-
-  -- where there is no text, nothing was written
-  no-text : (faulted : Bool) → IsWritten [] old new before after faulted → new ≡ old
-  no-text true written =
-      let cut = written.cut refl in
-      cut.2 ∙ ap (and_then_bytes old) (take-nil cut.0) ∙ and_then-none old
-  no-text false written = written.whole refl ∙ and_then-none old
-
--- the text of no entries
-no-entries : (agent : Agent) → report_text agent (report_of agent []) ≡ []
-unfolding report_text
-no-entries agent = refl
-
--- where it has copied nothing, nothing was written
-pub nothing-written : (agent : Agent) (list : Journal) (old new : Option Text) (before after : ℕ) (faulted : Bool) → list ≡ [] → HasWritten agent list old new before after faulted
-    → new ≡ old
-nothing-written agent list old new before after faulted none has =
-    no-text old new before after faulted
-    (subst (λ text. IsWritten text old new before after faulted) (ap (λ j. report_text agent (report_of agent j)) none ∙ no-entries agent) has)
 
 -- what is so of a report that was written
 pub write-more : (P Q : Report → Type 0) (agent : Agent) (old new : Option Text) (before after status : ℕ) → ((report : Report) → P report → Q report)

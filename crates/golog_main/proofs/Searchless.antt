@@ -22,7 +22,7 @@ use Rattle.golog_semantics.specs.Blocks.{moves}
 use Rattle.golog_semantics.specs.BlockFree.{has_block}
 use Rattle.golog_semantics.specs.Guarded.{front}
 use Rattle.golog_semantics.specs.Heavy.{Reached, blocks_step, blocks_to, front_blocks, heavy, weighs}
-use Rattle.golog_semantics.specs.Journal.{Journal, is_full, is_quiet, is_settled}
+use Rattle.golog_semantics.specs.Journal.{Journal, is_full, is_quiet, is_settled, lacks_results, may_be_answered}
 use Rattle.golog_semantics.specs.Progress.{values_after, left_after}
 use Rattle.golog_semantics.specs.Answer.{answer_at, first_that_fits, is_deep, is_unanswered}
 use Rattle.golog_semantics.specs.Online.{may_end, same_answer}
@@ -94,31 +94,34 @@ module _ (agent : Agent) (values : Values) where
       ∙ sym (blockless_steps agent values May p h)
 
 -- of these tests the one before the last is not the first that fits, where it is the opposite of a part of another
-not-depth : (full unanswered unsettled final deep steps unquiet near ends may : Bool) → near ≡ may
+not-depth : (full unanswered unsettled comes final deep steps unquiet lacks near ends may : Bool) → near ≡ may
     → same_answer
     (first_that_fits
-    ((full, Some Full) ∷ (unanswered, Some Unanswered) ∷ (unsettled, None) ∷ (final, Some Done) ∷ (deep, Some Deep)
-    ∷ (steps, None) ∷ (unquiet, None) ∷ (near || ends, Some Unknown) ∷ (may, Some Depth) ∷ [])
+    ((full, Some Full) ∷ (unanswered, Some Unanswered) ∷ (unsettled, None) ∷ (comes, None) ∷ (final, Some Done) ∷ (deep, Some Deep)
+    ∷ (steps, None) ∷ (unquiet, None) ∷ (lacks, Some Unanswered) ∷ (near || ends, Some Unknown) ∷ (may, Some Depth) ∷ [])
     (Some Stuck)) Depth ≡ true → ⊥
-not-depth true u s f d m q n e y k h = absurd (cc)
-not-depth false true s f d m q n e y k h = absurd (cc)
-not-depth false false true f d m q n e y k h = absurd (cc)
-not-depth false false false true d m q n e y k h = absurd (cc)
-not-depth false false false false true m q n e y k h = absurd (cc)
-not-depth false false false false false true q n e y k h = absurd (cc)
-not-depth false false false false false false true n e y k h = absurd (cc)
-not-depth false false false false false false false true e y k h = absurd (cc)
-not-depth false false false false false false false false true y k h = absurd (cc)
-not-depth false false false false false false false false false true k h = absurd (cc)
-not-depth false false false false false false false false false false k h = absurd (cc)
+not-depth true u s c f d m q l n e y k h = absurd (cc)
+not-depth false true s c f d m q l n e y k h = absurd (cc)
+not-depth false false true c f d m q l n e y k h = absurd (cc)
+not-depth false false false true f d m q l n e y k h = absurd (cc)
+not-depth false false false false true d m q l n e y k h = absurd (cc)
+not-depth false false false false false true m q l n e y k h = absurd (cc)
+not-depth false false false false false false true q l n e y k h = absurd (cc)
+not-depth false false false false false false false true l n e y k h = absurd (cc)
+not-depth false false false false false false false false true n e y k h = absurd (cc)
+not-depth false false false false false false false false false true e y k h = absurd (cc)
+not-depth false false false false false false false false false false true y k h = absurd (cc)
+not-depth false false false false false false false false false false false true k h = absurd (cc)
+not-depth false false false false false false false false false false false false k h = absurd (cc)
 
 module _ (agent : Agent) where
   never-depth : (journal : Journal) (values : Values) (p : Prog) → not (has_block agent p) ≡ true
       → same_answer (answer_at agent journal values p) Depth ≡ true → ⊥
   never-depth journal values p h =
-      not-depth (is_full journal) (is_unanswered agent journal) (not (is_settled agent journal)) (final agent values Must p)
+      not-depth (is_full journal) (is_unanswered agent journal) (not (is_settled agent journal))
+      (final agent values Must p && may_be_answered agent journal) (final agent values Must p)
       (is_deep (moves agent values Must p)) (not (is_empty (moves agent values Must p))) (not (is_quiet agent journal))
-      (not (is_empty (moves agent values Near p))) (final agent values Near p) (not (is_empty (moves agent values May p)))
+      (lacks_results agent journal) (not (is_empty (moves agent values Near p))) (final agent values Near p) (not (is_empty (moves agent values May p)))
       (ap (λ steps. not (is_empty steps)) (near-may agent values p h))
 
   -- the program may end so only where its steps tell it

@@ -1,6 +1,6 @@
 -- From what a run in rounds or over threads makes of the devices, to what a report says of it.
-use Rattle.std.proofs.Common.{◌≡◌, ℕ, zero, suc, ◌+◌, ◌<◌, ◌≤◌, List, [], ◌∷◌, ◌++◌, length, map, Option, Some, None, Bool, true, false, refl, sym, ap, ◌∙◌, subst, arith, inl, inr, ◌⊎◌}
-use Rattle.std.specs.Prelude.{Contains, slice_get, nat_lt}
+use Rattle.std.proofs.Common.{◌≡◌, ℕ, zero, suc, ◌+◌, ◌<◌, ◌≤◌, List, [], ◌∷◌, ◌++◌, length, map, Option, Some, None, Bool, true, false, refl, sym, ap, ◌∙◌, subst, arith, inl, inr, ◌⊎◌, Result, Ok, Err}
+use Rattle.std.specs.Prelude.{Contains, OnErr, slice_get, nat_lt}
 use Rattle.std.specs.List.{list_any, range_with_len}
 use Rattle.std.proofs.lemmas.Bool.{eq-eqb, lt-ltb, or_from, not_from_false, and_from}
 use Rattle.std.proofs.lemmas.Bool.Decides.{leb_tells}
@@ -143,3 +143,8 @@ pub threads-among : {D : Type 0} (agent : Agent) (fresh : D → Bool) (meaning :
 threads-among agent fresh meaning old all ds es rest split boxes report on =
     subst (λ l. RunsOn agent false old (standings fresh meaning l) (standings fresh meaning (es ++ rest)) report) (sym split)
     (of-threads agent fresh meaning old ds es rest report boxes on)
+
+-- where a run over threads wants memory, all devices are as they were
+pub still-among : {D E : Type 0} (all ds es rest : List D) (r : Result ℕ E) → all ≡ ds ++ rest → OnErr r (es ≡ ds) → OnErr r (es ++ rest ≡ all)
+still-among all ds es rest (Ok status) split same = tt
+still-among all ds es rest (Err e) split same = ap (λ l. l ++ rest) same ∙ sym split

@@ -1,9 +1,12 @@
 // What each command writes.
 ghost use Rattle.std.specs.Prelude.{◌≡◌, ◌≤◌, true, false, Some, IfOk, OnErr, length, option_map};
+ghost use Rattle.golog_semantics.specs.Journal.{device_limit};
 ghost use Rattle.golog_device.specs.Slots.{standings, FreshBelow};
 ghost use Rattle.golog_words.specs.Answers.{command_of};
 ghost use Rattle.golog_words.specs.Commands.{run};
-ghost use Rattle.golog_commands.specs.Outcome.{IsReported, is_threaded, outside};
+ghost use Rattle.golog_commands.specs.Outcome.{IsReported, LeavesDevices, is_threaded, outside};
+ghost use Rattle.golog_commands.specs.Runs.{AreUnserved};
+ghost use Rattle.golog_commands.specs.Writing.{WritesNothing};
 
 use crate::demos::demonstrated;
 use crate::judged::replayed;
@@ -33,13 +36,16 @@ pub fn served<F: Files, K: Sink, D: Device>(
     devices: &mut [D],
 ) -> Result<u8, NoMemory>
     requires way { is_threaded (command_of order) ≡ false }
-    requires boxes { 16 ≤ length devices.old }
-    requires fresh { FreshBelow 16 (standings D.fresh D.meaning devices.old) }
+    requires boxes { device_limit ≤ length devices.old }
+    requires fresh { FreshBelow device_limit (standings D.fresh D.meaning devices.old) }
     ensures reported { IfOk result (λ status. IsReported status
         (Some (command_of order.entry))
         (outside F.held F.faults K.taken K.faults D.fresh D.meaning files.old out.old devices.old)
         (outside F.held F.faults K.taken K.faults D.fresh D.meaning files.new out.new devices.new)) }
-    ensures nothing { OnErr result (K.taken out.new ≡ K.taken out.old) }
+    ensures nothing { OnErr result (WritesNothing
+        (K.taken out.old) (K.taken out.new) (K.faults out.old) (K.faults out.new)) }
+    ensures left { OnErr result (LeavesDevices (Some (command_of order.entry))
+        (standings D.fresh D.meaning devices.old) (standings D.fresh D.meaning devices.new)) }
 {
     match order {
         Order::Run {
@@ -67,13 +73,16 @@ fn over_rounds<F: Files, K: Sink, D: Device>(
     named: Option<&str>,
     devices: &mut [D],
 ) -> Result<u8, NoMemory>
-    requires boxes { 16 ≤ length devices.old }
-    requires fresh { FreshBelow 16 (standings D.fresh D.meaning devices.old) }
+    requires boxes { device_limit ≤ length devices.old }
+    requires fresh { FreshBelow device_limit (standings D.fresh D.meaning devices.old) }
     ensures reported { IfOk result (λ status. IsReported status
         (Some (run agent.now (option_map (λ name. name.now) named.entry) true))
         (outside F.held F.faults K.taken K.faults D.fresh D.meaning files.old out.old devices.old)
         (outside F.held F.faults K.taken K.faults D.fresh D.meaning files.new out.new devices.new)) }
-    ensures nothing { OnErr result (K.taken out.new ≡ K.taken out.old) }
+    ensures nothing { OnErr result (WritesNothing
+        (K.taken out.old) (K.taken out.new) (K.faults out.old) (K.faults out.new)) }
+    ensures unserved { OnErr result (AreUnserved
+        (standings D.fresh D.meaning devices.old) (standings D.fresh D.meaning devices.new)) }
 {
     match ready_in(alloc, files, agent, named) {
         Ok(ready) => {
@@ -95,13 +104,16 @@ pub fn over_threads<R: Threads + Wait + Sync, F: Files, K: Sink, D: Device + Sen
     named: Option<&str>,
     devices: &mut [D],
 ) -> Result<u8, NoMemory>
-    requires boxes { 16 ≤ length devices.old }
-    requires fresh { FreshBelow 16 (standings D.fresh D.meaning devices.old) }
+    requires boxes { device_limit ≤ length devices.old }
+    requires fresh { FreshBelow device_limit (standings D.fresh D.meaning devices.old) }
     ensures reported { IfOk result (λ status. IsReported status
         (Some (run agent.now (option_map (λ name. name.now) named.entry) false))
         (outside F.held F.faults K.taken K.faults D.fresh D.meaning files.old out.old devices.old)
         (outside F.held F.faults K.taken K.faults D.fresh D.meaning files.new out.new devices.new)) }
-    ensures nothing { OnErr result (K.taken out.new ≡ K.taken out.old) }
+    ensures nothing { OnErr result (WritesNothing
+        (K.taken out.old) (K.taken out.new) (K.faults out.old) (K.faults out.new)) }
+    ensures unserved { OnErr result (AreUnserved
+        (standings D.fresh D.meaning devices.old) (standings D.fresh D.meaning devices.new)) }
 {
     match ready_in(alloc, files, agent, named) {
         Ok(ready) => {

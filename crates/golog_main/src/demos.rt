@@ -1,6 +1,7 @@
 // The demo: a run of the lift of a size.
 ghost use Rattle.std.specs.Prelude.{◌≡◌, ◌≤◌, IfOk, Ok, All, length};
 ghost use Rattle.golog_semantics.specs.WellFormed.{WellFormed};
+ghost use Rattle.golog_semantics.specs.Journal.{device_limit};
 ghost use Rattle.golog_device.specs.Slots.{standings, FreshBelow};
 ghost use Rattle.golog_script.specs.DevicesFile.{scripts_of};
 ghost use Rattle.golog_script.specs.ScriptTexts.{HasTexts};
@@ -20,8 +21,8 @@ pub fn demonstrated<D: Device>(
     size: u32,
     devices: &mut [D],
 ) -> Result<Outcome, NoMemory>
-    requires boxes { 16 ≤ length devices.old }
-    requires fresh { FreshBelow 16 (standings D.fresh D.meaning devices.old) }
+    requires boxes { device_limit ≤ length devices.old }
+    requires fresh { FreshBelow device_limit (standings D.fresh D.meaning devices.old) }
     ensures { IfOk result (Demonstrates size
         (standings D.fresh D.meaning devices.old) (standings D.fresh D.meaning devices.new)) }
 {
@@ -46,8 +47,8 @@ fn demonstrated_of<D: Device>(
     requires texts { All HasTexts ready.now.scripts }
     requires agent { SpellsAgent (demo_agent size) ready.now.agent }
     requires scripts { (scripts_of ready.now.agent.devices (demo_devices size)).outcome ≡ Ok ready.now.scripts }
-    requires boxes { 16 ≤ length devices.old }
-    requires fresh { FreshBelow 16 (standings D.fresh D.meaning devices.old) }
+    requires boxes { device_limit ≤ length devices.old }
+    requires fresh { FreshBelow device_limit (standings D.fresh D.meaning devices.old) }
     ensures { IfOk result (Demonstrates size
         (standings D.fresh D.meaning devices.old) (standings D.fresh D.meaning devices.new)) }
 {

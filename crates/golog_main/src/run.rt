@@ -1,19 +1,20 @@
 // A run of an agent whose devices follow scripts, or are handed in.
 ghost use Rattle.std.specs.Prelude.{◌≡◌, ◌≤◌, true, false, All, IfOk, OnErr, [], length};
 ghost use Rattle.golog_semantics.specs.WellFormed.{WellFormed};
+ghost use Rattle.golog_semantics.specs.Journal.{device_limit};
 ghost use Rattle.golog_device.specs.Slots.{standings, FreshBelow};
 ghost use Rattle.golog_journal.specs.Boards.{IsBoardList};
 ghost use Rattle.golog_journal.specs.Leading.{IsBehind};
 ghost use Rattle.golog_lead.specs.Rounds.{AreReady};
 ghost use Rattle.golog_script.specs.ScriptTexts.{HasTexts};
 ghost use Rattle.golog_commands.specs.Inputs.{scripts_for};
-ghost use Rattle.golog_commands.specs.Runs.{IsReportOf};
-ghost use Rattle.golog_commands.specs.Writing.{WritesReport};
+ghost use Rattle.golog_commands.specs.Runs.{AreUnserved, IsReportOf};
+ghost use Rattle.golog_commands.specs.Writing.{WritesNothing, WritesReport};
 ghost use Rattle.golog_main.specs.Runs.{RunsOn, ServedOn};
 
 use golog_agent::{Pen, RoundLead, Runner, Scribe, run_inline};
 use golog_base::{NoMemory, Sink};
-use golog_commands::{begun_with, ended_len, run_status};
+use golog_commands::{begun_with, run_status};
 use golog_device::Device;
 use golog_journal::Journal;
 use golog_script::Script;
@@ -26,8 +27,8 @@ use std::thread::Threads;
 
 /// Runs the agent's program without threads, with these scripts for its devices, writes each line of its journal when
 /// its entry is seen, and answers the exit status. A device that is not among the scripts has the empty one. Where
-/// memory is wanted for it nothing has run, and nothing is written: the pen is made first, so that a run that has begun
-/// is written.
+/// memory is wanted for it nothing has run, no device was served, and nothing is written: the pen is made first, so
+/// that a run that has begun is written.
 pub fn run_in_rounds<K: Sink, D: Device>(
     alloc: Global,
     agent: &Agent,
@@ -37,13 +38,16 @@ pub fn run_in_rounds<K: Sink, D: Device>(
 ) -> Result<u8, NoMemory>
     requires formed { WellFormed agent.now }
     requires texts { All HasTexts listed.now }
-    requires boxes { 16 ≤ length devices.old }
-    requires fresh { FreshBelow 16 (standings D.fresh D.meaning devices.old) }
+    requires boxes { device_limit ≤ length devices.old }
+    requires fresh { FreshBelow device_limit (standings D.fresh D.meaning devices.old) }
     ensures written { IfOk result (WritesReport
         (IsReportOf agent.now (scripts_for agent.now listed.now) true
         (standings D.fresh D.meaning devices.old) (standings D.fresh D.meaning devices.new))
         agent.now (K.taken out.old) (K.taken out.new) (K.faults out.old) (K.faults out.new)) }
-    ensures nothing { OnErr result (K.taken out.new ≡ K.taken out.old) }
+    ensures nothing { OnErr result (WritesNothing
+        (K.taken out.old) (K.taken out.new) (K.faults out.old) (K.faults out.new)) }
+    ensures unserved { OnErr result (AreUnserved
+        (standings D.fresh D.meaning devices.old) (standings D.fresh D.meaning devices.new)) }
 {
     let pen = Pen::new(alloc, agent)?;
     match begun_with(alloc, agent, listed, devices) {
@@ -67,13 +71,16 @@ pub fn run_on_threads<R: Threads + Wait + Sync, K: Sink, D: Device + Send>(
 ) -> Result<u8, NoMemory>
     requires formed { WellFormed agent.now }
     requires texts { All HasTexts listed.now }
-    requires boxes { 16 ≤ length devices.old }
-    requires fresh { FreshBelow 16 (standings D.fresh D.meaning devices.old) }
+    requires boxes { device_limit ≤ length devices.old }
+    requires fresh { FreshBelow device_limit (standings D.fresh D.meaning devices.old) }
     ensures written { IfOk result (WritesReport
         (IsReportOf agent.now (scripts_for agent.now listed.now) false
         (standings D.fresh D.meaning devices.old) (standings D.fresh D.meaning devices.new))
         agent.now (K.taken out.old) (K.taken out.new) (K.faults out.old) (K.faults out.new)) }
-    ensures nothing { OnErr result (K.taken out.new ≡ K.taken out.old) }
+    ensures nothing { OnErr result (WritesNothing
+        (K.taken out.old) (K.taken out.new) (K.faults out.old) (K.faults out.new)) }
+    ensures unserved { OnErr result (AreUnserved
+        (standings D.fresh D.meaning devices.old) (standings D.fresh D.meaning devices.new)) }
 {
     let pen = Pen::new(alloc, agent)?;
     match begun_with(alloc, agent, listed, devices) {
@@ -95,8 +102,8 @@ pub fn reported_in_rounds<D: Device>(
 ) -> Result<Report, NoMemory>
     requires formed { WellFormed agent.now }
     requires texts { All HasTexts listed.now }
-    requires boxes { 16 ≤ length devices.old }
-    requires fresh { FreshBelow 16 (standings D.fresh D.meaning devices.old) }
+    requires boxes { device_limit ≤ length devices.old }
+    requires fresh { FreshBelow device_limit (standings D.fresh D.meaning devices.old) }
     ensures { IfOk result (IsReportOf agent.now (scripts_for agent.now listed.now) true
         (standings D.fresh D.meaning devices.old) (standings D.fresh D.meaning devices.new)) }
 {
@@ -127,8 +134,7 @@ fn in_rounds<D: Device>(
         (standings D.fresh D.meaning devices.old) (standings D.fresh D.meaning devices.new) result }
 {
     run_inline(&mut runner, devices, agent, &mut journal);
-    // Says to the proof that the journal is short enough for a report.
-    let _length = ended_len(journal);
+    drop(journal);
     runner.report()
 }
 
@@ -153,8 +159,7 @@ fn written_in_rounds<K: Sink, D: Device>(
 {
     let mut scribe = Scribe::new(pen, out);
     run_inline(&mut scribe, devices, agent, &mut journal);
-    // Says to the proof that the journal is short enough for a report.
-    let _length = ended_len(journal);
+    drop(journal);
     let status = run_status(scribe.faulted(), scribe.answer());
     let _out = scribe.into_sink();
     status
@@ -180,7 +185,9 @@ fn written_on_threads<R: Threads + Wait + Sync, K: Sink, D: Device + Send>(
     ensures written { IfOk result (WritesReport (RunsOn agent.now false journal.entries
         (standings D.fresh D.meaning devices.old) (standings D.fresh D.meaning devices.new))
         agent.now (K.taken out.old) (K.taken out.new) (K.faults out.old) (K.faults out.new)) }
-    ensures nothing { OnErr result (K.taken out.new ≡ K.taken out.old) }
+    ensures nothing { OnErr result (WritesNothing
+        (K.taken out.old) (K.taken out.new) (K.faults out.old) (K.faults out.new)) }
+    ensures unserved { OnErr result (devices.new ≡ devices.old) }
 {
     let (served, _others) = devices.split_at_mut(agent.devices.len());
     served_on_threads(rt, alloc, agent, pen, journal, out, served)
@@ -206,7 +213,9 @@ fn served_on_threads<R: Threads + Wait + Sync, K: Sink, D: Device + Send>(
     requires ready { AreReady agent.now journal.entries }
     ensures written { IfOk result (WritesReport (ServedOn agent.now D.meaning journal.entries devices.old devices.new)
         agent.now (K.taken out.old) (K.taken out.new) (K.faults out.old) (K.faults out.new)) }
-    ensures nothing { OnErr result (K.taken out.new ≡ K.taken out.old) }
+    ensures nothing { OnErr result (WritesNothing
+        (K.taken out.old) (K.taken out.new) (K.faults out.old) (K.faults out.new)) }
+    ensures unserved { OnErr result (devices.new ≡ devices.old) }
 {
     let mut scribe = Scribe::new(pen, out);
     match run_threads(rt, alloc, &mut scribe, devices, agent, journal) {

@@ -1,11 +1,13 @@
 // The top call.
-ghost use Rattle.std.specs.Prelude.{◌≡◌, ◌≤◌, map, string_bytes, false, Some, IsSome, IfOk, OnErr, length};
+ghost use Rattle.std.specs.Prelude.{◌≡◌, ◌<◌, ◌≤◌, map, string_bytes, false, Some, IsSome, IfOk, OnErr, length};
+ghost use Rattle.golog_semantics.specs.Journal.{device_limit};
 ghost use Rattle.golog_device.specs.Slots.{standings, FreshBelow};
 ghost use Rattle.golog_words.specs.Answers.{command_of};
 ghost use Rattle.golog_words.specs.Commands.{command_in};
 ghost use Rattle.golog_commands.specs.CutShort.{LinesBegin};
 ghost use Rattle.golog_commands.specs.InWorlds.{RunsAreSo};
-ghost use Rattle.golog_commands.specs.Outcome.{CallEnds, IsReported, is_threaded, outside};
+ghost use Rattle.golog_commands.specs.Outcome.{CallEnds, IsReported, LeavesDevices, is_threaded, outside};
+ghost use Rattle.golog_commands.specs.Writing.{WritesNothing};
 
 use crate::commands::{over_threads, served};
 use golog_base::{Files, NoMemory, Sink};
@@ -39,8 +41,8 @@ use std::thread::Threads;
 /// the condition. The first of these that fits is the answer:
 ///
 /// - 2, `words refused`: the words are anything else.
-/// - 4, `read fault INPUT`: the file is not there, or a call of `files` failed. INPUT is `agent`, `devices` or
-///   `journal`.
+/// - 4, `read fault INPUT`: the file could not be read, which comes only where it is not there or a call of `files`
+///   failed. INPUT is `agent`, `devices` or `journal`.
 /// - 3, `refused INPUT CODE at PLACE`: the input spells nothing of its kind; the code and the place are those of
 ///   its first refusal, as of `golog_file::read_agent`, `golog_script::scripts_of`, `golog_reports::read_journal` and
 ///   `golog_file::read_condition`, or 5 at its limit where it has more bytes. INPUT may be `condition` too.
@@ -54,14 +56,14 @@ use std::thread::Threads;
 ///   before it, each step of the journal is a step of the program left, which may end there where the
 ///   journal says done, and may neither step nor end where it says stuck.
 ///
-/// Each line ends with a line feed. The lines of a run are written as their entries are seen. Where a write fails
-/// nothing more is written and the answer is 5: a prefix of the text is written, of a run the beginning of the text
-/// of an online execution, and the run goes on to its end. Where memory runs out the answer is 6; nothing is
-/// written, or the journal of a run that ends `memory`.
+/// Each line ends with a line feed. Where the sink's count of faults rises the answer is 5, before any other: a prefix
+/// of the text is written, of a run the beginning of the text of an online execution, and the run goes on to its end.
+/// Where memory runs out the answer is 6: nothing is written, and each device of a run is as it was or has begun and
+/// was given and told nothing; or the journal of a run that ends `memory` is written.
 ///
-/// With `--inline` the devices have their turns in rounds with the program, on this thread. Without it each has a
-/// thread of its own, and the program this one; such a run may wait for ever, as where a device's call does, or
-/// where no thread can be made.
+/// With `--inline` the devices have their turns in rounds with the program. Without it the call makes threads for them;
+/// such a run may wait for ever, as where a device's call does, or where no thread can be made. That they run beside
+/// each other, and that a line of a run is written when its entry is seen, is not among the clauses: tests look.
 pub fn golog<R: Threads + Wait + Sync, F: Files, K: Sink, D: Device + Send>(
     rt: &R,
     alloc: Global,
@@ -70,11 +72,12 @@ pub fn golog<R: Threads + Wait + Sync, F: Files, K: Sink, D: Device + Send>(
     out: &mut K,
     devices: &mut [D],
 ) -> u8
-    requires boxes { 16 ≤ length devices.old }
-    requires fresh { FreshBelow 16 (standings D.fresh D.meaning devices.old) }
+    requires boxes { device_limit ≤ length devices.old }
+    requires fresh { FreshBelow device_limit (standings D.fresh D.meaning devices.old) }
     ensures ends { CallEnds result (command_in (map string_bytes words.now))
         (outside F.held F.faults K.taken K.faults D.fresh D.meaning files.old out.old devices.old)
         (outside F.held F.faults K.taken K.faults D.fresh D.meaning files.new out.new devices.new) }
+    ensures fault { K.faults out.old < K.faults out.new → result ≡ 5 }
     ensures so { RunsAreSo result (command_in (map string_bytes words.now))
         (outside F.held F.faults K.taken K.faults D.fresh D.meaning files.old out.old devices.old)
         (outside F.held F.faults K.taken K.faults D.fresh D.meaning files.new out.new devices.new) }
@@ -94,11 +97,12 @@ pub fn serve_inline<F: Files, K: Sink, D: Device>(
     devices: &mut [D],
 ) -> u8
     requires way { is_threaded (command_of order) ≡ false }
-    requires boxes { 16 ≤ length devices.old }
-    requires fresh { FreshBelow 16 (standings D.fresh D.meaning devices.old) }
+    requires boxes { device_limit ≤ length devices.old }
+    requires fresh { FreshBelow device_limit (standings D.fresh D.meaning devices.old) }
     ensures ends { CallEnds result (Some (command_of order.entry))
         (outside F.held F.faults K.taken K.faults D.fresh D.meaning files.old out.old devices.old)
         (outside F.held F.faults K.taken K.faults D.fresh D.meaning files.new out.new devices.new) }
+    ensures fault { K.faults out.old < K.faults out.new → result ≡ 5 }
     ensures so { RunsAreSo result (Some (command_of order.entry))
         (outside F.held F.faults K.taken K.faults D.fresh D.meaning files.old out.old devices.old)
         (outside F.held F.faults K.taken K.faults D.fresh D.meaning files.new out.new devices.new) }
@@ -118,12 +122,15 @@ fn answered<R: Threads + Wait + Sync, F: Files, K: Sink, D: Device + Send>(
     out: &mut K,
     devices: &mut [D],
 ) -> Result<u8, NoMemory>
-    requires boxes { 16 ≤ length devices.old }
-    requires fresh { FreshBelow 16 (standings D.fresh D.meaning devices.old) }
+    requires boxes { device_limit ≤ length devices.old }
+    requires fresh { FreshBelow device_limit (standings D.fresh D.meaning devices.old) }
     ensures reported { IfOk result (λ status. IsReported status (command_in (map string_bytes words.now))
         (outside F.held F.faults K.taken K.faults D.fresh D.meaning files.old out.old devices.old)
         (outside F.held F.faults K.taken K.faults D.fresh D.meaning files.new out.new devices.new)) }
-    ensures nothing { OnErr result (K.taken out.new ≡ K.taken out.old) }
+    ensures nothing { OnErr result (WritesNothing
+        (K.taken out.old) (K.taken out.new) (K.faults out.old) (K.faults out.new)) }
+    ensures left { OnErr result (LeavesDevices (command_in (map string_bytes words.now))
+        (standings D.fresh D.meaning devices.old) (standings D.fresh D.meaning devices.new)) }
     ensures command { OnErr result (IsSome (command_in (map string_bytes words.now))) }
 {
     match order_of(alloc, words) {
@@ -142,13 +149,16 @@ fn done<R: Threads + Wait + Sync, F: Files, K: Sink, D: Device + Send>(
     out: &mut K,
     devices: &mut [D],
 ) -> Result<u8, NoMemory>
-    requires boxes { 16 ≤ length devices.old }
-    requires fresh { FreshBelow 16 (standings D.fresh D.meaning devices.old) }
+    requires boxes { device_limit ≤ length devices.old }
+    requires fresh { FreshBelow device_limit (standings D.fresh D.meaning devices.old) }
     ensures reported { IfOk result (λ status. IsReported status
         (Some (command_of order.entry))
         (outside F.held F.faults K.taken K.faults D.fresh D.meaning files.old out.old devices.old)
         (outside F.held F.faults K.taken K.faults D.fresh D.meaning files.new out.new devices.new)) }
-    ensures nothing { OnErr result (K.taken out.new ≡ K.taken out.old) }
+    ensures nothing { OnErr result (WritesNothing
+        (K.taken out.old) (K.taken out.new) (K.faults out.old) (K.faults out.new)) }
+    ensures left { OnErr result (LeavesDevices (Some (command_of order.entry))
+        (standings D.fresh D.meaning devices.old) (standings D.fresh D.meaning devices.new)) }
 {
     match order {
         Order::Run {

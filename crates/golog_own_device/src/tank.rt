@@ -61,7 +61,7 @@ impl Device for Tank {
     ghost fresh = { λ tank. tank.fresh };
 
     // Nothing is told of what it was given and told, so that the journal alone is promised.
-    ghost meaning = { λ tank. record { cut = false; given = None; told = None; left = None } };
+    ghost meaning = { λ tank. record { name = None; cut = false; given = None; told = None; left = None } };
 
     fn begin(&mut self, _alloc: Global, _name: &[u8], _script: &[u8]) -> Begun {
         self.fresh = false;

@@ -51,10 +51,15 @@ of-journal agent of_runner list entries report is same whole = is ∙ ap (λ a. 
 pub returns-clause-fits : goal.returns-clause-fits
 returns-clause-fits g c =
     let is = of-journal c.args.agent.now _ _ _ _ c.report.ensures.entries (c.run_inline.ensures.same.same_agent ∙ ap (λ (r : Course). r.agent) c.in_ok-runner.ensures) c.run_inline.ensures.whole in
-    subst (IsReport c.args.agent.now) (sym is) (is-report c.args.agent.now _ c.requires.formed c.run_inline.ensures.lawful c.len-entries.ensures.most)
+    subst (IsReport c.args.agent.now) (sym is) (is-report c.args.agent.now _ c.requires.formed c.run_inline.ensures.lawful c.run_inline.ensures.short)
 
 pub returns-clause-online : goal.returns-clause-online
 returns-clause-online g c =
     let is = of-journal c.args.agent.now _ _ _ _ c.report.ensures.entries (c.run_inline.ensures.same.same_agent ∙ ap (λ (r : Course). r.agent) c.in_ok-runner.ensures) c.run_inline.ensures.whole in
     subst (IsOnline c.args.agent.now) (sym is)
     ((whole_is_online c.args.agent.now (report_of c.args.agent.now _)).whole c.run_inline.ensures.ran.kept c.run_inline.ensures.ran.whole)
+
+pub returns-clause-begun : goal.returns-clause-begun
+returns-clause-begun g c =
+    ap (λ (r : Report). r.start)
+    (of-journal c.args.agent.now _ _ _ _ c.report.ensures.entries (c.run_inline.ensures.same.same_agent ∙ ap (λ (r : Course). r.agent) c.in_ok-runner.ensures) c.run_inline.ensures.whole)

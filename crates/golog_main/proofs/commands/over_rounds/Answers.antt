@@ -1,7 +1,9 @@
 use Rattle.std.proofs.Common.{true, refl}
 use Rattle.std.specs.Prelude.{option_map}
+use Rattle.golog_device.specs.Slots.{standings}
 use Rattle.golog_commands.specs.Outcome.{outside}
-use Rattle.golog_commands.proofs.Reporting.{runs-reported, unready-nothing, unready-reported}
+use Rattle.golog_commands.proofs.Begun.{none-served}
+use Rattle.golog_commands.proofs.Reporting.{on-err, runs-reported, unready-nothing, unready-reported}
 use Rattle.golog_main.proofs.commands.over_rounds.Goals as goal
 
 pub run_in_rounds-status-requires-clause-texts : goal.run_in_rounds-status-requires-clause-texts
@@ -25,3 +27,6 @@ returns-in-Err-clause-reported g c =
 
 pub returns-in-Err-clause-nothing : goal.returns-in-Err-clause-nothing
 returns-in-Err-clause-nothing g c = unready-nothing c.in-Err.unready c.report_unready.result _ _ _ _ c.report_unready.ensures
+
+pub returns-in-Err-clause-unserved : goal.returns-in-Err-clause-unserved
+returns-in-Err-clause-unserved g c = on-err c.report_unready.result _ (none-served (standings g.D.Device.fresh g.D.Device.meaning c.args.devices.now))

@@ -1,7 +1,7 @@
 use Rattle.std.proofs.Common.{Some, refl}
 use Rattle.golog_words.specs.Commands.{check, replay, ask}
 use Rattle.golog_commands.specs.Outcome.{outside}
-use Rattle.golog_commands.proofs.Reporting.{demo-reported, outcome-nothing, plain-reported}
+use Rattle.golog_commands.proofs.Reporting.{demo-reported, on-err, outcome-nothing, plain-reported}
 use Rattle.golog_main.proofs.commands.served.Goals as goal
 
 pub returns-in-Check-clause-reported : goal.returns-in-Check-clause-reported
@@ -47,3 +47,18 @@ returns-in-Demo-clause-reported g c =
 
 pub returns-in-Demo-clause-nothing : goal.returns-in-Demo-clause-nothing
 returns-in-Demo-clause-nothing g c = outcome-nothing c.demonstrated.result c.report_if-in-Demo.result _ _ _ _ c.report_if-in-Demo.ensures
+
+pub returns-in-Run-clause-left : goal.returns-in-Run-clause-left
+returns-in-Run-clause-left g c = rw c.in-Run.is c.over_rounds.ensures.unserved
+
+pub returns-in-Check-clause-left : goal.returns-in-Check-clause-left
+returns-in-Check-clause-left g c = rw c.in-Check.is (on-err c.report_if.result _ refl)
+
+pub returns-in-Replay-clause-left : goal.returns-in-Replay-clause-left
+returns-in-Replay-clause-left g c = rw c.in-Replay.is (on-err c.report_if-in-Replay.result _ refl)
+
+pub returns-in-Ask-clause-left : goal.returns-in-Ask-clause-left
+returns-in-Ask-clause-left g c = rw c.in-Ask.is (on-err c.report_if-in-Ask.result _ refl)
+
+pub returns-in-Demo-clause-left : goal.returns-in-Demo-clause-left
+returns-in-Demo-clause-left g c = rw c.in-Demo.is (on-err c.report_if-in-Demo.result _ tt)

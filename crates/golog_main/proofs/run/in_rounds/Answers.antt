@@ -10,4 +10,4 @@ returns g c =
     let stand = standings g.D.Device.fresh g.D.Device.meaning in
     of-rounds c.args.agent.now c.args.journal.entries c.run_inline.new.board.entries (stand c.args.devices.now) (stand c.run_inline.new.devices) c.report.result
     (c.report.ensures.entries ∙ ap (λ a. report_of a c.run_inline.new.lead.list) (c.run_inline.ensures.same.same_agent ∙ ap (λ (r : Course). r.agent) c.requires.runner) ∙ ap (report_of c.args.agent.now) c.run_inline.ensures.whole)
-    c.run_inline.ensures.lawful c.ended_len-length.ensures.most c.run_inline.ensures.ran
+    c.run_inline.ensures.lawful c.run_inline.ensures.short c.run_inline.ensures.ran

@@ -3,6 +3,8 @@ use Rattle.std.proofs.lemmas.List.{length-map}
 use Rattle.golog_device.specs.Slots.{standings}
 use Rattle.golog_commands.specs.Inputs.{script_under, scripts_for}
 use Rattle.golog_commands.specs.Runs.{IsReportOf}
+use Rattle.golog_commands.proofs.Begun.{none-served}
+use Rattle.golog_commands.proofs.Reporting.{on-err}
 use Rattle.golog_main.specs.Runs.{RunsOn}
 use Rattle.golog_main.proofs.Begun.{enough-boxes}
 use Rattle.golog_main.proofs.Reported.{reports-run}
@@ -12,13 +14,13 @@ use Rattle.golog_main.proofs.run.run_in_rounds.Goals as goal
 pub written_in_rounds-requires : goal.written_in_rounds-requires
 written_in_rounds-requires g c = record {
   pen = c.in_ok-pen.ensures;
-  agent = c.in-Ok.ensures.begun.same_agent;
-  lawful = c.in-Ok.ensures.begun.lawful;
-  behind = c.in-Ok.ensures.begun.behind;
+  agent = c.in-Ok.ensures.begun.begun.same_agent;
+  lawful = c.in-Ok.ensures.begun.begun.lawful;
+  behind = c.in-Ok.ensures.begun.begun.behind;
   boxes =
       enough-boxes (λ d. record { fresh = g.D.Device.fresh d; meaning = g.D.Device.meaning d }) c.args.devices.now c.begun_with.new.devices (length c.args.agent.now.devices)
-      _ _ _ c.in-Ok.ensures.begun.begun c.requires.formed.small.devices c.requires.boxes;
-  ready = c.in-Ok.ensures.begun.ready;
+      _ _ _ _ c.in-Ok.ensures.begun.begun.begun c.requires.formed.small.devices c.requires.boxes;
+  ready = c.in-Ok.ensures.begun.begun.ready;
 }
 
 pub returns-in-Ok-clause-written : goal.returns-in-Ok-clause-written
@@ -31,5 +33,8 @@ returns-in-Ok-clause-written g c =
     let mids = stand c.begun_with.new.devices in
     let news = stand c.written_in_rounds.new.devices in
     write-more (RunsOn agent true before.entries mids news) (IsReportOf agent scripts true olds news) agent _ _ _ _ c.written_in_rounds.result
-    (λ report ran. reports-run agent scripts true before olds mids news report c.requires.formed (length-map agent.devices (script_under c.args.listed.now)) c.in-Ok.ensures ran)
+    (λ report ran. reports-run agent scripts true before olds mids news report c.requires.formed (length-map agent.devices (script_under c.args.listed.now)) c.in-Ok.ensures.begun ran)
     c.written_in_rounds.ensures
+
+pub returns-in_err-pen-clause-unserved : goal.returns-in_err-pen-clause-unserved
+returns-in_err-pen-clause-unserved g c = on-err c.from_residual.result _ (none-served (standings g.D.Device.fresh g.D.Device.meaning c.args.devices.now))

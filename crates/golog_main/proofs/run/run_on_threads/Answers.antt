@@ -3,6 +3,8 @@ use Rattle.std.proofs.lemmas.List.{length-map}
 use Rattle.golog_device.specs.Slots.{standings}
 use Rattle.golog_commands.specs.Inputs.{script_under, scripts_for}
 use Rattle.golog_commands.specs.Runs.{IsReportOf}
+use Rattle.golog_commands.proofs.Begun.{begun-unserved, none-served, still-unserved}
+use Rattle.golog_commands.proofs.Reporting.{on-err}
 use Rattle.golog_main.specs.Runs.{RunsOn}
 use Rattle.golog_main.proofs.Begun.{enough-boxes}
 use Rattle.golog_main.proofs.Reported.{reports-run}
@@ -19,8 +21,8 @@ written_on_threads-requires g c = (
       (
         c.in_ok-pen.ensures,
         (
-          c.in-Ok.ensures.begun.same_agent,
-          (c.in-Ok.ensures.begun.lawful, (c.in-Ok.ensures.begun.behind, (boxes, c.in-Ok.ensures.begun.ready))),
+          c.in-Ok.ensures.begun.begun.same_agent,
+          (c.in-Ok.ensures.begun.begun.lawful, (c.in-Ok.ensures.begun.begun.behind, (boxes, c.in-Ok.ensures.begun.begun.ready))),
         ),
       ),
     ),
@@ -30,7 +32,7 @@ written_on_threads-requires g c = (
     boxes : length c.args.agent.now.devices ≤ length c.begun_with.new.devices
     boxes =
         enough-boxes (λ d. record { fresh = g.D.Device.fresh d; meaning = g.D.Device.meaning d }) c.args.devices.now c.begun_with.new.devices (length c.args.agent.now.devices)
-        _ _ _ c.in-Ok.ensures.begun.begun c.requires.formed.small.devices c.requires.boxes
+        _ _ _ _ c.in-Ok.ensures.begun.begun.begun c.requires.formed.small.devices c.requires.boxes
 
 pub returns-in-Ok-clause-written : goal.returns-in-Ok-clause-written
 returns-in-Ok-clause-written g c =
@@ -42,5 +44,13 @@ returns-in-Ok-clause-written g c =
     let mids = stand c.begun_with.new.devices in
     let news = stand c.written_on_threads.new.devices in
     writes-more (RunsOn agent false before.entries mids news) (IsReportOf agent scripts false olds news) agent _ _ _ _ c.written_on_threads.result
-    (λ report ran. reports-run agent scripts false before olds mids news report c.requires.formed (length-map agent.devices (script_under c.args.listed.now)) c.in-Ok.ensures ran)
+    (λ report ran. reports-run agent scripts false before olds mids news report c.requires.formed (length-map agent.devices (script_under c.args.listed.now)) c.in-Ok.ensures.begun ran)
     c.written_on_threads.ensures.written
+
+pub returns-in_err-pen-clause-unserved : goal.returns-in_err-pen-clause-unserved
+returns-in_err-pen-clause-unserved g c = on-err c.from_residual.result _ (none-served (standings g.D.Device.fresh g.D.Device.meaning c.args.devices.now))
+
+pub returns-in-Ok-clause-unserved : goal.returns-in-Ok-clause-unserved
+returns-in-Ok-clause-unserved g c =
+    still-unserved (standings g.D.Device.fresh g.D.Device.meaning) c.args.devices.now c.begun_with.new.devices c.written_on_threads.new.devices c.written_on_threads.result
+    (begun-unserved _ _ _ _ _ _ c.in-Ok.ensures.begun.begun.begun) c.written_on_threads.ensures.unserved

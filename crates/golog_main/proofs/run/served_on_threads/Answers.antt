@@ -2,11 +2,11 @@ use Rattle.std.proofs.Common.{◌≡◌, sym, ap, refl, ◌∙◌, subst, rules}
 use Rattle.golog_semantics.specs.InlineText.{report_of}
 use Rattle.golog_semantics.specs.Online.{IsOnline, IsOnlineSoFar}
 use Rattle.golog_semantics.proofs.LaterRuns.{whole_is_online}
-use Rattle.golog_journal.specs.Leading.{Mind, Outlet}
+use Rattle.golog_journal.specs.Leading.{Outlet}
 use Rattle.golog_lead.specs.Courses.{Course}
 use Rattle.golog_main.specs.Runs.{ServedOn}
 use Rattle.golog_main.proofs.Served.{threads-whole}
-use Rattle.golog_main.proofs.Reporting.{has-answer, nothing-written, same-outlet, scribe-writes, written-of}
+use Rattle.golog_main.proofs.Reporting.{has-answer, same-outlet, scribe-writes, written-of}
 use Rattle.golog_main.proofs.run.served_on_threads.Goals as goal
 
 pub run_status-status-requires : goal.run_status-status-requires
@@ -39,14 +39,14 @@ returns-in-Ok-clause-written g c =
 
 pub returns-in-Err-clause-nothing : goal.returns-in-Err-clause-nothing
 returns-in-Err-clause-nothing g c =
-    let last = c.run_threads.new.lead in
     let taken = g.K.Sink.taken in
-    let list = ap (λ (m : Mind). m.list) c.in-Err.ensures.memory.0 ∙ ap (λ (p : Course). p.list) (c.new-scribe.ensures.core ∙ c.requires.pen) in
+    let faults = g.K.Sink.faults in
     let outlet = same-outlet _ _ c.run_threads.ensures.same.same_outlet in
-    let base = ap (λ (o : Outlet). o.base) outlet ∙ ap taken c.new-scribe.ensures.base in
     let name = c.into_sink-out-in-Err.ensures.same_reference ∙ ap (λ (o : Outlet). o.name) outlet ∙ c.new-scribe.ensures.same_reference in
-    let has = c.run_threads.ensures.stands (c.new-scribe.ensures.stands (ap (λ (p : Course). p.list) c.requires.pen)) in
-    let value = c.into_sink-out-in-Err.ensures.value in
-    let same : taken last.driver.record.out.now ≡ taken c.args.out.now = nothing-written last.driver.core.agent last.driver.core.list _ _ _ _ last.driver.record.faulted list has ∙ base in
-    let here : taken c.into_sink-out-in-Err.result.now ≡ taken c.args.out.now = ap taken value ∙ same in
-    search rules
+    let value = rw c.in-Err.ensures.memory.0 at c.into_sink-out-in-Err.ensures.value in
+    let here : taken c.into_sink-out-in-Err.result.now ≡ taken c.args.out.now = ap taken (value ∙ c.new-scribe.ensures.value) in
+    let count : faults c.into_sink-out-in-Err.result.now ≡ faults c.args.out.now = ap faults (value ∙ c.new-scribe.ensures.value) in
+    (search rules, search rules)
+
+pub returns-in-Err-clause-unserved : goal.returns-in-Err-clause-unserved
+returns-in-Err-clause-unserved g c = c.in-Err.ensures.memory.1

@@ -40,6 +40,6 @@ returns g c =
     (written-of last.driver.core.agent last.driver.core.list last.driver.record.faulted _ _ _ _ _ _ _ _ base (sym (ap taken value) ∙ ap taken (learned name assumption)) count (sym (ap faults value) ∙ ap faults (learned name assumption)) has)
     same
     (of-rounds agent before board (stand c.args.devices.now) (stand c.run_inline.new.devices) (report_of agent last.driver.core.list) (ap (report_of agent) c.run_inline.ensures.whole)
-    c.run_inline.ensures.lawful c.ended_len-length.ensures.most c.run_inline.ensures.ran)
+    c.run_inline.ensures.lawful c.run_inline.ensures.short c.run_inline.ensures.ran)
     c.answer.ensures ended
     (λ fault. c.run_status-status.ensures.fault (c.faulted.ensures ∙ fault)) (λ whole. c.run_status-status.ensures.shown (c.faulted.ensures ∙ whole))

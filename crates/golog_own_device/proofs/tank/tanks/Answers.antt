@@ -5,5 +5,5 @@ use Rattle.golog_own_device.proofs.tank.tanks.Goals as goal
 
 pub returns-clause-fresh : goal.returns-clause-fresh
 returns-clause-fresh c =
-    fresh-below (λ (tank : Tank). tank.fresh) (λ (tank : Tank). record { cut = false; given = None; told = None; left = None }) c.loop.devices.items 16
+    fresh-below (λ (tank : Tank). tank.fresh) (λ (tank : Tank). record { name = None; cut = false; given = None; told = None; left = None }) c.loop.devices.items 16
     (omega (arith, c.loop.invariant.many)) c.loop.invariant.fresh
