@@ -17,7 +17,7 @@ use std::sync::Wait;
 use std::thread::Threads;
 
 /// How many bytes a call may write.
-const ROOM: u32 = 4_000_000;
+const ROOM: u32 = 13_000_000;
 
 /// Whether the file of this name can be read and what comes of its cases is wanted. Each case is told.
 pub fn all_so_in<R: Threads + Wait + Sync, F: Files, K: Sink>(

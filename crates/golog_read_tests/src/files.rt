@@ -52,12 +52,6 @@ fn is_read<F: Files>(alloc: Global, files: &mut F, name: &str, bytes: &[u8], lim
     }
 }
 
-/// Whether bytes of the selected file are read on.
-fn reads_on<F: Files>(files: &mut F) -> bool {
-    let mut buf = [0; 4];
-    files.read(&mut buf).is_ok()
-}
-
 /// What comes of a text and of what is too long, missing and long.
 fn held_came(alloc: Global) -> Result<(bool, [Came; 3]), NoMemory> {
     let mut files = held(alloc, &[])?;
@@ -78,20 +72,18 @@ fn reads_a_held_file(rt: HostRuntime) -> Result<(), NoMemory> {
     Ok(())
 }
 
-/// What comes of a reading whose calls are `select`, `read` and the `read` that fails; whether bytes are read on
-/// then, and what comes of another reading.
-fn failing_came(alloc: Global) -> Result<(Came, bool, Came), NoMemory> {
+/// What comes of a reading whose calls are `select`, `read` and the `read` that fails, and of another one.
+fn failing_came(alloc: Global) -> Result<(Came, Came), NoMemory> {
     let mut files = held(alloc, &[2])?;
     let first = came_of(alloc, &mut files, "long", 3000);
-    let reads = reads_on(&mut files);
     let second = came_of(alloc, &mut files, "long", 3000);
     drop(files);
-    Ok((first, reads, second))
+    Ok((first, second))
 }
 
 #[test]
 fn a_read_fails_in_mid_stream(rt: HostRuntime) -> Result<(), NoMemory> {
-    let wanted = (Came::Failed, false, Came::Bytes(3000));
+    let wanted = (Came::Failed, Came::Bytes(3000));
     same(&rt, "failing", failing_came(rt.alloc())?, wanted);
     Ok(())
 }

@@ -159,3 +159,39 @@ fn spells_some(alloc: Global, file: &[u8]) -> bool {
 fn a_condition_has_its_sort_and_place(rt: HostRuntime) {
     same(&rt, "some", spells_some(rt.alloc(), WORLD), true);
 }
+
+/// Whether the result of the one action that senses may come later.
+fn is_later(theory: &DraftTheory) -> bool {
+    match theory.senses.as_slice() {
+        [sense] => sense.later,
+        _ => false,
+    }
+}
+
+/// The same over the theory of a file.
+fn is_sensed_later(alloc: Global, file: &[u8]) -> Option<bool> {
+    let read = theory_in(alloc, file);
+    let answer = match &read {
+        Ok(theory) => Some(is_later(theory)),
+        Err(_fault) => None,
+    };
+    drop(read);
+    answer
+}
+
+#[test]
+fn a_result_may_come_later_where_the_item_says_so(rt: HostRuntime) {
+    let files: [(&[u8], bool); 2] = [
+        (
+            b"(agent (device d) (fluent p () bool) (action look () d) (senses (look) (p)) (main nil))",
+            false,
+        ),
+        (
+            b"(agent (device d) (fluent p () bool) (action look () d) (senses (look) (p) later) (main nil))",
+            true,
+        ),
+    ];
+    for (file, wanted) in files {
+        same(&rt, file, is_sensed_later(rt.alloc(), file), Some(wanted));
+    }
+}

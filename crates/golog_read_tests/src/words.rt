@@ -1,5 +1,5 @@
 use crate::asserting::same;
-use golog_base::{Boxed, List, NoMemory, Text, Word, both, is_name};
+use golog_base::{Boxed, Bytes, List, NoMemory, Text, Word, add_decimal, both, is_name};
 use std::alloc::Global;
 
 /// What is declared by a name, as the records of higher crates are.
@@ -132,6 +132,13 @@ fn has_text(alloc: Global, text: &str) -> Result<bool, NoMemory> {
     Ok(made.as_str() == text)
 }
 
+/// Whether a number's digits stand behind what stood there.
+fn has_digits(alloc: Global, number: usize, text: &[u8]) -> Result<bool, NoMemory> {
+    let mut bytes = Bytes::copy_of(alloc, b"n ")?;
+    add_decimal(&mut bytes, number)?;
+    Ok(bytes.as_slice() == text)
+}
+
 fn has_value(alloc: Global, value: u32) -> Result<bool, NoMemory> {
     let made = Boxed::new(alloc, value)?;
     let shared = made.share()?;
@@ -140,8 +147,13 @@ fn has_value(alloc: Global, value: u32) -> Result<bool, NoMemory> {
 
 #[test]
 fn texts_and_boxes(rt: HostRuntime) -> Result<(), NoMemory> {
-    let told = [has_text(rt.alloc(), "tëxt")?, has_value(rt.alloc(), 7)?];
-    same(&rt, "told", told, [true; 2]);
+    let told = [
+        has_text(rt.alloc(), "tëxt")?,
+        has_value(rt.alloc(), 7)?,
+        has_digits(rt.alloc(), 0, b"n 0")?,
+        has_digits(rt.alloc(), 1_048_576, b"n 1048576")?,
+    ];
+    same(&rt, "told", told, [true; 4]);
     Ok(())
 }
 

@@ -91,7 +91,7 @@ impl<C: Clock + Drop> Device for Actor<'_, '_, C> {
 
     ghost fresh = { λ actor. is_fresh actor.table };
 
-    ghost meaning = { λ actor. record { cut = false; given = None; told = None; left = None } };
+    ghost meaning = { λ actor. record { name = None; cut = false; given = None; told = None; left = None } };
 
     fn begin(&mut self, alloc: Global, name: &[u8], script: &[u8]) -> Begun {
         self.table.begin(alloc, name, script)

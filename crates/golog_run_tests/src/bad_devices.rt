@@ -3,6 +3,7 @@ use crate::asserting::same;
 use crate::calls::{Call, RUN_ON_THREADS, Setting, file_of};
 use crate::replays::{found_of, posts_in, said_behind, ticks_of};
 use crate::slots::threaded_with;
+use crate::tables::FULL_ROOM;
 use golog_base::{NoMemory, both};
 use std::alloc::Global;
 use std::process::Abort;
@@ -37,16 +38,23 @@ const POKE: &str = "(seq (act poke) (act look) (test (lit)) (test (over)) (test 
 const PEEK: &str =
     "(seq (act look) (test (lit)) (test (over)) (act peek) (test (seen)) (test (not (over))))";
 
-/// Runs this program over these devices.
+/// How many bytes the journal of a run may have that doesn't fill it.
+const ROOM: u32 = 10_000;
+
+/// Runs this program over these devices, with room for so many bytes of a journal.
 fn played_by<R: Threads + Wait + Sync>(
     threads: &R,
     alloc: Global,
     program: &str,
     actors: &Actors<'_, '_, HostRuntime>,
+    room: u32,
 ) -> Result<Call, NoMemory> {
     let agent = file_of(alloc, ITEMS, program)?;
     let file = ("x.agent", agent.as_slice());
-    let setting = Setting::roomy(RUN_ON_THREADS, file, ("x.devices", b"[]"));
+    let setting = Setting {
+        room,
+        ..Setting::of(RUN_ON_THREADS, file, ("x.devices", b"[]"))
+    };
     let ran = threaded_with(threads, alloc, &setting, actors);
     drop(agent);
     ran
@@ -61,6 +69,7 @@ fn played_beside<'a, R: Threads + Wait + Sync>(
     bad: Part<'a>,
     awaited: u64,
     counts: (&'a AtomicU64, &'a AtomicU64),
+    room: u32,
 ) -> Result<Call, NoMemory> {
     let good = Part {
         awaited,
@@ -74,7 +83,7 @@ fn played_beside<'a, R: Threads + Wait + Sync>(
         one,
         two,
     };
-    played_by(threads, rt.alloc(), program, &actors)
+    played_by(threads, rt.alloc(), program, &actors, room)
 }
 
 /// The same from the first words on.
@@ -84,9 +93,10 @@ fn played<R: Threads + Wait + Sync>(
     program: &str,
     bad: Part<'_>,
     awaited: u64,
+    room: u32,
 ) -> Result<Call, NoMemory> {
     let (one, two) = (AtomicU64::new(0), AtomicU64::new(0));
-    played_beside(threads, rt, program, bad, awaited, (&one, &two))
+    played_beside(threads, rt, program, bad, awaited, (&one, &two), room)
 }
 
 /// Whether nothing of the good device is lost.
@@ -133,7 +143,7 @@ fn told_of<R: Threads + Wait + Sync>(
     program: &str,
     bad: Part<'_>,
 ) -> Result<(u8, String), NoMemory> {
-    let call = played(threads, rt, program, bad, 0)?;
+    let call = played(threads, rt, program, bad, 0, ROOM)?;
     let (status, journal) = call.said();
     let account = account_of(rt.alloc(), program, journal);
     drop(call);
@@ -257,7 +267,7 @@ fn ended_with(
     })
 }
 
-/// The same, where the good device awaits so many words of the bad one.
+/// The same, where the good device awaits so many words of the bad one, which may fill the journal.
 fn ended_of<R: Threads + Wait + Sync>(
     threads: &R,
     rt: &HostRuntime,
@@ -267,7 +277,7 @@ fn ended_of<R: Threads + Wait + Sync>(
     closings: &[&str],
     said: &str,
 ) -> Result<Ended, NoMemory> {
-    let call = played(threads, rt, program, bad, awaited)?;
+    let call = played(threads, rt, program, bad, awaited, FULL_ROOM)?;
     let ended = ended_with(rt.alloc(), program, bad, &call, closings, said);
     drop(call);
     ended
@@ -277,7 +287,7 @@ fn ended_of<R: Threads + Wait + Sync>(
 // journal is full. It is closed in place of the next one, unless the program has ended before that.
 #[test]
 fn a_device_posts_without_end(rt: HostRuntime) -> Result<(), NoMemory> {
-    let ticks = ticks_of(rt.alloc(), 65_540)?;
+    let ticks = ticks_of(rt.alloc(), 1_048_580)?;
     let bad = Part {
         awaited: 5,
         ..Part::of("", ticks.as_str())

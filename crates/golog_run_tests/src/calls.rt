@@ -2,7 +2,7 @@ ghost use Rattle.std.specs.Prelude.{◌≤◌, length};
 ghost use Rattle.golog_device.specs.Slots.{standings, FreshBelow};
 
 use crate::asserting::same;
-use golog_base::{Bytes, HeldFile, List, MemFiles, MemSink, NoMemory, Text, both};
+use golog_base::{Bytes, HeldFile, List, MemFiles, MemSink, NoMemory, Sink, Text, both};
 use golog_device::Device;
 use golog_main::{NO_MEMORY, golog, is_threaded, script_devices, serve_inline};
 use golog_words::{WordsFault, order_of};
@@ -220,13 +220,31 @@ fn call_of<D: Device>(alloc: Global, handed: Handed, devices: &mut [D]) -> Call
     Call { status, out }
 }
 
+/// The exit status of a call over these devices that writes to this sink.
+pub fn served_to<K: Sink, D: Device>(
+    alloc: Global,
+    setting: &Setting<'_>,
+    out: &mut K,
+    devices: &mut [D],
+) -> Result<u8, NoMemory>
+    requires boxes { 16 ≤ length devices.old }
+    requires fresh { FreshBelow 16 (standings D.fresh D.meaning devices.old) }
+{
+    let words = words_of(alloc, setting.words);
+    let (words, mut files) = both(words, files_of(alloc, setting))?;
+    let status = served(alloc, words.as_slice(), &mut files, out, devices);
+    drop(words);
+    drop(files);
+    Ok(status)
+}
+
 /// Does what these words say, which need no threads, and answers the exit status. It promises nothing, so that no test
 /// carries the clauses of the call.
-fn served<D: Device>(
+fn served<K: Sink, D: Device>(
     alloc: Global,
     words: &[String],
     files: &mut MemFiles,
-    out: &mut MemSink,
+    out: &mut K,
     devices: &mut [D],
 ) -> u8
     requires boxes { 16 ≤ length devices.old }

@@ -25,3 +25,5 @@ mod slots;
 mod tables;
 #[cfg(test)]
 mod threads;
+#[cfg(test)]
+mod written;

@@ -2,7 +2,7 @@ use crate::asserting::same;
 use crate::calls::{Call, Setting, called_by, file_of, has_said};
 use crate::slots::{Maker, called_with, sixteen};
 use crate::tables::Table;
-use golog_base::{Bytes, List, NoMemory, Word};
+use golog_base::{Bytes, List, NoMemory};
 use golog_device::{Begun, Device, Idle, Served};
 use std::alloc::Global;
 
@@ -18,26 +18,31 @@ const DOOR: &str = "
 /// Looks, and goes where the door is open.
 const LOOK: &str = "(seq (act look) (if (opened) (act go) (act knock)))";
 
-/// A device of the test's own: it answers the first command that senses with `false`, and rests. It keeps
+/// A device of the test's own: it answers the first command that senses with `false`, and rests. It tells
 /// the name under which it began.
 #[derive(Drop)]
 struct Shut {
     fresh: bool,
-    name: Option<Word>,
+    name: Bytes,
     answer: Option<Bytes>,
 }
 
 impl Device for Shut {
-    ghost use Rattle.std.specs.Prelude.{false, None};
+    ghost use Rattle.std.specs.Prelude.{false, None, Some};
 
     ghost fresh = { λ shut. shut.fresh };
 
-    ghost meaning = { λ shut. record { cut = false; given = None; told = None; left = None } };
+    ghost meaning = { λ shut. record { name = Some shut.name; cut = false; given = None; told = None; left = None } };
 
-    fn begin(&mut self, _alloc: Global, name: &[u8], _script: &[u8]) -> Begun {
-        self.name = Word::of(name);
-        self.fresh = false;
-        Begun::Ready
+    fn begin(&mut self, alloc: Global, name: &[u8], _script: &[u8]) -> Begun {
+        match List::copy_of(alloc, name) {
+            Ok(name) => {
+                self.name = name;
+                self.fresh = false;
+                Begun::Ready
+            }
+            Err(NoMemory) => Begun::Memory,
+        }
     }
 
     fn serve(&mut self, _action: &[u8], asked: bool) -> Served {
@@ -64,7 +69,7 @@ impl Maker<Shut> for Shutting {
         let answer = List::copy_of(alloc, b"false")?;
         Ok(Shut {
             fresh: true,
-            name: None,
+            name: List::new(alloc),
             answer: Some(answer),
         })
     }
@@ -73,13 +78,8 @@ impl Maker<Shut> for Shutting {
 /// Whether the device of this slot began under this name.
 fn began_as(devices: &[Shut], slot: usize, name: &[u8]) -> bool {
     match devices.get(slot) {
-        Some(
-            Shut {
-                name: Some(word),
-                ..
-            },
-        ) => word.as_bytes() == name,
-        _ => false,
+        Some(device) => device.name.as_slice() == name,
+        None => false,
     }
 }
 

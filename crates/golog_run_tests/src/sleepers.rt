@@ -81,7 +81,7 @@ impl<'a, C: Clock + Drop> Maker<Sleeper<'a, C>> for Sleepers<'a, C> {
 }
 
 /// Agents whose runs depend on the times of their devices, each with the devices' scripts.
-const PLAYS: [(&[u8], &[u8]); 6] = [
+const PLAYS: [(&[u8], &[u8]); 7] = [
     // A wind may slam a door before it has answered, or after.
     (
         b"(agent (device wind) (device door) (fluent opened () bool)
@@ -96,6 +96,15 @@ const PLAYS: [(&[u8], &[u8]); 6] = [
             (senses (look) (opened)) (causes (slam) (opened) false)
             (main (seq (act look) (test (not (opened))))))",
         br#"[{"name":"wind","idle":["slam","slam"]},{"name":"door","idle":["rest"]}]"#,
+    ),
+    // Two doors are asked beside each other, and either may answer first. One that is open is enough to go on.
+    (
+        b"(agent (device front) (device back) (fluent in_front () bool) (fluent behind () bool)
+            (action ask_front () front) (action ask_back () back) (action go ()) (action knock ())
+            (senses (ask_front) (in_front) later) (senses (ask_back) (behind) later)
+            (main (seq (act ask_front) (act ask_back) (if (or (in_front) (behind)) (act go) (act knock)))))",
+        br#"[{"name":"front","answers":["true"],"idle":["rest"]},
+            {"name":"back","answers":["false"],"idle":["rest"]}]"#,
     ),
     // A way may be blocked before a plan, during it or behind it.
     (

@@ -26,8 +26,11 @@ const LIFT: &str = "
   (causes (push f) (on f) true)
   (causes (quit) (quitting) true)";
 
-/// How many bytes a journal may have.
-const ROOM: u32 = 2_000_000;
+/// How many bytes a journal may have that isn't full.
+const ROOM: u32 = 1000;
+
+/// How many bytes a journal may have that is full.
+pub const FULL_ROOM: u32 = 27_000_000;
 
 /// What is done without a command by this word: it rests, closes, or posts the word.
 fn idle_of(alloc: Global, word: &str) -> Result<Idle, NoMemory> {
@@ -126,11 +129,11 @@ impl Maker<TableDevice> for Wild<'_> {
     }
 }
 
-/// Runs the lift's agent with this program over such devices.
-fn played(alloc: Global, program: &str, wild: &Wild<'_>) -> Result<Call, NoMemory> {
+/// Runs the lift's agent with this program over such devices, with room for so many bytes of a journal.
+fn played(alloc: Global, program: &str, wild: &Wild<'_>, room: u32) -> Result<Call, NoMemory> {
     let file = file_of(alloc, LIFT, program)?;
     let setting = Setting {
-        room: ROOM,
+        room,
         ..Setting::run(file.as_slice())
     };
     let call = called_with(alloc, &setting, wild);
@@ -205,7 +208,7 @@ fn wild_devices_are_closed(rt: HostRuntime) -> Result<(), NoMemory> {
             },
             lift: Table::of(values, "rest"),
         };
-        let call = played(rt.alloc(), program, &wild);
+        let call = played(rt.alloc(), program, &wild, ROOM);
         has_said(&rt, words, call, (status, journal))?;
     }
     Ok(())
@@ -214,10 +217,12 @@ fn wild_devices_are_closed(rt: HostRuntime) -> Result<(), NoMemory> {
 /// The journal of a panel that posts until the journal is full.
 fn full_journal(alloc: Global) -> Result<String, NoMemory> {
     let mut journal = String::from_str(alloc, "0 exo panel push(1)\n1 rest lift 0\n")?;
-    for place in 2..65_536u32 {
+    for place in 2..1_048_576u32 {
         push_post(alloc, &mut journal, place)?;
     }
-    journal.push_str("65536 end full\n65537 close panel stopped 0\n65538 close lift stopped 0\n")?;
+    journal.push_str(
+        "1048576 end full\n1048577 close panel stopped 0\n1048578 close lift stopped 0\n",
+    )?;
     Ok(journal)
 }
 
@@ -231,12 +236,12 @@ fn push_post(alloc: Global, journal: &mut String, place: u32) -> Result<(), NoMe
 fn played_full(alloc: Global) -> Result<(u8, bool), NoMemory> {
     let wild = Wild {
         panel: Table {
-            times: 65_540,
+            times: 1_048_580,
             ..Table::of("", "push(1)")
         },
         lift: Table::of("", "rest"),
     };
-    let call = played(alloc, "(test (quitting))", &wild);
+    let call = played(alloc, "(test (quitting))", &wild, FULL_ROOM);
     let (call, wanted) = both(call, full_journal(alloc))?;
     let (status, journal) = call.said();
     Ok((status, journal == wanted.as_str()))

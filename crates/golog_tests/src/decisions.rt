@@ -1,4 +1,4 @@
-ghost use Rattle.golog_semantics.specs.SortLaws.{AreInSorts};
+ghost use Rattle.golog_semantics.specs.InSorts.{AreInSorts};
 ghost use Rattle.golog_semantics.specs.WellFormed.{WellFormed};
 
 use crate::asserting::same;

@@ -83,7 +83,7 @@ const WHOLE: &[u8] = b"0 do go(-1)
 ";
 
 /// Texts that are refused, each with the code and the line.
-const REFUSED: [(&[u8], u8, u32); 55] = [
+const REFUSED: [(&[u8], u8, u32); 56] = [
     // A line has a body and a line feed.
     (b"\n", 50, 0),
     (b"0 test", 50, 0),
@@ -118,11 +118,12 @@ const REFUSED: [(&[u8], u8, u32); 55] = [
     (b"5 do zz\n", 51, 0),
     (b"1234567890123456789012345678901234567890 test\n", 51, 0),
     (b"0 sense d 9999999 zz\n", 51, 0),
-    (b"0 rest zz 1048576\n", 51, 0),
+    (b"0 rest zz 2097152\n", 51, 0),
     (b"0 close zz bad 18446744073709551616\n", 51, 0),
     (b"0 test\n0 test\n", 51, 1),
     // Names are the agent's.
     (b"0 do zz\n", 52, 0),
+    (b"0 rest zz 1048576\n", 52, 0),
     (b"0 do go(4)\n", 52, 0),
     (b"0 do go(1,1,1,1)\n", 52, 0),
     (b"0 do push(1)\n", 52, 0),

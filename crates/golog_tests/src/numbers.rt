@@ -5,7 +5,7 @@ ghost use Rattle.golog_semantics.specs.WellFormed.{WellFormed};
 use crate::agents::LIFT;
 use crate::asserting::same;
 use golog_file::read_agent;
-use golog_ground::read_action;
+use golog_ground::{fluent_text, read_action};
 use golog_tree::{
     Agent, Ground, MOST_ARGS, action_no, action_of, args_count, fluent_no, fluent_of,
 };
@@ -47,6 +47,14 @@ fn is_open(agent: &Agent, number: u32) -> bool
     ground == RIGHT_OPEN_AT_1 && fluent_no(agent, ground.item, args) == number
 }
 
+/// Whether the fluent of this number has this text.
+fn has_text(agent: &Agent, number: u32, text: &[u8]) -> bool
+    requires formed { WellFormed agent.now }
+    requires number { number < length agent.now.starts }
+{
+    fluent_text(agent, number).as_bytes() == text
+}
+
 /// Whether that action is the one of number 14, as its text is read: before it are the 2 built in, 5 of
 /// `off`, 5 that turn the left door, and 2 that turn the right one at lower levels.
 fn turning_is_numbered(agent: &Agent) -> bool
@@ -59,11 +67,14 @@ fn turning_is_numbered(agent: &Agent) -> bool
 }
 
 /// Whether that fluent is the one of number 8: before it are the one built in, 5 of the left door, and 2 of
-/// the right one at lower levels.
+/// the right one at lower levels. Both have their texts.
 fn open_is_numbered(agent: &Agent) -> bool
     requires { WellFormed agent.now }
 {
-    8 < agent.starts.as_slice().len() && is_open(agent, 8)
+    8 < agent.starts.as_slice().len()
+        && is_open(agent, 8)
+        && has_text(agent, 8, b"open(right,1)")
+        && has_text(agent, 0, b"interrupts_running")
 }
 
 /// Whether both hold of the agent of `LIFT`.

@@ -4,9 +4,9 @@ ghost use Rattle.golog_semantics.specs.WellFormed.{WellFormed};
 
 use crate::agents::{LAMP, action_of};
 use crate::asserting::same;
-use golog_base::NoMemory;
+use golog_base::{List, NoMemory};
 use golog_file::read_agent;
-use golog_progress::{Entry, State, start};
+use golog_progress::{Entry, State, advance, restart, start};
 use golog_tree::Agent;
 use std::alloc::Global;
 
@@ -51,6 +51,31 @@ fn after_entry(alloc: Global, agent: &Agent, action: u32) -> Result<[u8; 3], NoM
     Ok(three(&state))
 }
 
+/// The values after an action as they are put in the place of those before, which a state is set to then.
+fn after_advancing(alloc: Global, agent: &Agent, action: u32) -> Result<[u8; 3], NoMemory>
+    requires formed { WellFormed agent.now }
+    requires action { action < length (ground_actions agent.now) }
+{
+    let mut state = start(alloc, agent)?;
+    let mut next = List::copy_of(alloc, state.values())?.into_vec();
+    advance(agent, action, state.values(), next.as_mut_slice());
+    state.set(next.as_slice());
+    Ok(three(&state))
+}
+
+/// The values of a state of those after an action, and those at the start of the agent that begins anew from them.
+fn begun_anew(alloc: Global, agent: &mut Agent, action: u32) -> Result<[[u8; 3]; 2], NoMemory>
+    requires formed { WellFormed agent.old }
+    requires action { action < length (ground_actions agent.old) }
+{
+    let mut state = start(alloc, agent)?;
+    state.after_do(agent, action);
+    let again = State::of(alloc, agent, state.values())?;
+    restart(alloc, agent, state.values())?;
+    let anew = start(alloc, agent)?;
+    Ok([three(&again), three(&anew)])
+}
+
 /// The values once a sensing has told the last of them, and those of a copy that was made before.
 fn after_sensing(alloc: Global, agent: &Agent) -> Result<[[u8; 3]; 2], NoMemory>
     requires { WellFormed agent.now }
@@ -63,30 +88,41 @@ fn after_sensing(alloc: Global, agent: &Agent) -> Result<[[u8; 3]; 2], NoMemory>
     Ok([three(&state), three(&copy)])
 }
 
-/// The values after the action of this text, those of a copy from before it, and those after the action's entry. The empty
-/// text stands for the sensing.
-fn after_text(alloc: Global, agent: &Agent, text: &[u8]) -> Option<[[u8; 3]; 3]>
-    requires { WellFormed agent.now }
+/// The values after the action, those of a copy from before it, and those after the action's entry and by each other
+/// way to come to them.
+fn after_action(alloc: Global, agent: &mut Agent, action: u32) -> Result<[[u8; 3]; 6], NoMemory>
+    requires formed { WellFormed agent.old }
+    requires action { action < length (ground_actions agent.old) }
+{
+    let [after, copy] = after_one(alloc, agent, action)?;
+    let rolled = after_entry(alloc, agent, action)?;
+    let advanced = after_advancing(alloc, agent, action)?;
+    let [again, anew] = begun_anew(alloc, agent, action)?;
+    Ok([after, copy, rolled, advanced, again, anew])
+}
+
+/// The same of the action of this text. The empty text stands for the sensing.
+fn after_text(alloc: Global, agent: &mut Agent, text: &[u8]) -> Option<[[u8; 3]; 6]>
+    requires { WellFormed agent.old }
 {
     if text.is_empty() {
         let [after, copy] = after_sensing(alloc, agent).ok()?;
-        return Some([after, copy, after]);
+        return Some([after, copy, after, after, after, after]);
     }
     let action = action_of(agent, text)?;
-    let [after, copy] = after_one(alloc, agent, action).ok()?;
-    let rolled = after_entry(alloc, agent, action).ok()?;
-    Some([after, copy, rolled])
+    after_action(alloc, agent, action).ok()
 }
 
 /// The same of the agent that a file spells.
-fn after(alloc: Global, file: &[u8], text: &[u8]) -> Option<[[u8; 3]; 3]> {
-    let read = read_agent(alloc, file);
-    let answer = match &read {
-        Ok(agent) => after_text(alloc, agent, text),
+fn after(alloc: Global, file: &[u8], text: &[u8]) -> Option<[[u8; 3]; 6]> {
+    match read_agent(alloc, file) {
+        Ok(mut agent) => {
+            let answer = after_text(alloc, &mut agent, text);
+            drop(agent);
+            answer
+        }
         Err(_fault) => None,
-    };
-    drop(read);
-    answer
+    }
 }
 
 // Each agent and action with the values before, which a copy keeps, and after it.
@@ -102,7 +138,7 @@ fn actions_and_sensing_change_values(rt: HostRuntime) {
         (DIGITS, b"second(3,5)", [0, 1, 255], [0, 1, 255]),
     ];
     for (file, text, before, after_it) in actions {
-        let wanted = Some([after_it, before, after_it]);
+        let wanted = Some([after_it, before, after_it, after_it, after_it, after_it]);
         same(&rt, text, after(rt.alloc(), file, text), wanted);
     }
 }

@@ -7,7 +7,7 @@ use crate::asserting::same;
 use crate::runs::agent_of;
 use golog_base::{List, NoMemory};
 use golog_journal::{
-    Answer, Board, Commit, DEVICES, Entry, Item, Journal, Posted, Reason, sense_for,
+    Answer, Board, Commit, Counts, DEVICES, Entry, Item, Journal, Posted, Reason, sense_for,
 };
 use golog_tree::{Agent, SenseItem};
 use std::alloc::Global;
@@ -204,6 +204,7 @@ fn sensing(alloc: Global, action: u32, fluent: u32) -> SenseItem {
         action,
         fluent,
         args: List::new(alloc),
+        later: false,
     }
 }
 
@@ -229,6 +230,72 @@ fn the_first_item_for_an_action_is_found(rt: HostRuntime) {
         same(&rt, action, fluent_for(rt.alloc(), action), fluent);
     }
     same(&rt, "no items", sense_for(&[], 4).is_none(), true);
+}
+
+/// A door that looks and peeks. The result of the second may come later.
+const DOOR: &[u8] = b"(agent (device door) (fluent opened () bool) (fluent locked () bool)
+    (action look () door) (action peek () door) (action go ())
+    (senses (look) (opened)) (senses (peek) (locked) later) (main nil))";
+
+/// Whose result the program waits for behind an action, whether it waits for one, and whether there is one.
+type Told = (Option<u8>, bool, bool);
+
+fn result_of(counts: &Counts, action: u32) -> Told {
+    let facts = counts.facts();
+    (
+        counts.held_of(action),
+        facts.is_held(action),
+        facts.is_sensing(action),
+    )
+}
+
+/// The same of the first action behind the two that are built in, of the three behind it, and whether a result lacks or
+/// may come before the first entry.
+fn results_of(counts: &Counts) -> ([Told; 4], [bool; 2]) {
+    let results = [
+        result_of(counts, 2),
+        result_of(counts, 3),
+        result_of(counts, 4),
+        result_of(counts, 5),
+    ];
+    (results, [counts.lacks_results(), counts.may_be_answered()])
+}
+
+fn results_at_first(alloc: Global, agent: &Agent) -> Option<([Told; 4], [bool; 2])>
+    requires { WellFormed agent.now }
+{
+    match Counts::new(alloc, agent) {
+        Ok(counts) => {
+            let results = results_of(&counts);
+            drop(counts);
+            Some(results)
+        }
+        Err(NoMemory) => None,
+    }
+}
+
+fn results_of_door(alloc: Global) -> Option<([Told; 4], [bool; 2])> {
+    match agent_of(alloc, DOOR) {
+        Some(agent) => {
+            let results = results_at_first(alloc, &agent);
+            drop(agent);
+            results
+        }
+        None => None,
+    }
+}
+
+// The program waits for the result of a look alone. To go has none, and there is no fourth action.
+#[test]
+fn results_are_waited_for_or_may_come_later(rt: HostRuntime) {
+    let none = (None, false, false);
+    let results = [(Some(0), true, true), (None, false, true), none, none];
+    same(
+        &rt,
+        "door",
+        results_of_door(rt.alloc()),
+        Some((results, [false; 2])),
+    );
 }
 
 // How many devices the agent of a file has.

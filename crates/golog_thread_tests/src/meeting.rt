@@ -137,7 +137,7 @@ impl Device for Guest<'_> {
 
     ghost fresh = { λ guest. guest.fresh };
 
-    ghost meaning = { λ guest. record { cut = false; given = None; told = None; left = None } };
+    ghost meaning = { λ guest. record { name = None; cut = false; given = None; told = None; left = None } };
 
     fn begin(&mut self, _alloc: Global, _name: &[u8], _script: &[u8]) -> Begun {
         self.fresh = false;

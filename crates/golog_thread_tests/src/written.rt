@@ -74,7 +74,7 @@ impl Device for Follower<'_> {
 
     ghost fresh = { λ follower. follower.fresh };
 
-    ghost meaning = { λ _. record { cut = false; given = None; told = None; left = None } };
+    ghost meaning = { λ _. record { name = None; cut = false; given = None; told = None; left = None } };
 
     fn begin(&mut self, _alloc: Global, _name: &[u8], _script: &[u8]) -> Begun {
         self.fresh = false;
