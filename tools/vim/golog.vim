@@ -17,6 +17,8 @@ syntax match gologUse "\%((\s*\)\@<=[A-Za-z_][A-Za-z0-9_-]*[A-Za-z0-9_+=<-]\@!"
 syntax match gologOperator "\%((\s*\)\@<=\%(not\|and\|or\|some\|all\|<=\|<\|=\|+\|-\)[A-Za-z0-9_+=<-]\@!"
 syntax match gologProgram "\%((\s*\)\@<=\%(act\|test\|seq\|choice\|pick\|star\|if\|while\|conc\|prio\|cstar\|call\|search\|interrupts\|interrupt\)[A-Za-z0-9_+=<-]\@!"
 syntax match gologItem "\%((\s*\)\@<=\%(agent\|start\|poss\|causes\|senses\|main\|sort\|device\|fluent\|action\|exo\|proc\)[A-Za-z0-9_+=<-]\@!"
+" The last word of a senses item: it stands between two closing brackets.
+syntax match gologItem "\%()\s\+\)\@<=later\%(\s*)\)\@="
 syntax match gologDeclared "\%((\s*\%(sort\|device\|fluent\|action\|exo\|proc\)\s\+\)\@<=[A-Za-z_][A-Za-z0-9_-]*[A-Za-z0-9_+=<-]\@!"
 syntax match gologComment ";.*$"
 
