@@ -47,9 +47,9 @@ impl Env {
         requires { var < 32 }
         ensures { result ≡ slice_set self.now var value }
     {
-        let mut values = self.values;
-        values[usize::from(var)] = value;
-        Env { values }
+        let mut env = *self;
+        env.values[usize::from(var)] = value;
+        env
     }
 
     /// The first variables have these values, and no other is set.

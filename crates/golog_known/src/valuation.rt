@@ -54,20 +54,20 @@ pub fn value(agent: &Agent, cond: &Cond, env: &Env, values: &[u8]) -> Truth
         }
         Cond::Equal { one, other, .. } => {
             equal(
-                term(agent, one, env, values),
-                term(agent, other, env, values),
+                side(agent, one, env, values),
+                side(agent, other, env, values),
             )
         }
         Cond::Less { one, other, .. } => {
             less(
-                term(agent, one, env, values),
-                term(agent, other, env, values),
+                side(agent, one, env, values),
+                side(agent, other, env, values),
             )
         }
         Cond::AtMost { one, other, .. } => {
             at_most(
-                term(agent, one, env, values),
-                term(agent, other, env, values),
+                side(agent, one, env, values),
+                side(agent, other, env, values),
             )
         }
         Cond::Not(body) => negation(value(agent, body.get(), env, values)),
@@ -77,6 +77,39 @@ pub fn value(agent: &Agent, cond: &Cond, env: &Env, values: &[u8]) -> Truth
             for_some(agent, *var, *sort, body.get(), env, values)
         }
         Cond::ForAll { var, sort, body } => for_all(agent, *var, *sort, body.get(), env, values),
+    }
+}
+
+/// The value of a side of a comparison, as [`term`] gives it: a constant, a variable and a fluent without a call.
+#[cycle(value)]
+#[inline]
+fn side(agent: &Agent, side: &Term, env: &Env, values: &[u8]) -> u8
+    requires countable { IsCountable agent.now }
+    requires fits { TermFitsAt agent.now side.now env.now }
+    requires whole { length values.now ≡ length (ground_fluents agent.now) }
+    ensures { result ≡ value_of agent.now values.now side.now env.now }
+{
+    match side {
+        Term::Arg(arg) => env.arg_value(*arg),
+        Term::Fluent { fluent, args } => fluent_at(agent, *fluent, args.as_slice(), env, values),
+        Term::Shift { .. } | Term::Ite { .. } => term(agent, side, env, values),
+    }
+}
+
+/// The truth of a part of a condition, as [`value`] gives it: a fluent, which most parts are, without a call.
+#[cycle(value)]
+#[inline]
+fn part(agent: &Agent, cond: &Cond, env: &Env, values: &[u8]) -> Truth
+    requires countable { IsCountable agent.now }
+    requires fits { CondFitsAt agent.now cond.now env.now }
+    requires whole { length values.now ≡ length (ground_fluents agent.now) }
+    ensures { result ≡ truth_of agent.now values.now cond.now env.now }
+{
+    match cond {
+        Cond::Is { fluent, args } => {
+            less(0, fluent_at(agent, *fluent, args.as_slice(), env, values))
+        }
+        _ => value(agent, cond, env, values),
     }
 }
 
@@ -90,7 +123,7 @@ fn all_of(agent: &Agent, conds: &[Cond], env: &Env, values: &[u8]) -> Truth
 {
     let mut all = Truth::Yes;
     for cond in conds {
-        all = both(all, value(agent, cond, env, values));
+        all = both(all, part(agent, cond, env, values));
         if all == Truth::No {
             return all;
         }
@@ -108,7 +141,7 @@ fn any_of(agent: &Agent, conds: &[Cond], env: &Env, values: &[u8]) -> Truth
 {
     let mut any = Truth::No;
     for cond in conds {
-        any = either(any, value(agent, cond, env, values));
+        any = either(any, part(agent, cond, env, values));
         if any == Truth::Yes {
             return any;
         }

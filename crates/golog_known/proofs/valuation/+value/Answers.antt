@@ -69,16 +69,16 @@ pub any_of-returns : goal.any_of-returns
 any_of-returns t c =
     all-Or c.args.agent.now c.args.values.now c.args.conds.now c.args.env.now c.loop-cond.cond-index c.loop-cond.any c.loop-cond.invariant (omega arith)
 
-pub all_of-value-requires : goal.all_of-value-requires
-all_of-value-requires t c =
+pub all_of-part-requires : goal.all_of-part-requires
+all_of-part-requires t c =
     let inside : c.loop-cond.cond-index < length c.args.conds.now = omega arith in
     let parts = parts-And c.args.agent.now c.args.env.now c.args.conds.now c.requires.fits in
     let fits : CondFitsAt c.args.agent.now c.cond-item.result c.args.env.now = subst (λ d. CondFitsAt c.args.agent.now d c.args.env.now) (sym c.cond-item.is) (parts c.loop-cond.cond-index c.cond-item.result inside) in
     let smaller = item_smaller the_size c.args.conds.now c.loop-cond.cond-index c.cond-item.result c.cond-item.is inside in
     search rules
 
-pub any_of-value-requires : goal.any_of-value-requires
-any_of-value-requires t c =
+pub any_of-part-requires : goal.any_of-part-requires
+any_of-part-requires t c =
     let inside : c.loop-cond.cond-index < length c.args.conds.now = omega arith in
     let parts = parts-Or c.args.agent.now c.args.env.now c.args.conds.now c.requires.fits in
     let fits : CondFitsAt c.args.agent.now c.cond-item.result c.args.env.now = subst (λ d. CondFitsAt c.args.agent.now d c.args.env.now) (sym c.cond-item.is) (parts c.loop-cond.cond-index c.cond-item.result inside) in
