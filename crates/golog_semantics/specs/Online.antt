@@ -105,8 +105,7 @@ module _ (agent : Agent) (before : Journal) where
   is_first label [] = false
   is_first label (m ∷ ms) = same_label label m.label && nat_le (nest m.left) nest_limit
 
-  -- no result is awaited, the program may not end, the journal takes one more entry, and this is the first
-  -- step
+  -- no command is held, the program may not end, the journal takes one more entry, and this is the first step
   abbrev pub may_step : Values → Prog → Label → Bool
   may_step values p label =
       is_settled agent before && not (final agent values Must p) && nat_lt (count before) limit
@@ -130,7 +129,7 @@ module _ (agent : Agent) (before : Journal) where
   keeps_run printed values p e = same_run printed (run_begun values p e)
 
   -- The program ends with its answer, or for want of memory. It may end for want of fuel where it is heavy,
-  -- the journal is not full, and no result is awaited.
+  -- the journal is not full, and no command is held.
   abbrev pub may_end : Values → Prog → Answer → Bool
   may_end values p Memory = true
   may_end values p Fuel =
