@@ -1,4 +1,5 @@
 pub mod Amounts
+pub mod Bools
 pub mod KnownLemmas
 pub mod MemFilesLemmas
 pub mod WordLemmas
