@@ -4,6 +4,7 @@ use Rattle.std.specs.Prelude.{IfOk}
 use Rattle.std.specs.List.{flat_map, list_all}
 use Rattle.std.proofs.lemmas.List.Concat.{flat_map-cons}
 use Rattle.std.proofs.lemmas.List.Folds.{list_all-append}
+use Rattle.golog_base.proofs.Bools.{and-true}
 use Rattle.golog_form.specs.declared.class.ByteClass.{ByteClass}
 use Rattle.golog_form.specs.declared.class.ByteClass.TheVariants as bytes
 use Rattle.golog_form.specs.declared.form.Form.{Form}
@@ -87,19 +88,15 @@ items_alike (r ∷ rs) =
     ∙ ap (λ b. b && list_all token_fits (flat_map spelling (forms rs))) r.1
     ∙ ap (λ b. atoms_fit r.0 && b) (items_alike rs)
 
-and_true : (b : Bool) → (b && true) ≡ b
-and_true true = refl
-and_true false = refl
-
 layer : (y : Form-F Alike) → FitsAlike (roll-Form (map-Form Alike Form (λ r. r.0) y))
 layer (Atom text at end) =
     subst FitsAlike (sym (form.rolls-Atom text at end))
-    (ap (list_all token_fits) (spelling-Atom text at end) ∙ and_true (atom_fits text) ∙ sym (fit-Atom text at end))
+    (ap (list_all token_fits) (spelling-Atom text at end) ∙ and-true (atom_fits text) ∙ sym (fit-Atom text at end))
 layer (Group rs at end) =
     subst FitsAlike (sym (form.rolls-Group (forms rs) at end))
     (ap (list_all token_fits) (spelling-Group (forms rs) at end)
     ∙ list_all-append token_fits (flat_map spelling (forms rs)) (token.Close end ∷ [])
-    ∙ and_true (list_all token_fits (flat_map spelling (forms rs)))
+    ∙ and-true (list_all token_fits (flat_map spelling (forms rs)))
     ∙ items_alike rs
     ∙ sym (fit-Group (forms rs) at end))
 

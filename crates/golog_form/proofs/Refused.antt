@@ -4,6 +4,7 @@ use Rattle.std.specs.Prelude.{IsTrue}
 use Rattle.std.proofs.lemmas.Bool.{cases_Bool, leb-true, leb-false}
 use Rattle.std.proofs.lemmas.List.Sums.{fold-append}
 use Rattle.std.proofs.lemmas.List.Folds.{list_any-append}
+use Rattle.golog_base.proofs.Bools.{or-true}
 use Rattle.golog_form.specs.declared.form.Form.{Form}
 use Rattle.golog_form.specs.declared.form.Form.TheVariants as form
 use Rattle.golog_form.specs.declared.parser.Level.{Level}
@@ -55,15 +56,11 @@ Verdict before after end (Err (why, at)) = FirstFrom before after end why at
 open_lists-more : (before : List Token) (t : Token) → open_lists (before ++ t ∷ []) ≡ after_token (open_lists before) t
 open_lists-more before t = fold-append after_token 0 before (t ∷ [])
 
-or_true : (b : Bool) → (b || true) ≡ true
-or_true true = refl
-or_true false = refl
-
 -- a form has begun after a token that begins one, or that stands after one that does
 formed-by : (before : List Token) (t : Token) → begins_form t ≡ true → has_form (before ++ t ∷ []) ≡ true
 formed-by before t begins =
     let more = list_any-append begins_form before (t ∷ []) in
-    rw (more, begins) (or_true (has_form before))
+    rw (more, begins) (or-true (has_form before))
 
 formed-before : (before : List Token) (t : Token) → has_form before ≡ true → has_form (before ++ t ∷ []) ≡ true
 formed-before before t formed =

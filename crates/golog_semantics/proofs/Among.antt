@@ -2,6 +2,7 @@
 use Rattle.std.proofs.Common.{◌≡◌, ℕ, zero, suc, ◌<◌, Bool, true, false, ◌||◌, if◌then◌else◌, List, [], ◌∷◌, ◌++◌, length, map, filter, refl, sym, ap, ◌∙◌, subst, arith, inl, inr, ◌⊎◌, get_or, Some}
 use Rattle.std.specs.Prelude.{Contains, slice_get}
 use Rattle.std.specs.List.{flat_map, list_any}
+use Rattle.golog_base.proofs.Bools.{or-true}
 
 module _ {A : Type 0} where
   abbrev pub Among : List A → A → Type 0
@@ -61,11 +62,7 @@ module _ {A : Type 0} where
   pub any-among : (p : A → Bool) (xs : List A) (x : A) → Among xs x → p x ≡ true → list_any p xs ≡ true
   any-among p [] x h k = absurd h
   any-among p (y ∷ xs) x (inl e) k = ap (λ b. b || list_any p xs) (ap p e ∙ k)
-  any-among p (y ∷ xs) x (inr h) k = ap (λ b. p y || b) (any-among p xs x h k) ∙ or_true (p y)
-    where
-      or_true : (b : Bool) → (b || true) ≡ true
-      or_true true = refl
-      or_true false = refl
+  any-among p (y ∷ xs) x (inr h) k = ap (λ b. p y || b) (any-among p xs x h k) ∙ or-true (p y)
 
   pub among-any : (p : A → Bool) (xs : List A) → list_any p xs ≡ true → (x : A) × (Among xs x × (p x ≡ true))
   among-any p [] h = absurd (cc)

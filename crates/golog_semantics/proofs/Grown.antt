@@ -8,6 +8,7 @@ use Rattle.std.proofs.lemmas.List.Elements.{filter-append, filter_map-append}
 use Rattle.std.proofs.lemmas.List.Folds.{list_any-append}
 use Rattle.std.proofs.lemmas.Grind.{flat_map-append}
 use Rattle.std.proofs.lemmas.List.{append-nil}
+use Rattle.golog_base.proofs.Bools.{and-true, or-false}
 use Rattle.golog_tree.specs.declared.agent.Agent.{Agent}
 use Rattle.golog_semantics.specs.declared.journal.Entry.{Entry}
 use Rattle.golog_semantics.specs.declared.journal.PlacedRun.{PlacedRun}
@@ -18,12 +19,8 @@ use Rattle.golog_semantics.specs.OneMore.{and_then, with_runs, EntriesGrow, Post
 use Rattle.golog_semantics.proofs.Pushed.{fold-push, values_after-push, left_after-push, at_each-push, first_fault-push, or-left, or-right}
 use Rattle.golog_semantics.proofs.NoFaults.{no-fault-so_far, so_far-no-fault}
 
-or_false : (b : Bool) → (b || false) ≡ b
-or_false true = refl
-or_false false = refl
-
 any-push : {A : Type 0} (p : A → Bool) (xs : List A) (x : A) → list_any p (xs ++ x ∷ []) ≡ (list_any p xs || p x)
-any-push p xs x = list_any-append p xs (x ∷ []) ∙ ap (λ b. list_any p xs || b) (or_false (p x))
+any-push p xs x = list_any-append p xs (x ∷ []) ∙ ap (λ b. list_any p xs || b) (or-false (p x))
 
 filter-one : {A : Type 0} (p : A → Bool) (x : A) → filter p (x ∷ []) ≡ (if p x then x ∷ [] else [])
 filter-one p x = go (p x) refl
@@ -31,10 +28,6 @@ filter-one p x = go (p x) refl
     go : (b : Bool) → p x ≡ b → filter p (x ∷ []) ≡ (if p x then x ∷ [] else [])
     go true e = refl
     go false e = refl
-
-and_true : (b : Bool) → (b && true) ≡ b
-and_true true = refl
-and_true false = refl
 
 de_morgan : (a b : Bool) → not (a || b) ≡ (not a && not b)
 de_morgan true b = refl
@@ -87,7 +80,7 @@ module _ (journal : Journal) (e : Entry) where
 
     any-if : {A : Type 0} (p : A → Bool) (xs : List A) (b : Bool) (x : A) → not (list_any p (xs ++ (if b then x ∷ [] else []))) ≡ (not (list_any p xs) && not (b && p x))
     any-if p xs true x = ap not (any-push p xs x) ∙ de_morgan (list_any p xs) (p x)
-    any-if p xs false x = ap (λ ys. not (list_any p ys)) (append-nil xs) ∙ sym (and_true (not (list_any p xs)))
+    any-if p xs false x = ap (λ ys. not (list_any p ys)) (append-nil xs) ∙ sym (and-true (not (list_any p xs)))
 
     pub posts_grow : PostsGrow journal e device
     posts_grow = record {

@@ -51,6 +51,6 @@ pub mod TermsFit
 pub mod CausesKeep
 pub mod OnlineSorts
 pub mod Restarted
+pub mod StartValues
 pub mod SamePrograms
 pub mod Known
-pub mod Starts

@@ -1,7 +1,7 @@
 -- Different constants, devices and actions have different texts, whatever follows.
-use Rattle.std.proofs.Common.{◌≡◌, ℕ, zero, suc, ◌<◌, ◌^◌, List, [], ◌∷◌, ◌++◌, length, refl, sym, ap, ◌∙◌, subst, Some, None, Option, arith, ℤ, pos, negsuc}
+use Rattle.std.proofs.Common.{◌≡◌, ℕ, zero, suc, ◌<◌, ◌^◌, true, List, [], ◌∷◌, ◌++◌, length, refl, sym, ap, ◌∙◌, subst, Some, None, Option, arith, ℤ, pos, negsuc}
 use Rattle.std.specs.Option.{option_map_or}
-use Rattle.std.specs.Prelude.{slice_get, unwrap_or, ◌+ℤ◌, ◌-ℤ◌, ◌<ℤ◌, ◌≤ℤ◌}
+use Rattle.std.specs.Prelude.{codes, slice_get, unwrap_or, ◌+ℤ◌, ◌-ℤ◌, ◌<ℤ◌, ◌≤ℤ◌}
 use Rattle.std.specs.Int.Signed.{mag}
 use Rattle.std.proofs.lemmas.Int.{ints}
 use Rattle.std.proofs.lemmas.Fmt.{signed_decimal_injective}
@@ -11,6 +11,7 @@ use Rattle.golog_tree.specs.declared.agent.SortItem.TheVariants.{Range, Listed}
 use Rattle.golog_tree.specs.Ground.{item_size, to_count, sort_size, size_at}
 use Rattle.golog_semantics.specs.Text.{Text, constant_in, constant_text, device_text}
 use Rattle.golog_semantics.specs.ReportLaws.{AreDistinctNames, HasConstants, TellsApart}
+use Rattle.golog_semantics.specs.Truth.{is_known}
 use Rattle.golog_semantics.proofs.Words.{IsWord, Stops, word_split, name-word, signed-word}
 
 -- two values whose texts come before what follows are the same, and so is what follows
@@ -36,7 +37,7 @@ mag_between (pos n) h = (omega (arith, ints), omega (arith, ints))
 mag_between (negsuc n) h = (omega (arith, ints), omega (arith, ints))
 
 -- the number within the sort
-moved_small : (low high : ℤ) (value : ℕ) → mag low < 2 ^ 31 → mag high < 2 ^ 31 → value < to_count (high -ℤ low +ℤ pos 1) → mag (low +ℤ pos value) < 2 ^ 63
+pub moved_small : (low high : ℤ) (value : ℕ) → mag low < 2 ^ 31 → mag high < 2 ^ 31 → value < to_count (high -ℤ low +ℤ pos 1) → mag (low +ℤ pos value) < 2 ^ 63
 moved_small low high v h k l =
     let one = mag_between low h in
     let other = mag_between high k in
@@ -94,3 +95,19 @@ module _ (agent : Agent) (apart : TellsApart agent) where
 
   pub constant_tells : (sort : ℕ) → Tells (constant_text agent sort) (λ a. a < sort_size agent sort) Stops
   constant_tells sort = constant_tells_at sort (slice_get agent.sorts sort) refl
+
+  -- the text of a constant is a word, and neither it nor its position is that of an unknown value
+  word_at : (sort v : ℕ) (o : Option SortItem) → slice_get agent.sorts sort ≡ o → v < size_at o → IsWord (option_map_or (λ item. constant_in item v) o [])
+  word_at sort v None e h = absurd (omega arith)
+  word_at sort v (Some item) e h = constant_word item (apart.constants sort item e) v h
+
+  pub constant_is_word : (sort v : ℕ) → v < sort_size agent sort → IsWord (constant_text agent sort v)
+  constant_is_word sort v h = word_at sort v (slice_get agent.sorts sort) refl h
+
+  known_at : (sort v : ℕ) (o : Option SortItem) → slice_get agent.sorts sort ≡ o → v < size_at o
+      → (is_known v ≡ true) × (option_map_or (λ item. constant_in item v) o [] ≡ codes "unknown" → ⊥)
+  known_at sort v None e h = absurd (omega arith)
+  known_at sort v (Some item) e h = apart.known sort item e v h
+
+  pub constant_known : (sort v : ℕ) → v < sort_size agent sort → (is_known v ≡ true) × (constant_text agent sort v ≡ codes "unknown" → ⊥)
+  constant_known sort v h = known_at sort v (slice_get agent.sorts sort) refl h

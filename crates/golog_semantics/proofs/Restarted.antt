@@ -1,6 +1,6 @@
 -- An agent that starts from other values in their sorts is well-formed.
 use Rattle.std.proofs.Common.{◌≡◌, ℕ, zero, suc, ◌+◌, ◌<◌, ◌≤◌, Bool, true, false, ◌&&◌, List, [], ◌∷◌, length, map, refl, sym, ap, ◌∙◌, subst, add-zero, arith}
-use Rattle.std.specs.Prelude.{All, nat_le, not, slice_get, slice_index}
+use Rattle.std.specs.Prelude.{All, IfSome, None, Option, Some, nat_le, not, slice_get, slice_index}
 use Rattle.std.specs.List.{enumerate_from, list_all}
 use Rattle.std.specs.Option.{option_map_or}
 use Rattle.golog_tree.specs.declared.agent.Agent.{Agent}
@@ -10,6 +10,9 @@ use Rattle.golog_tree.specs.declared.prog.Prog.TheOpen.{Prog-F, Call}
 use Rattle.golog_tree.specs.declared.prog.Prog.TheFolds.{fold-Prog}
 use Rattle.golog_tree.specs.Ground.{IsCountable}
 use Rattle.golog_tree.specs.Nest.{nest}
+use Rattle.golog_semantics.specs.declared.journal.Report.{Report}
+use Rattle.golog_semantics.specs.ReportLaws.{TellsApart}
+use Rattle.golog_semantics.specs.Reports.{IsReport}
 use Rattle.golog_semantics.specs.Truth.{Values}
 use Rattle.golog_semantics.specs.Guarded.{Front, front_by, fronts_to, proc_fronts}
 use Rattle.golog_semantics.specs.FrontCalls.{calling, front_nests, greatest, nests_to}
@@ -21,7 +24,7 @@ use Rattle.golog_semantics.specs.Written.{is_written_prog}
 use Rattle.golog_semantics.specs.WellFormed.{ActionsFit, IsSmall, ProgramsFit, StartsFit, WellFormed, are_sorts, start_fits}
 use Rattle.golog_semantics.specs.InSorts.{AreInSorts}
 use Rattle.golog_semantics.proofs.Words.{and-both}
-use Rattle.golog_semantics.specs.Restart.{restarted}
+use Rattle.golog_semantics.specs.Restart.{restarted, started}
 
 module _ (agent : Agent) (values : Values) where
   abbrev again : Agent
@@ -129,3 +132,30 @@ module _ (agent : Agent) (values : Values) where
     starts = starts_fit sorts;
     programs = programs w.programs;
   }
+
+  again-sorts : (start : Option Values) → IfSome start (AreInSorts agent) → IfSome start (AreInSorts again)
+  again-sorts None h = h
+  again-sorts (Some values) h = record { whole = h.whole; sorted = h.sorted }
+
+  -- what has a text for the agent has one for the agent that starts from other values
+  pub restarted_report : (report : Report) → IsReport agent report → IsReport again report
+  restarted_report report f = record {
+    entries = f.entries;
+    runs = f.runs;
+    in_order = f.in_order;
+    in_bounds = f.in_bounds;
+    start = again-sorts report.start f.start;
+  }
+
+module _ (agent : Agent) where
+  pub started_fits : (start : Option Values) → WellFormed agent → IfSome start (AreInSorts agent) → WellFormed (started agent start)
+  started_fits None w h = w
+  started_fits (Some values) w h = restarted_fits agent values w h
+
+  pub started_apart : (start : Option Values) → TellsApart agent → TellsApart (started agent start)
+  started_apart None a = a
+  started_apart (Some values) a = record { devices = a.devices; actions = a.actions; constants = a.constants; known = a.known }
+
+  pub started_report : (start : Option Values) (report : Report) → IsReport agent report → IsReport (started agent start) report
+  started_report None report f = f
+  started_report (Some values) report f = restarted_report agent values report f

@@ -1,17 +1,22 @@
 -- A well-formed agent tells its things apart, and its start values are in their sorts.
-use Rattle.std.proofs.Common.{◌≡◌, ℕ, zero, suc, ◌+◌, ◌<◌, true, false, List, [], ◌∷◌, ◌++◌, length, map, refl, sym, ap, ◌∙◌, subst, Some, arith, inr, zero-add, add-zero}
-use Rattle.std.specs.Prelude.{slice_get, slice_index}
+use Rattle.std.proofs.Common.{◌≡◌, ℕ, zero, suc, ◌+◌, ◌<◌, true, false, not, List, [], ◌∷◌, ◌++◌, length, map, refl, sym, ap, ◌∙◌, subst, Some, arith, inl, inr, zero-add, add-zero}
+use Rattle.std.specs.Prelude.{◌≤◌, ◌+ℤ◌, codes, pos, slice_get, slice_index, unwrap_or}
 use Rattle.std.specs.List.{AllByRecursion, IsDistinct, flat_map, list_all, enumerate_from}
+use Rattle.std.proofs.lemmas.Bool.{lt-ltb}
+use Rattle.std.proofs.lemmas.Option.{get_or_from_slice_get, slice_get_within}
 use Rattle.golog_base.specs.Names.{is_name}
 use Rattle.golog_tree.specs.declared.agent.Agent.{Agent}
 use Rattle.golog_tree.specs.declared.agent.SortItem.{SortItem}
 use Rattle.golog_tree.specs.declared.agent.SortItem.TheVariants.{Range, Listed}
-use Rattle.golog_semantics.specs.Text.{Text}
-use Rattle.golog_semantics.specs.BuiltIn.{sort_names, declared_names, same_text}
+use Rattle.golog_tree.specs.Ground.{item_size}
+use Rattle.golog_semantics.specs.Text.{Text, constant_in}
+use Rattle.golog_semantics.specs.Truth.{unknown}
+use Rattle.golog_semantics.specs.BuiltIn.{sort_names, declared_names, is_keyword, same_text}
 use Rattle.golog_semantics.specs.WellFormed.{WellFormed, start_fits}
-use Rattle.golog_semantics.specs.ReportLaws.{AreDistinctNames, HasConstants, TellsApart, RangesFit}
+use Rattle.golog_semantics.specs.ReportLaws.{AreDistinctNames, AreKnown, HasConstants, TellsApart, RangesFit}
 use Rattle.golog_semantics.specs.InSorts.{AreInSorts}
-use Rattle.golog_semantics.proofs.Words.{and-left, and-right}
+use Rattle.golog_semantics.proofs.Words.{and-left, and-right, signed-known}
+use Rattle.golog_semantics.proofs.Names.{moved_small, name_at}
 use Rattle.golog_semantics.proofs.GroundNumbers.{some-same}
 use Rattle.golog_semantics.proofs.Among.{Among, contains-among, among-get, among-left, among-right, flat-among}
 use Rattle.golog_semantics.proofs.Levels.{same_values-same}
@@ -54,6 +59,14 @@ distinct-get (x ∷ xs) d zero zero name e k = refl
 distinct-get (x ∷ xs) d zero (suc j) name e k = absurd (not-later x name xs j (some-same x name e) d.0 k)
 distinct-get (x ∷ xs) d (suc i) zero name e k = absurd (not-later x name xs i (some-same x name k) d.0 e)
 distinct-get (x ∷ xs) d (suc i) (suc j) name e k = ap suc (distinct-get xs d.1 i j name e k)
+
+-- where no name is a keyword, none is that of an unknown value
+free-names : (names : List Text) → list_all (λ name. not (is_keyword name)) names ≡ true → Among names (codes "unknown") → ⊥
+free-names [] h a = a
+free-names (name ∷ names) h (inl e) =
+    let own : not (is_keyword name) ≡ true = and-left (not (is_keyword name)) (list_all (λ name. not (is_keyword name)) names) h in
+    let wrong : not (is_keyword (codes "unknown")) ≡ true = subst (λ n. not (is_keyword n) ≡ true) e own in cc
+free-names (name ∷ names) h (inr a) = free-names names (and-right (not (is_keyword name)) (list_all (λ name. not (is_keyword name)) names) h) a
 
 module _ (agent : Agent) (fits : WellFormed agent) where
   abbrev of_sorts : List Text
@@ -105,8 +118,31 @@ module _ (agent : Agent) (fits : WellFormed agent) where
   has_constants ranges sort (Range name low high) e = ranges sort name low high e
   has_constants ranges sort (Listed name constants) e = constants_apart sort name constants e
 
+  -- no constant has the name of an unknown value
+  none_unknown : (sort : ℕ) (name : Text) (constants : List Text) → slice_get agent.sorts sort ≡ Some (Listed name constants)
+      → (i : ℕ) → slice_get constants i ≡ Some (codes "unknown") → ⊥
+  none_unknown sort name constants e i k =
+      free-names (declared_names agent) fits.names.free
+      (among-devices (codes "unknown") (among-left of_sorts agent.devices (codes "unknown")
+      (flat-among sort_names agent.sorts (Listed name constants) (codes "unknown") (among-get agent.sorts sort (Listed name constants) e)
+      (inr (among-get constants i (codes "unknown") k)))))
+
+  own-text : RangesFit agent → (sort : ℕ) (item : SortItem) → slice_get agent.sorts sort ≡ Some item → (value : ℕ) → value < item_size item → constant_in item value ≡ codes "unknown" → ⊥
+  own-text ranges sort (Range name low high) e value less k =
+      let both = ranges sort name low high e in
+      signed-known (low +ℤ pos value) (moved_small low high value both.0.sfits both.1.sfits less) k
+  own-text ranges sort (Listed name constants) e value less k =
+      let r = name_at constants value less in
+      none_unknown sort name constants e value (r.is ∙ ap Some (ap (λ o. unwrap_or o []) (sym r.is) ∙ k))
+
+  are_known : RangesFit agent → (sort : ℕ) (item : SortItem) → slice_get agent.sorts sort ≡ Some item → AreKnown item
+  are_known ranges sort item e value less =
+      let few : item_size item ≤ 255 = subst (λ i. item_size i ≤ 255) (get_or_from_slice_get agent.sorts sort item item e)
+      (fits.countable.sorts sort item (slice_get_within agent.sorts sort item e)) in
+      (lt-ltb value unknown (omega (arith, less, few)), own-text ranges sort item e value less)
+
   pub tells_apart : RangesFit agent → TellsApart agent
-  tells_apart ranges = record { devices = devices_apart; actions = actions_apart; constants = has_constants ranges }
+  tells_apart ranges = record { devices = devices_apart; actions = actions_apart; constants = has_constants ranges; known = are_known ranges }
 
   starts-from : (n : ℕ) (starts : List ℕ) (k : ℕ) → list_all (start_fits agent) (enumerate_from n starts) ≡ true → k < length starts → start_fits agent (n + k, slice_index starts k) ≡ true
   starts-from n [] k h less = absurd (omega arith)

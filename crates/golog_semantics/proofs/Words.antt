@@ -1,6 +1,6 @@
 -- Words of a text, which name bytes make up, and where they end.
-use Rattle.std.proofs.Common.{◌≡◌, ℕ, suc, ◌+◌, ◌%◌, ◌<◌, ◌^◌, Bool, true, false, ◌&&◌, ◌||◌, ◌==◌, [], ◌∷◌, ◌++◌, refl, ap, ◌∙◌, arith, ℤ, pos, negsuc}
-use Rattle.std.specs.Prelude.{⊤, decimal, nat_le}
+use Rattle.std.proofs.Common.{◌≡◌, ℕ, suc, ◌+◌, ◌%◌, ◌<◌, ◌^◌, Bool, true, false, ◌&&◌, ◌||◌, ◌==◌, [], ◌∷◌, ◌++◌, refl, sym, ap, ◌∙◌, arith, ℤ, pos, negsuc}
+use Rattle.std.specs.Prelude.{⊤, codes, decimal, nat_le}
 use Rattle.std.specs.List.{list_all}
 use Rattle.std.specs.Fmt.{signed_decimal}
 use Rattle.std.specs.Int.Signed.{mag}
@@ -63,16 +63,35 @@ name-word (b ∷ bytes) h =
     (or-first (begins_name b) (is_digit b) (b == 45) (and-left (begins_name b) (list_all continues_name bytes) h))
     (and-right (begins_name b) (list_all continues_name bytes) h)
 
+one-digit : (d : ℕ) → d < 10 → is_digit (48 + d) ≡ true
+one-digit d h = and-both (nat_le 48 (48 + d)) (nat_le (48 + d) 57) (le-leb 48 (48 + d) (omega arith)) (le-leb (48 + d) 57 (omega arith))
+
 digit : (d : ℕ) → d < 10 → continues_name (48 + d) ≡ true
-digit d h =
-    or-second (begins_name (48 + d)) (is_digit (48 + d)) (48 + d == 45)
-    (and-both (nat_le 48 (48 + d)) (nat_le (48 + d) 57) (le-leb 48 (48 + d) (omega arith)) (le-leb (48 + d) 57 (omega arith)))
+digit d h = or-second (begins_name (48 + d)) (is_digit (48 + d)) (48 + d == 45) (one-digit d h)
 
 pub decimal-word : (n : ℕ) → n < 2 ^ 64 → IsWord (decimal n)
 decimal-word n h = decimal_by_steps (λ n ds. IsWord ds)
     (λ n k. and-both (continues_name (48 + n)) true (digit n k) refl)
     (λ n ds k w. list_all-append continues_name ds ((48 + n % 10) ∷ [])
     ∙ and-both (list_all continues_name ds) (continues_name (48 + n % 10) && true) w (and-both (continues_name (48 + n % 10)) true (digit (n % 10) (mod-lt n (omega arith))) refl)) n h
+
+-- the digits of a number
+decimal-digits : (n : ℕ) → n < 2 ^ 64 → list_all is_digit (decimal n) ≡ true
+decimal-digits n h = decimal_by_steps (λ n ds. list_all is_digit ds ≡ true)
+    (λ n k. and-both (is_digit (48 + n)) true (one-digit n k) refl)
+    (λ n ds k w. list_all-append is_digit ds ((48 + n % 10) ∷ [])
+    ∙ and-both (list_all is_digit ds) (is_digit (48 + n % 10) && true) w (and-both (is_digit (48 + n % 10)) true (one-digit (n % 10) (mod-lt n (omega arith))) refl)) n h
+
+not-digits : list_all is_digit (codes "unknown") ≡ true → ⊥
+not-digits e = cc
+
+not-minus : (text : Text) → ◌≡◌ {A = Text} (45 ∷ text) (codes "unknown") → ⊥
+not-minus text e = cc
+
+-- a number is not written as an unknown value
+pub signed-known : (z : ℤ) → mag z < 2 ^ 63 → signed_decimal z ≡ codes "unknown" → ⊥
+signed-known (pos n) h e = not-digits (sym (ap (list_all is_digit) e) ∙ decimal-digits n (omega arith))
+signed-known (negsuc n) h e = not-minus (decimal (suc n)) e
 
 pub signed-word : (z : ℤ) → mag z < 2 ^ 63 → IsWord (signed_decimal z)
 signed-word (pos n) h = decimal-word n (omega arith)
