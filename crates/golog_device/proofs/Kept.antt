@@ -3,6 +3,7 @@ use Rattle.std.proofs.Common.{◌≡◌, ◌≤◌, ◌+◌, ℕ, Bool, true, fa
 use Rattle.std.proofs.lemmas.List.{take-append-le, drop-append-le, length-take-le, length-drop, map_push, take_all}
 use Rattle.std.proofs.lemmas.List.Sums.{sum_by-cons, sum_by_push}
 use Rattle.std.proofs.lemmas.List.Folds.{list_any-append}
+use Rattle.golog_base.proofs.Bools.{or-false}
 use Rattle.golog_semantics.specs.Dealt.{Service}
 use Rattle.golog_device.specs.Devices.{is_told_close, told_then}
 use Rattle.golog_device.specs.declared.served.Mark.{Mark}
@@ -62,10 +63,7 @@ pub items-push : (told : List Told) (item : Told) → is_closed told ≡ false
 items-push told item still = rw (map_push item_of told item, still) refl
 
 pub closed-push : (told : List Told) (item : Told) → is_closed told ≡ false → is_closed (told ++ item ∷ []) ≡ is_told_close (item_of item)
-closed-push told item still = rw (map_push item_of told item, list_any-append is_told_close (items_of told) (item_of item ∷ []), still) (or_false _) where
-  or_false : (b : Bool) → (b || false) ≡ b
-  or_false true = refl
-  or_false false = refl
+closed-push told item still = rw (map_push item_of told item, list_any-append is_told_close (items_of told) (item_of item ∷ []), still) (or-false _)
 
 -- none more behind a Close
 pub items-closed : (told : List Told) (item : Told) → is_closed told ≡ true → Some (items_of told) ≡ told_then (Some (items_of told)) (item_of item)

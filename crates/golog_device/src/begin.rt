@@ -1,7 +1,7 @@
 //! The first call of each device.
 ghost use Rattle.std.specs.Prelude.{◌≡◌, ◌≤◌, ◌<◌, ℕ, true, length, All, IsSome, OnOk, OnErr, []};
 ghost use Rattle.golog_semantics.specs.WellFormed.{WellFormed};
-ghost use Rattle.golog_semantics.specs.Journal.{is_open};
+ghost use Rattle.golog_semantics.specs.Journal.{device_limit, is_open};
 ghost use Rattle.golog_journal.specs.Boards.{IsBoardList};
 ghost use Rattle.golog_journal.specs.Taken.{IsReady};
 ghost use Rattle.golog_journal.specs.Posting.{MayPost};
@@ -62,7 +62,7 @@ fn begin_at<D: Device, B: Board>(
     requires agent { (B.sight board.old).agent ≡ agent.now }
     requires alone { (B.sight board.old).alone ≡ true }
     requires slot { slot < length agent.now.devices }
-    requires few { length agent.now.devices ≤ 16 }
+    requires few { length agent.now.devices ≤ device_limit }
     requires allowed { MayPost agent.now (B.sight board.old).seen slot 0 Item.Refused }
     requires lawful { IsBoardList agent.now (B.sight board.old).seen }
     requires within { slot < length devices.old }

@@ -1,5 +1,5 @@
 -- What is kept of an empty journal; where the devices of entries and actions stand; what is posted.
-use Rattle.std.proofs.Common.{◌≡◌, ℕ, ◌≤◌, ◌<◌, Bool, true, not, ◌&&◌, ◌||◌, if◌then◌else◌, Option, Some, None, List, [], ◌∷◌, ◌++◌, length, map, refl, sym, ap, ◌∙◌, subst, arith, ◌⊎◌, inl, inr}
+use Rattle.std.proofs.Common.{◌≡◌, ℕ, ◌≤◌, ◌<◌, Bool, true, not, ◌&&◌, ◌||◌, if◌then◌else◌, Option, Some, None, List, [], ◌∷◌, ◌++◌, length, refl, sym, ap, ◌∙◌, subst, arith, ◌⊎◌, inl, inr}
 use Rattle.std.specs.Prelude.{count_by, slice_get, option_and_then, All, is_some, nat_le}
 use Rattle.std.specs.List.{list_all, list_any}
 use Rattle.std.specs.Option.{option_map_or}
@@ -21,11 +21,11 @@ use Rattle.golog_semantics.specs.Posts.{awaited_command, result_of, entry_of, cl
 use Rattle.golog_semantics.specs.Online.{is_result}
 use Rattle.golog_semantics.specs.Reports.{is_device, is_value, is_exogenous, place_limit, fits_entry}
 use Rattle.golog_semantics.specs.WellFormed.{is_device_no, are_sorts, action_item_fits}
-use Rattle.golog_journal.specs.declared.commands.Commands.{Commands}
+use Rattle.golog_journal.specs.declared.reached.Reached.{Reached}
 use Rattle.golog_journal.specs.declared.standing.Standing.{Standing}
 use Rattle.golog_journal.specs.Agents.{ServesDevices}
 use Rattle.golog_journal.specs.Boards.{IsBoardList}
-use Rattle.golog_journal.specs.Kept.{command_of, AreKept}
+use Rattle.golog_journal.specs.Reaching.{at_start, IsReached, AreReached}
 use Rattle.golog_journal.specs.Tallies.{IsCounted}
 use Rattle.golog_journal.proofs.Lawful.{count-push, lawful-last, lawful-parts, commands-few, result-before}
 
@@ -59,10 +59,16 @@ counted-new agent ts serves long no_commands nothing_owed not_rested opens = rec
   };
 }
 
--- no command is kept of an empty journal
-pub kept-new : (agent : Agent) (devices : List Commands) → length devices ≡ length agent.devices
-    → All (λ (own : Commands). own.kept.items ≡ []) devices → AreKept agent [] devices
-kept-new agent devices long none = record { one_each = long; each = λ d x below. ap (map command_of) (none d x below) }
+-- where no entry was looked at
+pub start-reached : (agent : Agent) (journal : Journal) (device : ℕ) → IsReached agent journal device at_start
+start-reached agent journal device = record { within = omega arith; few = omega arith; number = refl; last = refl }
+
+pub reached-new : (agent : Agent) (devices : List Reached) → length devices ≡ length agent.devices
+    → All (λ (reached : Reached). reached ≡ at_start) devices → AreReached agent [] devices
+reached-new agent devices long start = record {
+  one_each = long;
+  each = λ d x below. subst (IsReached agent [] d) (sym (start d x below)) (start-reached agent [] d);
+}
 
 module _ (agent : Agent) where
   -- a device of an action is one of the agent's

@@ -1,19 +1,15 @@
--- The commands, the rest and the awaited results that are kept are those of the journal.
-use Rattle.std.proofs.Common.{◌≡◌, ℕ, ◌-◌, ◌<◌, false, ◌==◌, if◌then◌else◌, Option, Some, None, List, length, map, get_or, refl, sym, ap, ◌∙◌, subst, arith}
-use Rattle.std.specs.Prelude.{slice_get, option_map}
+-- The rest and the awaited results that are kept are those of the journal.
+use Rattle.std.proofs.Common.{◌≡◌, ℕ, ◌-◌, ◌<◌, false, ◌==◌, if◌then◌else◌, Option, Some, None, List, length, get_or, refl, sym, ap, ◌∙◌, subst, arith}
+use Rattle.std.specs.Prelude.{slice_get}
 use Rattle.std.specs.Option.{option_map_or}
 use Rattle.std.proofs.lemmas.Bool.{ne_eqb}
-use Rattle.std.proofs.lemmas.Option.{slice_get-map}
 use Rattle.golog_tree.specs.declared.agent.Agent.{Agent}
 use Rattle.golog_semantics.specs.declared.journal.Entry.{Entry}
 use Rattle.golog_semantics.specs.declared.journal.Entry.TheVariants.{Do, Test, Exo, Sense, Rest, Close, End}
 use Rattle.golog_semantics.specs.Journal.{Journal, Command, commands, entries_by, last_of, is_rest_after, is_outstanding, poster_of}
 use Rattle.golog_semantics.specs.Posts.{awaited_command, awaited_by}
-use Rattle.golog_journal.specs.declared.commands.Commands.{Commands}
-use Rattle.golog_journal.specs.declared.commands.Kept.{Kept}
 use Rattle.golog_journal.specs.declared.standing.Standing.{Standing}
 use Rattle.golog_journal.specs.Commands.{is_resting}
-use Rattle.golog_journal.specs.Kept.{command_of, AreKept}
 use Rattle.golog_journal.specs.Tallies.{rested_after, IsTally, IsCounted, IsStep}
 
 -- what a tally says of the last entry is what the journal says
@@ -35,25 +31,6 @@ counted-resting agent journal ts kept d standing inside at taken =
     let one = kept.tallied.one_each in
     let is = subst (IsTally agent journal d) (sym at) (kept.tallied.each d standing (omega (arith, inside, one))) in
     ap (λ o. option_map_or (λ n. n == taken) o false) is.has_rested ∙ resting-of taken (last_of (entries_by d journal))
-
-module _ (agent : Agent) (journal : Journal) (devices : List Commands) (are : AreKept agent journal devices) (d : ℕ) (own : Commands)
-    (inside : d < length agent.devices) (at : own ≡ get_or devices d own) where
-  own-commands : (items : List Kept) → items ≡ own.kept.items → commands agent d journal ≡ map command_of items
-  own-commands items same =
-      let one = are.one_each in
-      sym (are.each d own (omega (arith, inside, one)))
-      ∙ ap (λ (x : Commands). map command_of x.kept.items) (sym at)
-      ∙ ap (map command_of) (sym same)
-
-  pub command-kept : (items : List Kept) (k : ℕ) (x : Kept) → items ≡ own.kept.items → slice_get items k ≡ Some x
-      → slice_get (commands agent d journal) k ≡ Some (command_of x)
-  command-kept items k x same here =
-      ap (λ cs. slice_get cs k) (own-commands items same) ∙ slice_get-map command_of items k ∙ ap (option_map command_of) here
-
-  pub command-past : (items : List Kept) (k : ℕ) → items ≡ own.kept.items → slice_get items k ≡ None
-      → slice_get (commands agent d journal) k ≡ None
-  command-past items k same past =
-      ap (λ cs. slice_get cs k) (own-commands items same) ∙ slice_get-map command_of items k ∙ ap (option_map command_of) past
 
 module _ (agent : Agent) (journal : Journal) (d taken : ℕ) where
   -- the last command taken is awaited where its result does not stand

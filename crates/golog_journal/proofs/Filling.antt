@@ -5,14 +5,11 @@ use Rattle.std.specs.List.{list_any}
 use Rattle.std.proofs.lemmas.Bool.{cases_eq, eq-eqb, ne_eqb, or_right}
 use Rattle.std.proofs.lemmas.List.Folds.{list_any_more}
 use Rattle.std.proofs.lemmas.List.{length-map}
+use Rattle.golog_base.proofs.Bools.{or-false}
 use Rattle.golog_tree.specs.declared.agent.Agent.{Agent}
 use Rattle.golog_tree.specs.Ground.{AreWithin, sizes, args_at, fluent_args, IsCountable}
 use Rattle.golog_tree.proofs.Decoded.{args_at-get_or}
 use Rattle.golog_semantics.proofs.CausesKeep.{within-length}
-
-or-false : (b : Bool) → (b || false) ≡ b
-or-false true = refl
-or-false false = refl
 
 -- a test for each number: whether it is among the first of these
 pub mark-more : (marks : List Bool) (xs : List ℕ) (i x : ℕ) → i < length xs → x ≡ get_or xs i 0 → x < length marks

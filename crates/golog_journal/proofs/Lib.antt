@@ -13,5 +13,5 @@ pub mod Beginning
 pub mod Filling
 pub mod Views
 pub mod CommandsKept
-pub mod KeptGrows
+pub mod Reaching
 mod Quieting

@@ -5,6 +5,7 @@ use Rattle.std.specs.List.{list_any, cons_option}
 use Rattle.std.specs.Option.{option_map_or, option_to_list}
 use Rattle.std.proofs.lemmas.Bool.{and_parts, or_parts, or_from, or_left, or_right, eqb-true, eq-eqb, ne_eqb}
 use Rattle.std.proofs.lemmas.List.{append-nil}
+use Rattle.golog_base.proofs.Bools.{and-true}
 use Rattle.golog_tree.specs.declared.agent.Agent.{Agent}
 use Rattle.golog_tree.specs.Ground.{sort_size}
 use Rattle.golog_semantics.specs.declared.journal.Entry.{Entry}
@@ -173,10 +174,6 @@ module _ (agent : Agent) where
     module _ (action d : ℕ) (lawful : IsBoardList agent journal) where
       abbrev sent : Command
       sent = record { place = length journal; action = action }
-
-      and-true : (b : Bool) → (b && true) ≡ b
-      and-true true = refl
-      and-true false = refl
 
       asks-if : is_outstanding agent (and_then journal (Do action)) sent ≡ is_sensing agent action
       asks-if =

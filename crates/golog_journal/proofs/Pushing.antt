@@ -3,6 +3,7 @@ use Rattle.std.proofs.Common.{◌≡◌, ◌≢◌, ℕ, ◌+◌, ◌-◌, ◌�
 use Rattle.std.proofs.lemmas.Bool.{and_parts, ltb-true, eq-eqb, ne_eqb}
 use Rattle.std.proofs.lemmas.Option.{same_Some}
 use Rattle.std.proofs.lemmas.List.Sums.{count_by-le-length, length-filter}
+use Rattle.golog_base.proofs.Bools.{and-true, or-false}
 use Rattle.golog_tree.specs.declared.agent.Agent.{Agent}
 use Rattle.golog_semantics.specs.declared.journal.Entry.{Entry}
 use Rattle.golog_semantics.specs.declared.journal.Entry.TheVariants.{Do, Test, Exo, Sense, Rest, Close, End}
@@ -15,10 +16,6 @@ use Rattle.golog_journal.specs.Tallies.{rested_after, outstanding_after, IsTally
 use Rattle.golog_journal.proofs.Lawful.{count-push, lawful-last, lawful-parts}
 use Rattle.golog_journal.proofs.Outstanding.{out-same, more-out, fewer-out, out-other}
 use Rattle.golog_journal.proofs.Tallied.{SaysNothing, no-carrier, other-carrier, own-carrier, tally-command, tally-noted, each-set, tallies-step, has_end-after, closed-same, closed-more, some-open}
-
-or-false : (b : Bool) → (b || false) ≡ b
-or-false true = refl
-or-false false = refl
 
 abbrev one_if : Bool → ℕ
 one_if b = if b then 1 else 0
@@ -220,10 +217,6 @@ module _ (agent : Agent) (journal : Journal) where
 
       other-number : (p : ℕ) → p ≡ i → (d : ℕ) → d ≢ i → (p == d) ≡ false
       other-number p same d other = ne_eqb p d (λ e. other (sym e ∙ same))
-
-      and-true : (b : Bool) → (b && true) ≡ b
-      and-true true = refl
-      and-true false = refl
 
       still-open : (e : Entry) → is_close e ≡ false → new.is_open ≡ ((get_or ts i new).is_open && not (is_close e)) → new.is_open ≡ (get_or ts i new).is_open
       still-open e stays still = still ∙ ap (λ b. (get_or ts i new).is_open && not b) stays ∙ and-true (get_or ts i new).is_open

@@ -9,7 +9,7 @@ pub mod Leading
 pub mod Agents
 pub mod Facts
 pub mod Tallies
-pub mod Kept
+pub mod Reaching
 pub mod Trails
 pub mod Ledgers
 pub mod Laws

@@ -1,4 +1,4 @@
--- What is counted for each device, so that no call goes through the journal.
+-- What is counted for each device, so that what is told of it needs no way through the journal.
 use Rattle.std.specs.Prelude.{◌≡◌, ℕ, ◌+◌, ◌-◌, ◌<◌, not, if◌then◌else◌, Option, Some, None, List, length, count_by, slice_index_or}
 use Rattle.golog_tree.specs.declared.agent.Agent.{Agent}
 use Rattle.golog_semantics.specs.declared.journal.Entry.{Entry}

@@ -22,7 +22,7 @@ pub(crate) struct ActionFact {
     /// The device that carries it out.
     pub(crate) device: Option<u8>,
     /// Whether each device may post it.
-    pub(crate) posters: [bool; 16],
+    pub(crate) posters: [bool; DEVICES],
     /// The ground fluent whose value its result tells.
     pub(crate) sensed: Option<u32>,
     /// How many values that fluent has.

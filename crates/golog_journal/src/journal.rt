@@ -1,5 +1,5 @@
 //! The journal of one owner.
-ghost use Rattle.std.specs.Prelude.{◌≡◌, ◌<◌, ◌≤◌, [], length, min, take, drop, ◌-◌, Some, None, IfOk, IfSome, MatchOption, if◌then◌else◌, option_map, slice_get};
+ghost use Rattle.std.specs.Prelude.{◌≡◌, ◌<◌, ◌≤◌, ◌+◌, [], length, min, take, drop, ◌-◌, Some, None, IfOk, IfSome, MatchOption, if◌then◌else◌, option_map, slice_get};
 ghost use Rattle.std.specs.Option.{option_map_or};
 ghost use Rattle.golog_semantics.specs.Journal.{commands, is_open as is_open_in, is_full as is_full_in, is_quiet as is_quiet_in, longest};
 ghost use Rattle.golog_semantics.specs.Posts.{awaited_command, is_bad as is_bad_in, later_reason as later_reason_in, closing as closing_in, entry_of as entry_in};
@@ -8,12 +8,11 @@ ghost use Rattle.golog_journal.specs.Agents.{ServesDevices};
 ghost use Rattle.golog_journal.specs.Boards.{IsBoardList, IsBoardWith, journal_with};
 ghost use Rattle.golog_journal.specs.Posting.{posted_at as posted_at_in};
 ghost use Rattle.golog_journal.specs.Commands.{next_of as next_in, next_by};
-ghost use Rattle.golog_journal.specs.Kept.{command_of};
+ghost use Rattle.golog_journal.specs.Reaching.{IsReached, command_of};
 
-use crate::commands::{Commands, Kept, commands_of};
 use crate::counts::Counts;
-use crate::keeping::keep_command;
 use crate::ledger::Ledger;
+use crate::reached::{Placed, Reached, all_at_start, reached_from};
 use crate::{BATCH, Batch, Board, Commit, Next, Posted};
 use golog_base::{List, NoMemory};
 use golog_semantics::{Entry, Item, Reason};
@@ -26,13 +25,13 @@ use std::marker::Model;
 pub struct Journal {
     counts: Counts,
     ledger: Ledger,
-    commands: Vec<Commands>,
+    reached: Vec<Reached>,
 }
 
 impl Model for Journal {
     ghost use Rattle.golog_journal.specs.Boards.{AgentJournal};
     ghost use Rattle.std.specs.Prelude.{◌≡◌};
-    ghost use Rattle.golog_journal.specs.Kept.{AreKept};
+    ghost use Rattle.golog_journal.specs.Reaching.{AreReached};
     ghost use Rattle.std.specs.Coded.{codes};
     ghost use Rattle.golog_tree.specs.contracts.cond.Cond as cond;
     ghost use Rattle.golog_tree.specs.contracts.cond.Term as term;
@@ -47,7 +46,7 @@ impl Model for Journal {
 
     ghost invariant = { λ journal.
         (journal.ledger ≡ journal.counts.entries)
-        × AreKept journal.counts.agent journal.counts.entries journal.commands.items };
+        × AreReached journal.counts.agent journal.counts.entries journal.reached.items };
 }
 
 impl Journal {
@@ -58,11 +57,11 @@ impl Journal {
     {
         let counts = Counts::new(alloc, agent)?;
         let ledger = Ledger::new(alloc)?;
-        let commands = commands_of(alloc, agent.devices.len())?;
+        let reached = all_at_start(alloc, agent.devices.len())?;
         Ok(Journal {
             counts,
             ledger,
-            commands,
+            reached,
         })
     }
 
@@ -117,27 +116,54 @@ impl Journal {
         ensures more { self.new ≡ journal_with self.old entry }
         ensures short { length self.new.entries ≤ longest }
     {
-        keep_command(&mut self.commands, &self.counts, entry);
         self.counts.add(entry);
         self.counts.keeps_rules();
         self.ledger.push(entry);
     }
 
+    // How far the entries are gone through up to the device's command of this number, from 0, or to the end.
+    fn reached_at(&self, poster: u8, number: u32) -> Reached
+        requires { poster < length self.now.agent.devices }
+        ensures reached { IsReached self.now.agent self.now.entries poster result }
+        ensures most { result.commands ≤ number + 1 }
+        ensures far { result.commands ≤ number → result.place ≡ length self.now.entries }
+    {
+        self.counts.keeps_rules();
+        let from = self.reached[poster as usize].before(number);
+        reached_from(
+            self.counts.facts(),
+            self.ledger.since(0),
+            poster,
+            from,
+            number,
+        )
+    }
+
+    // Keeps how far the entries are gone through, so that what stands before is not looked at again.
+    fn reach(&mut self, poster: u8, number: u32)
+        requires { poster < length self.old.agent.devices }
+        ensures { self.new ≡ self.old }
+    {
+        let reached = self.reached_at(poster, number);
+        self.reached[poster as usize] = reached;
+    }
+
     // A command of the device, by its number from 0.
-    fn command_at(&self, poster: u8, number: u32) -> Option<Kept>
+    fn command_at(&self, poster: u8, number: u32) -> Option<Placed>
         requires { poster < length self.now.agent.devices }
         ensures command { option_map command_of result ≡ slice_get (commands self.now.agent poster self.now.entries) number }
         ensures place { IfSome result (λ command. command.place < length self.now.entries) }
     {
-        let commands = &self.commands[poster as usize];
-        match commands.kept.get(number as usize) {
-            Some(command) => Some(*command),
-            None => None,
+        let reached = self.reached_at(poster, number);
+        if number < reached.commands {
+            reached.last
+        } else {
+            None
         }
     }
 
     // The last command taken, where its result is still to come.
-    fn awaited(&self, poster: u8, taken: u32) -> Option<Kept>
+    fn awaited(&self, poster: u8, taken: u32) -> Option<Placed>
         requires { poster < length self.now.agent.devices }
         ensures { option_map command_of result ≡ awaited_command self.now.agent self.now.entries poster taken }
     {
@@ -341,6 +367,7 @@ impl Board for Journal {
     }
 
     fn next_command(&mut self, poster: u8, taken: u32) -> Next {
+        self.reach(poster, taken);
         self.keeps_rules();
         self.next_of(poster, taken)
     }

@@ -2,15 +2,14 @@
 #![tactic(auto)]
 
 mod board;
-mod commands;
 mod counts;
 mod facts;
 mod journal;
-mod keeping;
 mod laws;
 mod lead;
 mod ledger;
 mod quiet;
+mod reached;
 mod standing;
 mod table;
 mod totals;

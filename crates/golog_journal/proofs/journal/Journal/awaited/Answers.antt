@@ -4,7 +4,7 @@ use Rattle.std.specs.List.{list_any}
 use Rattle.std.proofs.lemmas.Grind.{common_steps}
 use Rattle.golog_semantics.specs.Journal.{Journal, is_sensing, is_result_of, is_outstanding}
 use Rattle.golog_journal.specs.Boards.{AgentJournal}
-use Rattle.golog_journal.specs.Kept.{command_of}
+use Rattle.golog_journal.specs.Reaching.{command_of}
 use Rattle.golog_journal.proofs.CommandsKept.{awaited-some, awaited-none}
 use Rattle.golog_journal.proofs.journal.Journal.awaited.Goals as goal
 

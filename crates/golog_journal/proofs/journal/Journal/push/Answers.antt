@@ -1,7 +1,9 @@
-use Rattle.std.proofs.Common.{◌<◌, ◌∷◌, [], length, length-append, sym, ap, ◌∙◌, subst, arith}
+use Rattle.std.proofs.Common.{◌<◌, ◌∷◌, [], ◌++◌, length, length-append, sym, ap, ◌∙◌, subst, arith}
 use Rattle.golog_semantics.specs.Journal.{Journal}
 use Rattle.golog_journal.specs.Boards.{AgentJournal}
+use Rattle.golog_journal.specs.Reaching.{AreReached}
 use Rattle.golog_journal.proofs.Beginning.{earlier}
+use Rattle.golog_journal.proofs.Reaching.{all-longer}
 use Rattle.golog_journal.proofs.journal.Journal.push.Goals as goal
 
 pub push-requires-clause-room : goal.push-requires-clause-room
@@ -18,3 +20,11 @@ push-requires-clause-earlier c place result =
     let v = c.args.self.now in
     let same = c.self.invariant.0 ∙ ap (λ (w : AgentJournal). w.entries) c.self.view_is in
     subst (λ (l : Journal). place < length l) (sym same) (earlier v.agent v.entries c.args.entry c.requires place result)
+
+pub invariant_of-self : goal.invariant_of-self
+invariant_of-self c =
+    let j = c.self.inside in (
+      c.push.ensures ∙ ap (λ (l : Journal). l ++ c.args.entry ∷ []) c.self.invariant.0 ∙ sym (ap (λ (v : AgentJournal). v.entries) c.add.ensures),
+      subst (λ (v : AgentJournal). AreReached v.agent v.entries j.reached.items) (sym c.add.ensures)
+          (all-longer j.counts.agent j.counts.entries j.reached.items c.self.invariant.1 c.args.entry),
+    )
