@@ -1,6 +1,6 @@
 -- Bytes that say a report line by line are read as the report.
 use Rattle.std.proofs.Common.{◌≡◌, ℕ, ◌+◌, ◌≤◌, ◌≢◌, Bool, true, false, not, cond, ◌&&◌, ◌==◌, Option, Some, None, Ok, List, [], ◌∷◌, ◌++◌, length, length-append, map, refl, sym, ap, ◌∙◌, subst, arith, append-nil}
-use Rattle.std.specs.Prelude.{find, is_some, nat_le, option_map, slice_get}
+use Rattle.std.specs.Prelude.{IfSome, find, is_some, nat_le, option_map, slice_get}
 use Rattle.std.specs.List.{list_all}
 use Rattle.std.specs.Option.{option_map_or}
 use Rattle.std.proofs.lemmas.Bool.{eq-eqb, eqb-true, leb-true, le-leb, ne_eqb}
@@ -8,26 +8,35 @@ use Rattle.std.proofs.lemmas.List.{append_assoc}
 use Rattle.std.proofs.lemmas.List.Folds.{list_all-append}
 use Rattle.std.proofs.lemmas.List.Splits.{length-slice_split}
 use Rattle.std.proofs.lemmas.Option.{same_Some, slice_get_within}
+use Rattle.golog_rows.specs.Reading.{Reading, outcome_behind}
 use Rattle.golog_tree.specs.declared.agent.Agent.{Agent}
 use Rattle.golog_tree.specs.declared.prog.Label.{Label}
 use Rattle.golog_semantics.specs.declared.journal.Entry.{Entry}
 use Rattle.golog_semantics.specs.declared.journal.PlacedRun.{PlacedRun}
 use Rattle.golog_semantics.specs.declared.journal.Report.{Report}
+use Rattle.golog_tree.specs.Ground.{ground_fluents}
+use Rattle.golog_semantics.specs.InSorts.{AreInSorts}
 use Rattle.golog_semantics.specs.InlineText.{placed_run}
 use Rattle.golog_semantics.specs.Journal.{Journal}
 use Rattle.golog_semantics.specs.Online.{label_of}
 use Rattle.golog_semantics.specs.ReportLaws.{TellsApart}
 use Rattle.golog_semantics.specs.Reports.{IsReport, fits_entry, fits_label, fits_run, grow_from, place_limit}
-use Rattle.golog_semantics.specs.Text.{Text, at_each, run_at}
+use Rattle.golog_semantics.specs.Text.{Text, at_each, head_text, run_at}
+use Rattle.golog_semantics.specs.Truth.{Values}
+use Rattle.golog_semantics.specs.Verdicts.{head_length}
 use Rattle.golog_semantics.specs.WellFormed.{WellFormed}
 use Rattle.golog_semantics.specs.Ways.{is_empty}
+use Rattle.golog_semantics.proofs.StartValues.{head_is, lines_of_values, of-sorts}
 use Rattle.golog_semantics.proofs.Words.{and-both, and-left, and-right}
 use Rattle.golog_reports.specs.declared.reading.Line.{Line}
 use Rattle.golog_reports.specs.Forms.{parts}
 use Rattle.golog_text.specs.Named.{AreFrom}
-use Rattle.golog_reports.specs.Reads.{journal_from, journal_of, line_of, with_line}
-use Rattle.golog_reports.specs.ReadsAs.{AreLines, MayStand, said_line}
+use Rattle.golog_reports.specs.Moved.{moved_outcome}
+use Rattle.golog_reports.specs.Reads.{begin_line, empty_report, entries_read, head_from, headed_report, journal_from, journal_of, line_of, lines_in, plain_report, version_line, with_line}
+use Rattle.golog_reports.specs.ReadsAs.{AreLines, MayStand, ReadsAs, said_line}
+use Rattle.golog_reports.specs.Said.{behind as behind_prefix}
 use Rattle.golog_reports.proofs.FitEntries.{RunFits, StepsOnly}
+use Rattle.golog_reports.proofs.HeadBack.{behind-back, head-back, no-version}
 use Rattle.golog_reports.proofs.JournalSteps.{line_goes_on}
 use Rattle.golog_reports.proofs.LineFeeds.{said-lacks}
 use Rattle.golog_reports.proofs.LinesBack.{IsReadBack, line-back}
@@ -172,20 +181,19 @@ module _ (agent : Agent) (well : WellFormed agent) (apart : TellsApart agent) (r
     pub line-lacks : (old : Option ℕ) → fits_entry agent before e ≡ true → MayStand agent e old → Lacks 10 (said_line agent report.runs (length before) old e)
     line-lacks old fit may = let back = line-is-back old fit may in subst (Lacks 10) back.text (said-lacks back.said back.forms)
 
-  pub lines-read : report.start ≡ None → (before entries : Journal) (runs behind : List PlacedRun) (bytes : Text)
+  lines-read : (before entries : Journal) (runs behind : List PlacedRun) (bytes : Text)
       → report.entries ≡ before ++ entries → report.runs ≡ runs ++ behind → Clear (length before) runs → AreFrom (length before) behind
       → list_all (λ fits. fits) (at_each (fits_entry agent) before entries) ≡ true
       → AreLines agent report.runs (length before) entries bytes
-      → (journal_from agent (record { entries = before; runs = runs; start = None }) (parts 10 bytes)).outcome ≡ Ok report
+      → (journal_from agent (record { entries = before; runs = runs; start = report.start }) (parts 10 bytes)).outcome ≡ Ok report
   unfolding journal_from
-  lines-read own before [] runs behind bytes es rs clear from fit lines =
+  lines-read before [] runs behind bytes es rs clear from fit lines =
       let all : before ≡ report.entries = sym (es ∙ append-nil before) in
       let none = none-behind (length before) behind (omega (arith, ap length all)) from (runs-fit runs behind rs) in
-      let start : None ≡ report.start = sym own in
       let whole : runs ≡ report.runs = sym (rs ∙ ap (λ rs. runs ++ rs) (sym none) ∙ append-nil runs) in
-      ap (λ bs. (journal_from agent (record { entries = before; runs = runs; start = None }) (parts 10 bs)).outcome) lines
-      ∙ (λ i. Ok (record { entries = all i; runs = whole i; start = start i }))
-  lines-read own before (e ∷ entries) runs behind bytes es rs clear from fit lines =
+      ap (λ bs. (journal_from agent (record { entries = before; runs = runs; start = report.start }) (parts 10 bs)).outcome) lines
+      ∙ (λ i. Ok (record { entries = all i; runs = whole i; start = report.start }))
+  lines-read before (e ∷ entries) runs behind bytes es rs clear from fit lines =
       let n = length before in
       let run = run_at report.runs n in
       let old = lines.0 in
@@ -199,16 +207,39 @@ module _ (agent : Agent) (well : WellFormed agent) (apart : TellsApart agent) (r
       let same : run ≡ run_at behind n = ap (λ rs. run_at rs n) rs ∙ run_at-behind runs behind n (clear n (omega arith)) in
       let on : RunsGoOn agent n behind run = subst (RunsGoOn agent n behind) (sym same) (go-on agent n behind from) in
       let count : length (before ++ e ∷ []) ≡ n + 1 = length-append before (e ∷ []) in
-      let next = lines-read own (before ++ e ∷ []) entries (runs ++ placed_run n run) on.behind rest
+      let next = lines-read (before ++ e ∷ []) entries (runs ++ placed_run n run) on.behind rest
       (es ∙ sym (append_assoc before (e ∷ []) entries))
       (rs ∙ ap (λ xs. runs ++ xs) on.are ∙ sym (append_assoc runs (placed_run n run) on.behind))
       (subst (λ m. Clear m (runs ++ placed_run n run)) (sym count) (clear-next n runs run clear))
       (subst (λ m. AreFrom m on.behind) (sym count) on.grow)
       (and-right (fits_entry agent before e) later fit)
       (subst (λ m. AreLines agent report.runs m entries rest) (sym count) lines.4) in
-      ap (λ ts. (journal_from agent (record { entries = before; runs = runs; start = None }) ts).outcome) cut
-      ∙ one-line agent (record { entries = before; runs = runs; start = None }) text rest (record { entry = e; run = run }) back.outcome ∙ next
+      ap (λ ts. (journal_from agent (record { entries = before; runs = runs; start = report.start }) ts).outcome) cut
+      ∙ one-line agent (record { entries = before; runs = runs; start = report.start }) text rest (record { entry = e; run = run }) back.outcome ∙ next
 
-  pub said-is-read : report.start ≡ None → (bytes : Text) → AreLines agent report.runs 0 report.entries bytes → (journal_of agent bytes).outcome ≡ Ok report
-  unfolding journal_of
-  said-is-read own bytes lines = lines-read own [] report.entries [] report.runs bytes refl refl (λ k h. refl) fits.in_order fits.entries lines
+  module _ (rest : Text) (lines : AreLines agent report.runs 0 report.entries rest) where
+    behind-head : (start : Option Values) → report.start ≡ start → (journal_from agent (empty_report start) (lines_in rest)).outcome ≡ Ok report
+    behind-head start is =
+        ap (λ s. (journal_from agent (empty_report s) (lines_in rest)).outcome) (sym is)
+        ∙ lines-read [] report.entries [] report.runs rest refl refl (λ k h. refl) fits.in_order fits.entries lines
+
+    by-start : (start : Option Values) → report.start ≡ start → IfSome start (AreInSorts agent) → (bytes : Text) → bytes ≡ option_map_or (head_text agent) start [] ++ rest
+        → (journal_of agent bytes).outcome ≡ Ok report
+    unfolding journal_of headed_report entries_read
+    by-start None is sorts bytes e =
+        ap (λ b. (journal_of agent b).outcome) e
+        ∙ ap (λ o. (option_map_or (headed_report agent) o (plain_report agent rest)).outcome) (no-version agent report.runs report.entries rest lines)
+        ∙ behind-head None is
+    by-start (Some values) is sorts bytes e =
+        let many = length (ground_fluents agent) in
+        let next : Values × Text → Reading Report = λ head. entries_read agent head.0 head.1 in
+        let text = lines_of_values agent 0 values ++ (begin_line ++ rest) in
+        let back = head-back agent well apart values [] rest (let k = sorts.whole in omega (arith, k)) (of-sorts agent values sorts) in
+        ap (λ b. (option_map_or (headed_report agent) (behind_prefix version_line b) (plain_report agent b)).outcome) (e ∙ sym (head_is agent values rest))
+        ∙ ap (λ o. (option_map_or (headed_report agent) o (plain_report agent (version_line ++ text))).outcome) (behind-back version_line text)
+        ∙ ap (λ n. outcome_behind (head_from agent n [] text).outcome next) (sym sorts.whole)
+        ∙ ap (λ o. outcome_behind o next) back
+        ∙ ap (moved_outcome (head_length agent)) (behind-head (Some values) is)
+
+  pub said-is-read : (bytes : Text) → ReadsAs agent bytes report → (journal_of agent bytes).outcome ≡ Ok report
+  said-is-read bytes said = by-start said.rest said.lines report.start refl fits.start bytes said.head

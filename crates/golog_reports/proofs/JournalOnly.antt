@@ -2,8 +2,9 @@
 use Rattle.std.proofs.Common.{◌≡◌, ℕ, ◌+◌, ◌<◌, Bool, true, false, cond, ◌&&◌, ◌==◌, Option, Some, None, Ok, List, [], ◌∷◌, ◌++◌, length, length-append, refl, sym, ap, ◌∙◌, subst, arith, append-nil}
 use Rattle.std.specs.Prelude.{codes, decimal, find, nat_eq, option_map, slice_get}
 use Rattle.std.specs.List.{flat_map, join_with_byte}
+use Rattle.std.specs.Option.{option_map_or}
 use Rattle.std.proofs.lemmas.Bool.{eq-eqb, eqb-true, leb-true}
-use Rattle.std.proofs.lemmas.List.{append_assoc}
+use Rattle.std.proofs.lemmas.List.{append_assoc, append_cancel_left}
 use Rattle.std.proofs.lemmas.List.Splits.{join_with_byte-slice_split}
 use Rattle.golog_base.specs.Numbers.{amount}
 use Rattle.golog_rows.specs.Reading.{gives}
@@ -15,7 +16,9 @@ use Rattle.golog_semantics.specs.InlineText.{placed_run}
 use Rattle.golog_semantics.specs.Journal.{Journal}
 use Rattle.golog_semantics.specs.Online.{same_line}
 use Rattle.golog_semantics.specs.Reports.{SpellsReport, place_limit}
-use Rattle.golog_semantics.specs.Text.{Text, at_each, line_text, report_text, run_at, with_line_feed}
+use Rattle.golog_semantics.specs.Restart.{started}
+use Rattle.golog_semantics.specs.Text.{Text, at_each, head_text, line_text, report_text, run_at, with_line_feed}
+use Rattle.golog_semantics.specs.Verdicts.{entry_lines}
 use Rattle.golog_semantics.specs.WellFormed.{WellFormed}
 use Rattle.golog_semantics.specs.Ways.{is_empty}
 use Rattle.golog_semantics.proofs.Words.{and-left, and-right}
@@ -24,7 +27,7 @@ use Rattle.golog_reports.specs.declared.reading.Line.{Line}
 use Rattle.golog_reports.specs.Codes.{NO_BODY}
 use Rattle.golog_reports.specs.Forms.{is_natural}
 use Rattle.golog_reports.specs.Laws.{TextsAreKept}
-use Rattle.golog_reports.specs.Reads.{has_small, is_in_place, is_small, journal_from, journal_of, line_of, lines_in, with_line}
+use Rattle.golog_reports.specs.Reads.{empty_report, has_small, is_in_place, is_small, journal_from, journal_of, line_of, lines_in, with_line}
 use Rattle.golog_reports.specs.ReadsAs.{AreLines, MayStand, ReadsAs, said_body, said_line}
 use Rattle.golog_reports.specs.Said.{body_said, is_body}
 use Rattle.golog_reports.proofs.Decimals.{decimal-amount}
@@ -33,7 +36,7 @@ use Rattle.golog_reports.proofs.JournalBack.{Clear, clear-next, placed-elsewhere
 use Rattle.golog_reports.proofs.NamesOnly.{line-only, named-only}
 use Rattle.golog_reports.proofs.SaidOnly.{said-only}
 use Rattle.golog_reports.proofs.Says.{is_read, row-ok, then-ok}
-use Rattle.golog_semantics.proofs.Starts.{own_text}
+use Rattle.golog_reports.proofs.ReadHeads.{IsHeaded, read-head}
 use Rattle.golog_reports.proofs.WholeReports.{journal-fits}
 
 module _ (agent : Agent) (well : WellFormed agent) where
@@ -86,8 +89,8 @@ module _ (agent : Agent) (well : WellFormed agent) where
     start : whole.start ≡ report.start
     runs : (k : ℕ) → k < length report.entries → run_at whole.runs k ≡ run_at report.runs k
     lines : AreLines agent whole.runs (length report.entries) added (join_with_byte 10 texts)
-    kept : (before all : List Text) → all ≡ before ++ texts → length before ≡ length report.entries → TextsAreKept agent whole all
-        → join_with_byte 10 texts ≡ flat_map (with_line_feed agent) (at_each (line_text agent whole.runs) report.entries added)
+    kept : (own : Agent) (before all : List Text) → all ≡ before ++ texts → length before ≡ length report.entries → TextsAreKept own whole all
+        → join_with_byte 10 texts ≡ flat_map (with_line_feed own) (at_each (line_text own whole.runs) report.entries added)
 
   nothing-more : (report : Report) (texts : List Text) → join_with_byte 10 texts ≡ [] → LinesSay report texts report
   nothing-more report texts e = record {
@@ -96,7 +99,7 @@ module _ (agent : Agent) (well : WellFormed agent) where
     start = refl;
     runs = λ k h. refl;
     lines = e;
-    kept = λ before all h k kept. e;
+    kept = λ own before all h k kept. e;
   }
 
   lines-say : (report : Report) (texts : List Text) (whole : Report) → Clear (length report.entries) report.runs → (journal_from agent report texts).outcome ≡ Ok whole → LinesSay report texts whole
@@ -134,35 +137,51 @@ module _ (agent : Agent) (well : WellFormed agent) where
               ∙ sym (append_assoc (said_line agent whole.runs n one.old line.entry) (10 ∷ []) joined),
           subst (λ m. AreLines agent whole.runs m rest.added joined) count rest.lines,
         );
-        kept = λ before all h k kept.
+        kept = λ own before all h k kept.
             let at : slice_get all n ≡ Some text = ap (λ ts. slice_get ts n) h ∙ ap (slice_get (before ++ text ∷ next ∷ texts)) (sym k) ∙ stands-next before text (next ∷ texts) in
-            let own = line_text agent whole.runs report.entries line.entry in
-            let told : same_line (Some text) own ≡ true = ap (λ o. same_line o own) (sym at) ∙ kept report.entries line.entry rest.added es in
-            let behind = rest.kept (before ++ text ∷ []) all (h ∙ sym (append_assoc before (text ∷ []) (next ∷ texts))) (length-append before (text ∷ []) ∙ ap (λ m. m + 1) k ∙ sym count) kept in
-            (λ i. same_text text own (sym told) i ++ 10 ∷ behind i)
-            ∙ sym (append_assoc own (10 ∷ []) (flat_map (with_line_feed agent) (at_each (line_text agent whole.runs) (report.entries ++ line.entry ∷ []) rest.added)));
+            let written = line_text own whole.runs report.entries line.entry in
+            let told : same_line (Some text) written ≡ true = ap (λ o. same_line o written) (sym at) ∙ kept report.entries line.entry rest.added es in
+            let behind = rest.kept own (before ++ text ∷ []) all (h ∙ sym (append_assoc before (text ∷ []) (next ∷ texts))) (length-append before (text ∷ []) ∙ ap (λ m. m + 1) k ∙ sym count) kept in
+            (λ i. same_text text written (sym told) i ++ 10 ∷ behind i)
+            ∙ sym (append_assoc written (10 ∷ []) (flat_map (with_line_feed own) (at_each (line_text own whole.runs) (report.entries ++ line.entry ∷ []) rest.added)));
       }
 
   module _ (bytes : Text) (report : Report) (e : (journal_of agent bytes).outcome ≡ Ok report) where
-    all-lines : LinesSay (record { entries = []; runs = []; start = None }) (lines_in bytes) report
-    unfolding journal_of
-    all-lines = lines-say (record { entries = []; runs = []; start = None }) (lines_in bytes) report (λ k h. refl) e
+    abbrev pub its-head : IsHeaded agent bytes report report.start
+    its-head = read-head agent well bytes report e
+
+    all-lines : LinesSay (empty_report report.start) (lines_in its-head.rest) report
+    all-lines = lines-say (empty_report report.start) (lines_in its-head.rest) report (λ k h. refl) its-head.says
 
     pub read-says : ReadsAs agent bytes report
     read-says =
-        let said = all-lines in record {
+        let said = all-lines in
+        let rest = its-head.rest in record {
           fits = journal-fits agent well bytes report e;
-          start = said.start;
-          lines = subst (λ es. AreLines agent report.runs 0 es bytes) (sym said.entries) (subst (AreLines agent report.runs 0 said.added) (join_with_byte-slice_split 10 bytes) said.lines);
+          rest = rest;
+          head = its-head.head;
+          lines = subst (λ es. AreLines agent report.runs 0 es rest) (sym said.entries) (subst (AreLines agent report.runs 0 said.added) (join_with_byte-slice_split 10 rest) said.lines);
         }
 
-    pub kept-is-spelled : TextsAreKept agent report (lines_in bytes) → SpellsReport agent bytes report
+    abbrev own-agent : Agent
+    own-agent = started agent report.start
+
+    -- the lines behind the head are the text of the entries, where each is that of its entry
+    pub kept-lines : TextsAreKept own-agent report (entry_lines agent bytes report.start) → its-head.rest ≡ report_text own-agent report
     unfolding report_text
-    kept-is-spelled kept =
-        let said = all-lines in record {
-          fits = journal-fits agent well bytes report e;
-          text =
-              sym (join_with_byte-slice_split 10 bytes) ∙ said.kept [] (lines_in bytes) refl refl kept
-              ∙ ap (λ es. flat_map (with_line_feed agent) (at_each (line_text agent report.runs) [] es)) (sym said.entries)
-              ∙ sym (own_text agent report said.start);
-        }
+    kept-lines kept =
+        let said = all-lines in
+        let rest = its-head.rest in
+        sym (join_with_byte-slice_split 10 rest) ∙ said.kept own-agent [] (lines_in rest) refl refl (subst (TextsAreKept own-agent report) its-head.lines kept)
+        ∙ ap (λ es. flat_map (with_line_feed own-agent) (at_each (line_text own-agent report.runs) [] es)) (sym said.entries)
+
+    pub kept-is-spelled : TextsAreKept own-agent report (entry_lines agent bytes report.start) → SpellsReport agent bytes report
+    kept-is-spelled kept = record {
+      fits = journal-fits agent well bytes report e;
+      text = its-head.head ∙ ap (λ t. option_map_or (head_text agent) report.start [] ++ t) (kept-lines kept);
+    }
+
+    -- and the other way round
+    pub spelled-rest : SpellsReport agent bytes report → its-head.rest ≡ report_text own-agent report
+    spelled-rest spelled =
+        append_cancel_left (option_map_or (head_text agent) report.start []) its-head.rest (report_text own-agent report) (sym its-head.head ∙ spelled.text)

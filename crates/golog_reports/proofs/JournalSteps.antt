@@ -11,7 +11,7 @@ use Rattle.golog_reports.specs.declared.fault.TextFault.{TextFault}
 use Rattle.golog_reports.specs.declared.reading.Line.{Line}
 use Rattle.golog_reports.specs.Answers.{Answers, code_at}
 use Rattle.golog_reports.specs.Forms.{parts}
-use Rattle.golog_reports.specs.Reads.{line_of, with_line, journal_from, journal_of}
+use Rattle.golog_reports.specs.Reads.{line_of, lines_in, with_line, journal_from}
 
 -- a fault that is passed on answers what it answered
 pub passed_on : {A : Type 0} (result : Result Unit TextFault) (fault : TextFault) (new : A) (reading : Reading A) → IsErrAnd result (λ e. e ≡ fault)
@@ -60,7 +60,6 @@ module _ (agent : Agent) where
   no_line_feed report (byte ∷ bytes) whole e h = sym e
 
   -- the first part
-  pub begun : (bytes first : Text) (others : List Text) → parts 10 bytes ≡ first ∷ others
-      → (journal_from agent (record { entries = []; runs = []; start = None }) (first ∷ others)).outcome ≡ (journal_of agent bytes).outcome
-  unfolding journal_of
-  begun bytes first others h = ap (λ ts. (journal_from agent (record { entries = []; runs = []; start = None }) ts).outcome) (sym h)
+  pub begun : (report : Report) (bytes first : Text) (others : List Text) → parts 10 bytes ≡ first ∷ others
+      → (journal_from agent report (first ∷ others)).outcome ≡ (journal_from agent report (lines_in bytes)).outcome
+  begun report bytes first others h = ap (λ ts. (journal_from agent report ts).outcome) (sym h)

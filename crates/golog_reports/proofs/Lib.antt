@@ -2,8 +2,14 @@ pub mod Cuts
 pub mod FirstNamed
 pub mod Results
 pub mod Says
+pub mod HeadSteps
+pub mod HeadWords
+pub mod HeadOnly
+pub mod ReadHeads
 pub mod FitEntries
 pub mod WholeReports
+pub mod Within
+pub mod Versions
 pub mod JournalSteps
 pub mod LabelSteps
 pub mod Rests
@@ -17,8 +23,10 @@ pub mod EntryBodies
 pub mod OwnWords
 pub mod LineFeeds
 pub mod LinesBack
+pub mod HeadBack
 pub mod JournalBack
 pub mod WrittenSaid
 pub mod NamesOnly
 pub mod JournalOnly
 pub mod SpelledLines
+pub mod Migrated

@@ -128,7 +128,7 @@ action-at name rest h k =
     ap (λ (c : Text × Option Text). is_name c.0 && option_map_or is_closed c.1 true) (cut-marked 40 name rest (name-lacks 40 refl name h))
     ∙ and-both (is_name name) (option_map_or is_closed rest true) h k
 
-action-form : (name : Text) (texts : List Text) → is_name name ≡ true → list_all is_constant texts ≡ true → is_action (name ++ in_brackets texts) ≡ true
+pub action-form : (name : Text) (texts : List Text) → is_name name ≡ true → list_all is_constant texts ≡ true → is_action (name ++ in_brackets texts) ≡ true
 action-form name [] h k = action-at name None h refl
 action-form name (text ∷ texts) h k =
     ap (λ t. is_action (name ++ 40 ∷ (t ++ 41 ∷ []))) (joined-is 44 (λ a. a) text texts ∙ ap (join_with_byte 44) (whole (text ∷ texts)))
@@ -196,7 +196,7 @@ module _ (agent : Agent) where
         (λ k y there same. apart.devices.distinct k device r.item (there ∙ ap Some (same_text y r.item (sym same))) r.is)
 
     -- actions
-    args-form : (sorts args : List ℕ) → AreWithin (sizes agent sorts) args → list_all is_constant (map (λ at. constant_text agent at.0 at.1) (zip sorts args)) ≡ true
+    pub args-form : (sorts args : List ℕ) → AreWithin (sizes agent sorts) args → list_all is_constant (map (λ at. constant_text agent at.0 at.1) (zip sorts args)) ≡ true
     args-form [] [] within = refl
     args-form [] (a ∷ args) within = absurd within
     args-form (sort ∷ sorts) [] within = absurd within

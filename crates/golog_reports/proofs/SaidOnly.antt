@@ -18,7 +18,7 @@ use Rattle.golog_reports.proofs.SaidBack.{two, three, run_behind, old_behind, de
 use Rattle.golog_reports.proofs.Says.{mapped}
 
 -- what stands behind a prefix
-behind-only : (prefix text rest : Text) → behind prefix text ≡ Some rest → text ≡ prefix ++ rest
+pub behind-only : (prefix text rest : Text) → behind prefix text ≡ Some rest → text ≡ prefix ++ rest
 unfolding behind
 behind-only prefix text rest e =
     let b = if-so (bytes_eq (take (length prefix) text) prefix) (Some (drop (length prefix) text)) rest e in

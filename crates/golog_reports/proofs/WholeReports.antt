@@ -1,6 +1,6 @@
 -- A report that was read has a text.
 use Rattle.std.proofs.Common.{◌≡◌, ℕ, zero, suc, ◌+◌, ◌≤◌, Bool, true, false, not, ◌&&◌, Option, Some, None, Result, Ok, Err, List, [], ◌∷◌, ◌++◌, length, length-append, map, refl, ap, ◌∙◌, subst, arith, append-nil}
-use Rattle.std.specs.Prelude.{nat_le, nat_eq, slice_get, is_some}
+use Rattle.std.specs.Prelude.{IfSome, nat_le, nat_eq, slice_get, is_some}
 use Rattle.std.specs.List.{list_all}
 use Rattle.std.specs.Option.{option_map_or}
 use Rattle.std.specs.Result.{IfOk}
@@ -19,7 +19,9 @@ use Rattle.golog_semantics.specs.InlineText.{placed_run}
 use Rattle.golog_semantics.specs.Journal.{Journal}
 use Rattle.golog_semantics.specs.Online.{label_of}
 use Rattle.golog_semantics.specs.Reports.{IsReport, fits_entry, fits_label, fits_run, grow_from, place_limit}
+use Rattle.golog_semantics.specs.InSorts.{AreInSorts}
 use Rattle.golog_semantics.specs.Text.{Text, at_each}
+use Rattle.golog_semantics.specs.Truth.{Values}
 use Rattle.golog_semantics.specs.WellFormed.{WellFormed}
 use Rattle.golog_semantics.specs.Ways.{is_empty}
 use Rattle.golog_semantics.proofs.Pushed.{at_each-push}
@@ -29,8 +31,9 @@ use Rattle.golog_reports.specs.declared.reading.Line.{Line}
 use Rattle.golog_reports.specs.Answers.{Answers}
 use Rattle.golog_reports.specs.Codes.{NO_BODY}
 use Rattle.golog_reports.specs.Said.{Said}
-use Rattle.golog_reports.specs.Reads.{is_in_place, is_small, has_small, line_of, with_line, journal_from, journal_of, lines_in}
+use Rattle.golog_reports.specs.Reads.{is_in_place, is_small, has_small, line_of, with_line, empty_report, journal_from, journal_of, lines_in}
 use Rattle.golog_reports.proofs.FitEntries.{RunFits, StepsOnly, ToldFits, line-fits}
+use Rattle.golog_reports.proofs.ReadHeads.{read-head}
 use Rattle.golog_reports.proofs.Says.{is_read, row-ok, then-ok}
 
 -- what stands in a list stands there still with one more behind it, and the one behind it stands at its length
@@ -126,7 +129,7 @@ module _ (agent : Agent) where
     }
 
   -- a number that is a place is small, and so are those of the body
-  small-place : (place : ℕ) (said : Said) → is_in_place place said ≡ true → (place ≤ place_limit) × (has_small said.body ≡ true)
+  pub small-place : (place : ℕ) (said : Said) → is_in_place place said ≡ true → (place ≤ place_limit) × (has_small said.body ≡ true)
   unfolding is_in_place
   small-place place said h =
       let both = and-left (is_small said.number && nat_eq (amount said.number) place) (has_small said.body) h in
@@ -151,12 +154,13 @@ module _ (agent : Agent) where
       let r = then-ok (line_of agent report.entries text) (λ line. journal_from agent (with_line report line) (next ∷ texts)) whole e in
       from-fits well (with_line report r.0) (next ∷ texts) whole (line-is-report well report text r.0 fits r.1) r.2
 
-  none-read : IsReport agent (record { entries = []; runs = []; start = None })
-  none-read = record { entries = refl; runs = refl; in_order = refl; in_bounds = refl; start = tt }
+  none-read : (start : Option Values) → IfSome start (AreInSorts agent) → IsReport agent (empty_report start)
+  none-read start sorts = record { entries = refl; runs = refl; in_order = refl; in_bounds = refl; start = sorts }
 
   pub journal-fits : WellFormed agent → (bytes : Text) (report : Report) → (journal_of agent bytes).outcome ≡ Ok report → IsReport agent report
-  unfolding journal_of
-  journal-fits well bytes report e = from-fits well (record { entries = []; runs = []; start = None }) (lines_in bytes) report none-read e
+  journal-fits well bytes report e =
+      let h = read-head agent well bytes report e in
+      from-fits well (empty_report report.start) (lines_in h.rest) report (none-read report.start h.sorts) h.says
 
   pub answer-fits : WellFormed agent → (bytes : Text) (result : Result Report TextFault) → Answers result (journal_of agent bytes) → IfOk result (IsReport agent)
   answer-fits well bytes (Ok report) e = journal-fits well bytes report e

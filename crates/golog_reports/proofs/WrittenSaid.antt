@@ -1,6 +1,6 @@
 -- The text of a report says it line by line.
 use Rattle.std.proofs.Common.{◌≡◌, ℕ, Bool, true, false, not, ◌&&◌, ◌||◌, ◌==◌, Option, Some, None, List, [], ◌∷◌, ◌++◌, length, length-append, refl, ap, subst, arith}
-use Rattle.std.specs.Prelude.{codes, decimal, if◌then◌else◌, nat_lt, slice_index}
+use Rattle.std.specs.Prelude.{IfSome, codes, decimal, if◌then◌else◌, nat_lt, slice_index}
 use Rattle.std.specs.List.{flat_map, list_all, list_any}
 use Rattle.std.specs.Option.{option_map_or}
 use Rattle.std.proofs.lemmas.Bool.{eqb-true, ltb-true}
@@ -16,12 +16,14 @@ use Rattle.golog_semantics.specs.Online.{is_result}
 use Rattle.golog_semantics.specs.Progress.{values_after}
 use Rattle.golog_semantics.specs.Reports.{IsReport, fits_entry, is_device, is_value}
 use Rattle.golog_semantics.specs.InSorts.{AreInSorts}
+use Rattle.golog_semantics.specs.Restart.{journal_text, restarted, started}
 use Rattle.golog_semantics.specs.SortLaws.{ResultsFit}
 use Rattle.golog_semantics.specs.Text.{at_each, body_text, device_text, line_text, report_text, run_at, value_text, with_line_feed}
 use Rattle.golog_semantics.specs.Truth.{Values, is_known, unknown}
 use Rattle.golog_semantics.specs.Values.{fluent_sort}
 use Rattle.golog_semantics.specs.WellFormed.{WellFormed}
 use Rattle.golog_semantics.proofs.CausesKeep.{values_stay_in_sorts}
+use Rattle.golog_semantics.proofs.Restarted.{restarted_fits}
 use Rattle.golog_semantics.proofs.Words.{and-both, and-left, and-right}
 use Rattle.golog_reports.specs.ReadsAs.{AreLines, MayStand, ReadsAs, said_body, said_line}
 use Rattle.golog_text.proofs.Things.{fluent_within}
@@ -122,6 +124,11 @@ module _ (agent : Agent) where
             (lines-from well runs (before ++ e ∷ []) entries (results-next before e results (one-result before e one)) (and-right (fits_entry agent before e) later fit)),
       )
 
-  pub written-says : WellFormed agent → (report : Report) → IsReport agent report → report.start ≡ None → ReadsAs agent (report_text agent report) report
+module _ (agent : Agent) (well : WellFormed agent) (report : Report) (fits : IsReport agent report) where
+  lines-of : (start : Option Values) → IfSome start (AreInSorts agent) → AreLines agent report.runs 0 report.entries (report_text (started agent start) report)
   unfolding report_text
-  written-says well report fits own = record { fits = fits; start = own; lines = lines-from well report.runs [] report.entries tt fits.entries }
+  lines-of None sorts = lines-from agent well report.runs [] report.entries tt fits.entries
+  lines-of (Some values) sorts = lines-from (restarted agent values) (restarted_fits agent values well sorts) report.runs [] report.entries tt fits.entries
+
+  pub written-says : ReadsAs agent (journal_text agent report) report
+  written-says = record { fits = fits; rest = report_text (started agent report.start) report; head = refl; lines = lines-of report.start fits.start }

@@ -16,3 +16,7 @@ NOT_OWN = 52
 -- a result is of no earlier command of its device, or a value not of the fluent's sort
 abbrev pub NO_RESULT : ℕ
 NO_RESULT = 53
+
+-- a line of the head is missing, or is not the one that stands there
+abbrev pub HEAD : ℕ
+HEAD = 54

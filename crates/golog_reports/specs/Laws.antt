@@ -1,17 +1,19 @@
 -- Laws of journals that are read.
-use Rattle.std.specs.Prelude.{◌≡◌, ℕ, IsTrue, List, ◌∷◌, ◌++◌, Result, Ok, Err, None, Some}
+use Rattle.std.specs.Prelude.{◌≡◌, ℕ, IsTrue, List, ◌∷◌, ◌++◌, Result, Ok, Err, Some}
 use Rattle.golog_rows.specs.Reading.{first}
 use Rattle.golog_tree.specs.declared.agent.Agent.{Agent}
 use Rattle.golog_semantics.specs.declared.journal.Entry.{Entry}
 use Rattle.golog_semantics.specs.declared.journal.Report.{Report}
 use Rattle.golog_semantics.specs.Journal.{Journal}
-use Rattle.golog_semantics.specs.Online.{keeps_text}
+use Rattle.golog_semantics.specs.Online.{IsOnline, keeps_text}
 use Rattle.golog_semantics.specs.Reports.{IsReport, SpellsReport}
 use Rattle.golog_semantics.specs.ReportLaws.{TellsApart}
-use Rattle.golog_semantics.specs.Text.{Text, report_text}
+use Rattle.golog_semantics.specs.Restart.{journal_text, migrated, started}
+use Rattle.golog_semantics.specs.Text.{Text}
+use Rattle.golog_semantics.specs.Verdicts.{entry_lines}
 use Rattle.golog_semantics.specs.WellFormed.{WellFormed}
 use Rattle.golog_reports.specs.Said.{Said, is_said, said_text, said_in}
-use Rattle.golog_reports.specs.Reads.{lines_in, journal_of}
+use Rattle.golog_reports.specs.Reads.{journal_of}
 use Rattle.golog_reports.specs.ReadsAs.{ReadsAs}
 
 -- a report that a text says has a text of its own
@@ -48,13 +50,25 @@ ReadOrRefused =
     (agent : Agent) → WellFormed agent → TellsApart agent → (bytes : Text)
     → IsReadOrRefused agent bytes (journal_of agent bytes).outcome
 
--- the text of a report from the agent's own start is read as that report
+-- the text of a report is read as that report
 abbrev pub WrittenReadsBack : Type 0
 WrittenReadsBack =
     (agent : Agent) → WellFormed agent → TellsApart agent → (report : Report) → IsReport agent report
-    → report.start ≡ None → (journal_of agent (report_text agent report)).outcome ≡ Ok report
+    → (journal_of agent (journal_text agent report)).outcome ≡ Ok report
 
--- each of these lines is the text of its entry
+-- the report with its start written out has a text, which is read as it, and it is online where the report is
+pub record IsMigrated (agent : Agent) (report : Report) : Type 0 where
+  pub fits : IsReport agent (migrated agent report)
+  pub read : (journal_of agent (journal_text agent (migrated agent report))).outcome ≡ Ok (migrated agent report)
+  pub online : IsOnline (started agent report.start) report
+      → IsOnline (started agent (migrated agent report).start) (migrated agent report)
+
+abbrev pub MigratedReadsBack : Type 0
+MigratedReadsBack =
+    (agent : Agent) → WellFormed agent → TellsApart agent → (report : Report) → IsReport agent report
+    → IsMigrated agent report
+
+-- each of these lines is the text of its entry, for the agent that starts from the report's start
 abbrev pub TextsAreKept : Agent → Report → List Text → Type 0
 TextsAreKept agent report lines =
     (before : Journal) (e : Entry) (later : Journal) → report.entries ≡ before ++ e ∷ later
@@ -65,5 +79,7 @@ abbrev pub ReadIsSpelled : Type 0
 ReadIsSpelled =
     (agent : Agent) → WellFormed agent → TellsApart agent → (bytes : Text) (report : Report)
     → (journal_of agent bytes).outcome ≡ Ok report
-    → (TextsAreKept agent report (lines_in bytes) → SpellsReport agent bytes report)
-    × (SpellsReport agent bytes report → TextsAreKept agent report (lines_in bytes))
+    → (TextsAreKept (started agent report.start) report (entry_lines agent bytes report.start)
+    → SpellsReport agent bytes report)
+    × (SpellsReport agent bytes report
+    → TextsAreKept (started agent report.start) report (entry_lines agent bytes report.start))

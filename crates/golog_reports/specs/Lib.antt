@@ -1,6 +1,7 @@
 pub mod Codes
 pub mod Forms
 pub mod Said
+pub mod Moved
 pub mod Reads
 pub mod Answers
 pub mod ReadsAs

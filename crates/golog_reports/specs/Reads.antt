@@ -1,5 +1,5 @@
 -- The report that a journal's text says, or its first refusal, line by line.
-use Rattle.std.specs.Prelude.{ℕ, ◌&&◌, nat_eq, nat_le, Bool, true, false, not, List, [], ◌∷◌, ◌++◌, Option, None, Some, is_some, length, find, drop, position, slice_get, bytes_eq, codes, if◌then◌else◌, option_map, option_and_then}
+use Rattle.std.specs.Prelude.{ℕ, zero, suc, ◌+◌, ◌&&◌, nat_eq, nat_le, Bool, true, false, not, List, [], ◌∷◌, ◌++◌, Option, None, Some, is_some, length, find, drop, position, slice_get, bytes_eq, codes, if◌then◌else◌, option_map, option_and_then}
 use Rattle.std.specs.List.{list_any, range_with_len}
 use Rattle.std.specs.Option.{option_map_or}
 use Rattle.golog_base.specs.Numbers.{amount}
@@ -14,13 +14,16 @@ use Rattle.golog_semantics.specs.declared.journal.Report.{Report}
 use Rattle.golog_semantics.specs.InlineText.{placed_run}
 use Rattle.golog_semantics.specs.Journal.{Journal, device_of, is_carried_by, fluent_sensed}
 use Rattle.golog_semantics.specs.Reports.{is_own, is_exogenous, place_limit}
-use Rattle.golog_semantics.specs.Text.{Text, action_text, constant_text, device_text}
-use Rattle.golog_semantics.specs.Values.{fluent_sort}
+use Rattle.golog_semantics.specs.Text.{Text, action_text, constant_text, device_text, fluent_text}
+use Rattle.golog_semantics.specs.Truth.{Values, unknown}
+use Rattle.golog_semantics.specs.Values.{fluent_sort, ground_fluents}
+use Rattle.golog_semantics.specs.Verdicts.{head_length}
 use Rattle.golog_semantics.specs.Ways.{is_empty}
-use Rattle.golog_reports.specs.Codes.{NO_BODY, MISPLACED, NOT_OWN, NO_RESULT}
+use Rattle.golog_reports.specs.Codes.{NO_BODY, MISPLACED, NOT_OWN, NO_RESULT, HEAD}
 use Rattle.golog_reports.specs.declared.reading.Line.{Line}
-use Rattle.golog_reports.specs.Forms.{parts}
-use Rattle.golog_reports.specs.Said.{Said, Body, SaysDo, SaysTest, SaysExo, SaysSense, SaysRest, SaysClose, SaysEnd, if_so, said_in}
+use Rattle.golog_reports.specs.Forms.{cut, parts}
+use Rattle.golog_reports.specs.Moved.{moved}
+use Rattle.golog_reports.specs.Said.{Said, Body, SaysDo, SaysTest, SaysExo, SaysSense, SaysRest, SaysClose, SaysEnd, behind, if_so, said_in}
 
 -- The lines of the bytes: what stands before each line feed. The last one is what stands behind the last line
 -- feed, so it is empty where each line has its line feed.
@@ -187,6 +190,67 @@ module _ (agent : Agent) where
   journal_from report (text ∷ next ∷ texts) =
       line_of agent report.entries text >>= λ line. journal_from (with_line report line) (next ∷ texts)
 
+-- ---- 54: the head
+
+-- a report without entries, which has this start
+abbrev pub empty_report : Option Values → Report
+empty_report start = record { entries = []; runs = []; start = start }
+
+-- the first line of a head, with its line feed
+abbrev pub version_line : Text
+version_line = codes "golog 2" ++ 10 ∷ []
+
+-- the last one
+abbrev pub begin_line : Text
+begin_line = codes "begin" ++ 10 ∷ []
+
+-- the values, and what stands behind the last line
+unfoldable pub begin_read : Values → Text → Reading (Values × Text)
+begin_read values text =
+    found HEAD (length values + 1) (option_map (λ rest. (values, rest)) (behind begin_line text))
+
+module _ (agent : Agent) where
+  -- the value of a ground fluent that a text is, or that it is unknown
+  unfoldable pub start_named : ℕ → Text → Option ℕ
+  start_named fluent text =
+      if bytes_eq text (codes "unknown") then Some unknown else constant_named agent (fluent_sort agent fluent) text
+
+  -- the value that the line of a ground fluent says
+  unfoldable pub start_said : ℕ → Text → Option ℕ
+  start_said fluent line =
+      option_and_then (start_named fluent)
+      (option_and_then (behind (codes " "))
+      (option_and_then (behind (fluent_text agent fluent)) (behind (codes "start ") line)))
+
+  -- the value that the first line of a text says, and what stands behind its line feed
+  unfoldable pub start_in : ℕ → Text → Option (ℕ × Text)
+  start_in fluent text =
+      option_and_then (λ rest. option_map (λ value. (value, rest)) (start_said fluent (cut 10 text).0)) (cut 10 text).1
+
+  -- the values so far with the one that the next line says, and what stands behind that line
+  unfoldable pub start_read : Values → Text → Reading (Values × Text)
+  start_read values text =
+      found HEAD (length values + 1)
+      (option_map (λ said. (values ++ said.0 ∷ [], said.1)) (start_in (length values) text))
+
+  -- the values so far with those that so many lines say, and what stands behind the head
+  unfoldable pub head_from : ℕ → Values → Text → Reading (Values × Text)
+  head_from zero values text = begin_read values text
+  head_from (suc more) values text = start_read values text >>= λ said. head_from more said.0 said.1
+
+  -- the report that the lines behind a head with these values say; their refusals have the lines' numbers in the file
+  unfoldable pub entries_read : Values → Text → Reading Report
+  entries_read values text =
+      moved (head_length agent) (journal_from agent (empty_report (Some values)) (lines_in text))
+
+  -- the report that a text says whose first line, which is taken away, begins a head
+  unfoldable pub headed_report : Text → Reading Report
+  headed_report text = head_from (length (ground_fluents agent)) [] text >>= λ head. entries_read head.0 head.1
+
+  -- the report that a text without a head says
+  abbrev pub plain_report : Text → Reading Report
+  plain_report text = journal_from agent (empty_report None) (lines_in text)
+
   -- the report that the text of a journal says, or its first refusal
   unfoldable pub journal_of : Text → Reading Report
-  journal_of bytes = journal_from (record { entries = []; runs = []; start = None }) (lines_in bytes)
+  journal_of bytes = option_map_or headed_report (behind version_line bytes) (plain_report bytes)

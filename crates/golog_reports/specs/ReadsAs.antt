@@ -9,7 +9,7 @@ use Rattle.golog_semantics.specs.declared.journal.PlacedRun.{PlacedRun}
 use Rattle.golog_semantics.specs.declared.journal.Report.{Report}
 use Rattle.golog_semantics.specs.Journal.{Journal}
 use Rattle.golog_semantics.specs.Reports.{IsReport, is_value}
-use Rattle.golog_semantics.specs.Text.{Text, body_text, device_text, run_at, value_text, with_line_feed}
+use Rattle.golog_semantics.specs.Text.{Text, body_text, device_text, head_text, run_at, value_text, with_line_feed}
 
 module _ (agent : Agent) where
   -- a value that may stand behind ` against`: behind a result, one of its fluent
@@ -38,8 +38,9 @@ module _ (agent : Agent) where
       × (bytes ≡ with_line_feed agent (said_line runs place old e) ++ rest)
       × AreLines runs (place + 1) entries rest
 
--- the bytes say the report
+-- the bytes say the report: the head of its start, where it has one, and the lines of its entries
 pub record ReadsAs (agent : Agent) (bytes : Text) (report : Report) : Type 0 where
   pub fits : IsReport agent report
-  pub start : report.start ≡ None
-  pub lines : AreLines agent report.runs 0 report.entries bytes
+  pub rest : Text
+  pub head : bytes ≡ option_map_or (head_text agent) report.start [] ++ rest
+  pub lines : AreLines agent report.runs 0 report.entries rest

@@ -14,6 +14,10 @@ use Rattle.golog_reports.specs.Said.{Said, Body, SaysDo, SaysTest, SaysExo, Says
 abbrev pub lent : Option (Bor (List ℕ)) → Option Text
 lent text = option_map (λ t. t.now) text
 
+-- a value, and a text that is lent
+abbrev pub start_of : ℕ × Bor (List ℕ) → ℕ × Text
+start_of (value, rest) = (value, rest.now)
+
 -- what a body says
 abbrev pub body_of : LentBody → Body
 body_of (Do action device run) = SaysDo action.now (lent device) (lent run)

@@ -1,5 +1,5 @@
 //! Laws of journals that are read.
-ghost use Rattle.golog_reports.specs.Laws.{JournalIsRead, LinesSayTheirTexts, ReadIsSpelled, ReadOrRefused, ReportsAreRead, WrittenReadsBack};
+ghost use Rattle.golog_reports.specs.Laws.{JournalIsRead, LinesSayTheirTexts, MigratedReadsBack, ReadIsSpelled, ReadOrRefused, ReportsAreRead, WrittenReadsBack};
 
 /// A report that a text says has a text of its own.
 pub fn reports_are_read()
@@ -26,7 +26,12 @@ pub fn written_reads_back()
     ensures { WrittenReadsBack }
 {}
 
-/// A text that is read as a report is the report's own text exactly where each line is that of its entry.
+/// The text of a report with its start written out is read as it, and it is online where the report is.
+pub fn migrated_reads_back()
+    ensures { MigratedReadsBack }
+{}
+
+/// A text that is read as a report is the report's own text exactly where each line behind its head is that of its entry.
 pub fn read_is_spelled()
     ensures { ReadIsSpelled }
 {}

@@ -3,6 +3,7 @@
 
 mod fault;
 mod forms;
+mod head;
 mod laws;
 mod lookups;
 mod named;
@@ -10,9 +11,9 @@ mod numbers;
 mod reading;
 mod said;
 
-pub use fault::{MISPLACED, NO_BODY, NO_RESULT, NOT_OWN, TextFault};
+pub use fault::{HEAD, MISPLACED, NO_BODY, NO_RESULT, NOT_OWN, TextFault};
 pub use laws::{
-    journal_is_read, lines_say_their_texts, read_is_spelled, read_or_refused, reports_are_read,
-    written_reads_back,
+    journal_is_read, lines_say_their_texts, migrated_reads_back, read_is_spelled, read_or_refused,
+    reports_are_read, written_reads_back,
 };
 pub use reading::read_journal;

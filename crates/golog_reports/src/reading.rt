@@ -1,21 +1,22 @@
 // The report that the text of a journal says.
-ghost use Rattle.std.specs.Prelude.{◌≡◌, ◌<◌, ◌≤◌, [], None, true, length, is_some, IfOk, IsTrue, OnOk};
+ghost use Rattle.std.specs.Prelude.{◌≡◌, ◌<◌, ◌≤◌, [], true, length, is_some, IfOk, IsTrue, OnOk};
 ghost use Rattle.std.specs.Option.{option_map_or};
 ghost use Rattle.golog_tree.specs.Ground.{fluent_args, ground_count};
 ghost use Rattle.golog_rows.specs.Answers.{Leaves};
 ghost use Rattle.golog_semantics.specs.Reports.{IsReport, entry_limit};
 ghost use Rattle.golog_semantics.specs.WellFormed.{WellFormed};
 ghost use Rattle.golog_reports.specs.Answers.{Answers, IsFirstRow, code_at};
-ghost use Rattle.golog_reports.specs.Reads.{constant_named, is_in_place, has_small, sensed_by_entry, sensed_at, value_named, result_in, line_named, line_said, line_of, with_line, journal_of};
+ghost use Rattle.golog_reports.specs.Reads.{constant_named, empty_report, entries_read, headed_report, is_in_place, has_small, sensed_by_entry, sensed_at, value_named, result_in, line_named, line_said, line_of, with_line, journal_from, journal_of, lines_in};
 ghost use Rattle.golog_reports.specs.Views.{lent, body_of, said_of, named_of};
 
 use crate::fault::{MISPLACED, NO_BODY, NO_RESULT, NOT_OWN, TextFault};
 use crate::forms::cut;
+use crate::head::{head_length, read_head};
 use crate::lookups::{constant_named, is_constant_of};
 use crate::named::{Named, body_named};
 use crate::numbers::number_in;
-use crate::said::{Body, Said, said_in};
-use golog_base::{List, NoMemory};
+use crate::said::{Body, Said, behind, said_in};
+use golog_base::{Bytes, List, NoMemory};
 use golog_journal::AgentFacts;
 use golog_semantics::{Entry, PlacedRun, Report};
 use golog_text::fluent_sort;
@@ -218,7 +219,7 @@ fn add_line(report: &mut Report, line: Line) -> Result<(), NoMemory>
     }
 }
 
-// Adds the lines that a text says to a report that has none.
+// Adds the lines that a text without a head says to a report that has none.
 fn read_lines(
     report: &mut Report,
     alloc: Global,
@@ -228,8 +229,8 @@ fn read_lines(
 ) -> Result<(), TextFault>
     requires formed { WellFormed agent.now }
     requires facts { facts.now ≡ agent.now }
-    requires empty { (report.old.entries ≡ []) × (report.old.runs ≡ []) × (report.old.start ≡ None) }
-    ensures { Leaves code_at result report.new (journal_of agent.now bytes.now) }
+    requires empty { report.old.entries ≡ [] }
+    ensures { Leaves code_at result report.new (journal_from agent.now report.old (lines_in bytes.now)) }
 {
     let (mut text, mut behind) = cut(bytes, b'\n');
     while let Some(rest) = behind {
@@ -248,21 +249,22 @@ fn read_lines(
     Ok(())
 }
 
-// The report that a text says.
-fn report_in(
+// The report with this start that a text without a head says.
+fn report_from(
     alloc: Global,
     agent: &Agent,
     facts: &AgentFacts,
+    start: Option<Bytes>,
     bytes: &[u8],
 ) -> Result<Report, TextFault>
     requires formed { WellFormed agent.now }
     requires facts { facts.now ≡ agent.now }
-    ensures { Answers result (journal_of agent.now bytes.now) }
+    ensures { Answers result (journal_from agent.now (empty_report start) (lines_in bytes.now)) }
 {
     let mut report = Report {
         entries: List::new(alloc),
         runs: List::new(alloc),
-        start: None,
+        start,
     };
     match read_lines(&mut report, alloc, agent, facts, bytes) {
         Ok(()) => Ok(report),
@@ -273,15 +275,78 @@ fn report_in(
     }
 }
 
+// The report that the lines behind a head with these values say.
+#[tactic(auto, unfolding(crate::specs::Reads::entries_read))]
+fn entries_read(
+    alloc: Global,
+    agent: &Agent,
+    facts: &AgentFacts,
+    values: Bytes,
+    bytes: &[u8],
+) -> Result<Report, TextFault>
+    requires formed { WellFormed agent.now }
+    requires facts { facts.now ≡ agent.now }
+    ensures { Answers result (entries_read agent.now values bytes.now) }
+{
+    match report_from(alloc, agent, facts, Some(values), bytes) {
+        Ok(report) => Ok(report),
+        Err(fault) => Err(fault.moved(head_length(agent))),
+    }
+}
+
+// The report that a text says whose first line, which is taken away, begins a head.
+#[tactic(auto, unfolding(crate::specs::Reads::headed_report))]
+fn headed_report(
+    alloc: Global,
+    agent: &Agent,
+    facts: &AgentFacts,
+    bytes: &[u8],
+) -> Result<Report, TextFault>
+    requires formed { WellFormed agent.now }
+    requires facts { facts.now ≡ agent.now }
+    ensures { Answers result (headed_report agent.now bytes.now) }
+{
+    let mut values = List::new(alloc);
+    match read_head(&mut values, agent, bytes) {
+        Ok(rest) => entries_read(alloc, agent, facts, values, rest),
+        Err(fault) => {
+            drop(values);
+            Err(fault)
+        }
+    }
+}
+
+// The report that a text says.
+#[tactic(auto, unfolding(crate::specs::Reads::journal_of))]
+fn report_in(
+    alloc: Global,
+    agent: &Agent,
+    facts: &AgentFacts,
+    bytes: &[u8],
+) -> Result<Report, TextFault>
+    requires formed { WellFormed agent.now }
+    requires facts { facts.now ≡ agent.now }
+    ensures { Answers result (journal_of agent.now bytes.now) }
+{
+    match behind(b"golog 2\n", bytes) {
+        Some(rest) => headed_report(alloc, agent, facts, rest),
+        None => report_from(alloc, agent, facts, None, bytes),
+    }
+}
+
 /// The report that the text of a journal says, or its first refusal: the least line that is refused, and there
 /// the least code. A line is as `write_journal` writes it, but behind a result any constant of the fluent's sort
-/// may stand as the value known before, or none.
+/// may stand as the value known before, or none. A text that begins with the line `golog 2` has a head, which is the
+/// report's start.
 ///
 /// The codes: 50, where the line has no such form, names and numbers left open, or lacks its line feed; 51,
 /// where its number isn't its place, or a number in it is above 2,097,151; 52, where an action, a device or a
 /// constant isn't the agent's, an action is exogenous in `do` or in a run or not exogenous in `exo`, or the
 /// device behind `@` isn't that of the action; 53, where a result is of no earlier sensing command of its
-/// device, or a value isn't of the fluent's sort. Lines are counted from 0. The empty text has no line.
+/// device, or a value isn't of the fluent's sort; 54, where a line of the head isn't that of the ground fluent
+/// whose turn it is with a value of its sort or `unknown`, or isn't `begin` behind them, or lacks its line feed, or is
+/// missing, where the line is the number of lines. Lines are counted from 0, and places from 0 behind the head. The
+/// empty text has no line.
 #[tactic(auto, using(crate::proofs::FactsTold::serves))]
 pub fn read_journal(alloc: Global, agent: &Agent, bytes: &[u8]) -> Result<Report, TextFault>
     requires { WellFormed agent.now }

@@ -55,7 +55,7 @@ pub(crate) struct Said<'t> {
 
 // What stands behind a prefix, where it stands in front.
 #[tactic(auto, unfolding(crate::specs::Said::behind))]
-fn behind<'t>(prefix: &[u8], text: &'t [u8]) -> Option<&'t [u8]>
+pub(crate) fn behind<'t>(prefix: &[u8], text: &'t [u8]) -> Option<&'t [u8]>
     ensures { lent result ≡ behind prefix.now text.now }
 {
     text.strip_prefix(prefix)

@@ -1,3 +1,4 @@
 pub mod Things
 pub mod RunsBehind
+pub mod HeadLines
 pub mod Lines

@@ -1,13 +1,16 @@
-//! The text of a report: a line for each entry of a journal, and the runs that its steps begin.
+//! The text of a report: its head, where it has a start, and a line for each entry of its journal with the run that
+//! it begins.
 #![tactic(auto)]
 
 mod body;
+mod head;
 mod journal;
 mod line;
 mod names;
 mod runs;
 mod words;
 
+pub use head::head_text;
 pub use journal::write_journal;
 pub use line::Line;
 pub use names::{device_of, fluent_sort};

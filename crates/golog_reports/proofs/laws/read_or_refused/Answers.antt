@@ -23,7 +23,7 @@ not-both report refusal e = cc
 
 module _ (agent : Agent) (well : WellFormed agent) (apart : TellsApart agent) (bytes : Text) where
   read : (report : Report) → ReadsAs agent bytes report → (journal_of agent bytes).outcome ≡ Ok report
-  read report said = said-is-read agent well apart report said.fits said.start bytes said.lines
+  read report said = said-is-read agent well apart report said.fits bytes said
 
   by-outcome : (outcome : Outcome) → (journal_of agent bytes).outcome ≡ outcome → IsReadOrRefused agent bytes outcome
   by-outcome (Ok report) e = (read-says agent well bytes report e, λ other said. same-report other report (sym (read other said) ∙ e))

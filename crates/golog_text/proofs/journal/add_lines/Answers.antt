@@ -1,4 +1,4 @@
-use Rattle.std.proofs.Common.{◌≡◌, ◌+◌, ◌++◌, ◌<◌, ◌≤◌, length, get_or, sym, ap, ◌∙◌, subst, arith}
+use Rattle.std.proofs.Common.{◌≡◌, ◌+◌, ◌++◌, ◌<◌, ◌≤◌, length, get_or, refl, sym, ap, ◌∙◌, subst, arith}
 use Rattle.std.specs.Prelude.{nat_le}
 use Rattle.std.proofs.lemmas.Bool.{leb-true}
 use Rattle.std.proofs.lemmas.List.Elements.{All-filter}
@@ -17,7 +17,7 @@ pub loop-place-init : goal.loop-place-init
 loop-place-init c =
     let report = c.args.report.now in
     record {
-      text = ap (λ t. t ++ lines_from c.args.agent.now report.runs report.entries 0) c.requires.empty;
+      text = refl;
       values = c.requires.values;
       sorts = c.requires.sorts;
       runs = c.as_slice-runs.ensures ∙ from_start report.runs;
@@ -85,14 +85,14 @@ loop-place-preserved c =
     let inside : place < length report.entries = subst (λ es. place < length es) same c.loop-place-test.true in
     record {
       text =
-          lines_go_on agent report.runs report.entries place (Do 0) inside here values text c.add_line.new.text
-          (lines_from agent report.runs report.entries 0) c.loop-place.invariant.runs c.loop-place.invariant.values c.loop-place.invariant.text
+          lines_go_on agent report.start report.runs report.entries place (Do 0) inside here values text c.add_line.new.text
+          (c.args.text.now ++ lines_from agent report.start report.runs report.entries 0) c.loop-place.invariant.runs c.loop-place.invariant.values c.loop-place.invariant.text
           (c.in_ok-add_line.ensures
           ∙ ap (λ es. text ++ full_line agent place values (run_at here place) (get_or es place (Do 0))) same);
       values =
           c.roll.ensures.values
           ∙ ap (λ es. after_entry agent c.loop-place.state (get_or es place (Do 0))) same
-          ∙ next_values agent report.runs report.entries place (Do 0) inside c.loop-place.state c.loop-place.invariant.values;
+          ∙ next_values agent report.start report.runs report.entries place (Do 0) inside c.loop-place.state c.loop-place.invariant.values;
       sorts = c.roll.ensures.sorts;
       runs = c.runs_behind-runs.ensures ∙ ap (behind_place place) c.loop-place.invariant.runs ∙ from_next place report.runs;
     }
@@ -105,5 +105,6 @@ returns c =
     let place = c.loop-place.place in
     let same : c.as_slice-entry-items.result.now ≡ report.entries = c.as_slice-entry-items.ensures in
     let all : length report.entries ≤ place = subst (λ es. length es ≤ place) same c.loop-place-test.false in
-    whole_text c.loop-place.text (lines_from agent report.runs report.entries place) (lines_from agent report.runs report.entries 0)
-    c.loop-place.invariant.text (no_lines agent report.runs report.entries place all)
+    whole_text c.loop-place.text (lines_from agent report.start report.runs report.entries place)
+    (c.args.text.now ++ lines_from agent report.start report.runs report.entries 0)
+    c.loop-place.invariant.text (no_lines agent report.start report.runs report.entries place all)
