@@ -1,14 +1,14 @@
 //! Laws of reports and their texts.
 ghost use Rattle.golog_laws.specs.TextLaws.{OneReportIsSpelled, ResultsOfReportsFit, TextTellsReports};
 
-/// Two reports that have the same text are the same, where the devices, the actions and the
-/// constants of each sort have names of their own.
+/// Two reports that have the same text are the same, where the devices, the actions and the constants of each sort have
+/// names of their own, and no constant is taken for an unknown value.
 pub fn text_tells_reports()
     ensures { TextTellsReports }
 {}
 
-/// Bytes spell one report at most, where the devices, the actions and the constants of each sort
-/// have names of their own.
+/// Bytes spell one report at most, where the devices, the actions and the constants of each sort have names of their
+/// own, and no constant is taken for an unknown value.
 pub fn one_report_is_spelled()
     ensures { OneReportIsSpelled }
 {}

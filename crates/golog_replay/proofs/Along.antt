@@ -26,7 +26,7 @@ use Rattle.golog_text.proofs.RunsBehind.{from_grows, from_place, same_run}
 use Rattle.golog_text.proofs.Things.{entries_named, runs_named}
 use Rattle.golog_replay.specs.declared.course.Course.{Course}
 use Rattle.golog_replay.specs.Courses.{Follows, TakenIs}
-use Rattle.golog_semantics.specs.Verdicts.{VerdictIs, lines_in}
+use Rattle.golog_semantics.specs.Verdicts.{VerdictIs, entry_lines}
 use Rattle.golog_semantics.specs.declared.journal.Verdict.TheVariants.{Online, Not}
 
 slice_get-drop : {A : Type 0} (n : ℕ) (xs : List A) → slice_get (drop n xs) 0 ≡ slice_get xs n
@@ -34,7 +34,7 @@ slice_get-drop zero xs = refl
 slice_get-drop (suc n) [] = refl
 slice_get-drop (suc n) (x ∷ xs) = slice_get-drop n xs
 
-drop-more : {A : Type 0} (n : ℕ) (xs : List A) → drop 1 (drop n xs) ≡ drop (n + 1) xs
+pub drop-more : {A : Type 0} (n : ℕ) (xs : List A) → drop 1 (drop n xs) ≡ drop (n + 1) xs
 drop-more n xs = go n xs ∙ ap (λ k. drop k xs) (sym (add-one n))
   where
     go : {A : Type 0} (n : ℕ) (xs : List A) → drop 1 (drop n xs) ≡ drop (suc n) xs
@@ -202,7 +202,7 @@ module _ (agent : Agent) (report : Report) (is : IsReport agent report) (items :
 
 module _ (agent : Agent) (bytes : Text) (report : Report) where
   abbrev lines : List Text
-  lines = lines_in bytes
+  lines = entry_lines agent bytes report.start
 
   pub not-online : (place : ℕ) (w : Why) → first_fault agent (Some lines) report ≡ Some (record { place = place; why = w }) → VerdictIs agent bytes report (Not place w)
   unfolding fault_of

@@ -1,5 +1,6 @@
 -- How a program may end, by what stands.
 use Rattle.std.proofs.Common.{◌≡◌, ℕ, Bool, true, false, not, ◌&&◌, ◌||◌, List, [], ◌∷◌, Option, Some, None, refl, sym, ap, ◌∙◌}
+use Rattle.golog_base.proofs.Bools.{and-false}
 use Rattle.golog_tree.specs.declared.agent.Agent.{Agent}
 use Rattle.golog_tree.specs.declared.prog.Prog.{Prog}
 use Rattle.golog_semantics.specs.declared.Mode.TheVariants.{Must, May, Near}
@@ -19,7 +20,6 @@ use Rattle.golog_search.specs.declared.decision.Decision.{Decision}
 use Rattle.golog_search.specs.Decided.{decision}
 use Rattle.golog_search.specs.Laws.{answer_of}
 use Rattle.golog_search.proofs.Answering.{decided_answered}
-use Rattle.golog_replay.proofs.Steps.{and-false}
 
 module _ (agent : Agent) (journal : Journal) where
   abbrev values : List ℕ

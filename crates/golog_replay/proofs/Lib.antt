@@ -4,6 +4,7 @@ mod Awaiting
 mod Scanning
 mod Tracking
 mod Along
+mod Passing
 mod Noting
 mod Judging
 mod Ends

@@ -6,6 +6,7 @@ use mir.Val.{bool_byte}
 use Rattle.std.proofs.lemmas.Bool.{and_parts, ltb-true, ne_eqb}
 use Rattle.std.proofs.lemmas.List.{take-append-le, take_all}
 use Rattle.std.proofs.lemmas.List.Elements.{Contains-append_left, Contains-push}
+use Rattle.golog_base.proofs.Bools.{or-false, or-true}
 use Rattle.golog_tree.specs.declared.agent.Agent.{Agent}
 use Rattle.golog_semantics.specs.declared.journal.Answer.{Answer}
 use Rattle.golog_semantics.specs.declared.journal.Entry.{Entry}
@@ -22,14 +23,6 @@ use Rattle.golog_replay.specs.declared.tracked.Tracked.{Tracked}
 use Rattle.golog_replay.specs.declared.tracked.Awaited.{Awaited}
 use Rattle.golog_replay.specs.Standings.{AreEarlier, AreTracked, AwaitsFrom, EndsBy, HoldsBy, first_awaited, commands_from, untouched}
 use Rattle.golog_replay.proofs.Awaiting.{ItsResult, awaits-next, awaits-same, earlier-place, earlier-still, holds-still, its-result, none-any}
-
-or-true : (b : Bool) → (b || true) ≡ true
-or-true true = refl
-or-true false = refl
-
-or-false : (b : Bool) → (b || false) ≡ b
-or-false true = refl
-or-false false = refl
 
 -- the end
 pub ends-now : (journal : Journal) (answer : Answer) → EndsBy (journal ++ End answer ∷ []) (Some answer)

@@ -4,6 +4,7 @@ use Rattle.std.specs.Prelude.{Contains, slice_get, count_by}
 use Rattle.std.specs.List.{flat_map, join_with_byte, slice_split, sum_by}
 use Rattle.std.specs.Option.{option_map_or}
 use Rattle.std.proofs.lemmas.List.Splits.{join_with_byte-slice_split, length-slice_split, slice_split_at}
+use Rattle.std.proofs.lemmas.List.{append_cancel_left}
 use Rattle.std.proofs.lemmas.List.Sums.{sum_by-append, sum_by-cons}
 use Rattle.std.proofs.lemmas.List.Elements.{All-from_recursion}
 use Rattle.golog_rows.specs.Reading.{gives}
@@ -19,19 +20,23 @@ use Rattle.golog_semantics.specs.Journal.{Journal}
 use Rattle.golog_semantics.specs.Online.{IsOnline, fault_of, same_line}
 use Rattle.golog_semantics.specs.Reports.{IsReport, SpellsReport}
 use Rattle.golog_semantics.specs.Same.{same_values}
-use Rattle.golog_semantics.specs.Text.{Text, at_each, line_text, report_text, with_line_feed}
+use Rattle.golog_semantics.specs.Restart.{journal_text, started}
+use Rattle.golog_semantics.specs.Text.{Text, at_each, head_text, line_text, report_text, with_line_feed}
+use Rattle.golog_semantics.specs.Truth.{Values}
 use Rattle.golog_semantics.specs.Ways.{is_empty}
 use Rattle.golog_semantics.specs.WellFormed.{WellFormed}
 use Rattle.golog_semantics.proofs.Levels.{same_values-eq, same_values-same}
 use Rattle.golog_semantics.proofs.NoFaults.{no_fault_is_online}
 use Rattle.golog_reports.specs.Codes.{NO_BODY}
-use Rattle.golog_reports.specs.Reads.{journal_from, journal_of, line_of, with_line}
+use Rattle.golog_reports.specs.Reads.{empty_report, journal_from, journal_of, line_of, with_line}
 use Rattle.golog_reports.proofs.Says.{row-ok, then-ok}
-use Rattle.golog_reports.proofs.JournalOnly.{read-says}
-use Rattle.golog_semantics.proofs.Starts.{own_text}
+use Rattle.golog_reports.proofs.ReadHeads.{IsHeaded, read-head}
+use Rattle.golog_reports.proofs.JournalBack.{said-is-read}
 use Rattle.golog_reports.proofs.WholeReports.{journal-fits}
-use Rattle.golog_replay.specs.Laws.{OnlineIsAnOnlineRun, ReplaysOnline}
-use Rattle.golog_semantics.specs.Verdicts.{VerdictIs, lines_in}
+use Rattle.golog_reports.proofs.WrittenSaid.{written-says}
+use Rattle.golog_replay.specs.Laws.{OnlineIsAnOnlineRun, ReplaysOnline, RunsReplayOnline}
+use Rattle.golog_semantics.specs.Verdicts.{VerdictIs, entry_lines, lines_in}
+use Rattle.golog_replay.proofs.Passing.{same-lines}
 use Rattle.golog_semantics.specs.declared.journal.Verdict.TheVariants.{Online}
 
 -- ---- as many lines were read as there are entries
@@ -94,11 +99,11 @@ module _ (agent : Agent) where
   all-read before [] whole h e = absurd (omega (arith, h))
   all-read before (first ∷ parts) whole h e = are-read before first parts whole e
 
-  journal-read : (bytes : Text) (report : Report) → (journal_of agent bytes).outcome ≡ Ok report → AreRead (lines_in bytes) (record { entries = []; runs = []; start = None }) report
-  unfolding journal_of
-  journal-read bytes report e =
+  journal-read : (start : Option Values) (bytes : Text) (report : Report) → (journal_from agent (empty_report start) (lines_in bytes)).outcome ≡ Ok report
+      → AreRead (lines_in bytes) (empty_report start) report
+  journal-read start bytes report e =
       let k = length-slice_split (λ b. b == 10) bytes in
-      all-read (record { entries = []; runs = []; start = None }) (lines_in bytes) report (omega (arith, k)) e
+      all-read (empty_report start) (lines_in bytes) report (omega (arith, k)) e
 
   -- ---- lines with their line feeds
 
@@ -155,65 +160,101 @@ get-left [] ys i h = absurd (omega (arith, h))
 get-left (x ∷ xs) ys zero h = refl
 get-left (x ∷ xs) ys (suc i) h = get-left xs ys i (omega (arith, h))
 
-module _ (agent : Agent) (bytes : Text) (report : Report) (read : (journal_of agent bytes).outcome ≡ Ok report) where
-  parts : AreRead (lines_in bytes) (record { entries = []; runs = []; start = None }) report
-  parts = journal-read agent bytes report read
+-- The bytes are those behind the head. The lines are read over an agent, and are the texts of entries for the one that
+-- starts from the report's start.
+module _ (agent own : Agent) (bytes : Text) (report : Report) (read : (journal_from agent (empty_report report.start) (lines_in bytes)).outcome ≡ Ok report) where
+  parts : AreRead (lines_in bytes) (empty_report report.start) report
+  parts = journal-read agent report.start bytes report read
 
   its-line : (given : Option Text) (line : Text) → same_line given line ≡ true → given ≡ Some line
   its-line None line h = absurd (cc)
   its-line (Some l) line h = ap Some (same_values-eq l line h)
 
   -- the bytes are the text, where each line is that of its entry
-  text-so : AreItsLines agent (Some (lines_in bytes)) report → bytes ≡ report_text agent report
+  text-so : AreItsLines own (Some (lines_in bytes)) report → bytes ≡ report_text own report
   unfolding report_text
   text-so lines =
       let many = parts.many in
       let front =
-      said-all (line_text agent report.runs) [] report.entries parts.front (omega (arith, many))
+      said-all (line_text own report.runs) [] report.entries parts.front (omega (arith, many))
       (λ b e later is.
       sym
       (ap (λ ls. slice_get ls (length b)) parts.parts_so
       ∙ get-left parts.front ([] ∷ []) (length b)
       (let k = ap (λ (j : Journal). length j) is in let l = length-append b (e ∷ later) in omega (arith, many, k, l)))
-      ∙ its-line (slice_get (lines_in bytes) (length b)) (line_text agent report.runs b e) (lines b e later is)) in
-      sym (join_with_byte-slice_split 10 bytes) ∙ ap (join_with_byte 10) parts.parts_so ∙ joined agent parts.front
-      ∙ ap (flat_map (with_line_feed agent)) front
+      ∙ its-line (slice_get (lines_in bytes) (length b)) (line_text own report.runs b e) (lines b e later is)) in
+      sym (join_with_byte-slice_split 10 bytes) ∙ ap (join_with_byte 10) parts.parts_so ∙ joined own parts.front
+      ∙ ap (flat_map (with_line_feed own)) front
 
   -- and the other way round
-  lines-so : bytes ≡ report_text agent report → AreItsLines agent (Some (lines_in bytes)) report
+  lines-so : bytes ≡ report_text own report → AreItsLines own (Some (lines_in bytes)) report
   unfolding report_text
   lines-so is b e later at =
-      let lines = at_each (line_text agent report.runs) [] report.entries in
+      let lines = at_each (line_text own report.runs) [] report.entries in
       let many = parts.many in
       let counted = length-slice_split (λ b. b == 10) bytes in
       let whole = ap (λ (ls : List Text). length ls) parts.parts_so in
       let more = length-append parts.front ([] ∷ []) in
-      let long = length-said (line_text agent report.runs) [] report.entries in
+      let long = length-said (line_text own report.runs) [] report.entries in
       let few : feeds bytes ≡ length lines = omega (arith, many, counted, whole, more, long) in
-      let cut : lines_in bytes ≡ lines ++ [] ∷ [] = ap lines_in is ∙ cut-lines agent lines (sym (ap feeds is) ∙ few) in
-      let there : slice_get (lines_in bytes) (length b) ≡ Some (line_text agent report.runs b e) =
-      ap (λ ls. slice_get ls (length b)) (cut ∙ ap (λ es. at_each (line_text agent report.runs) [] es ++ [] ∷ []) at)
-      ∙ said-there (line_text agent report.runs) [] b e later ([] ∷ []) in
-      ap (λ g. same_line g (line_text agent report.runs b e)) there ∙ same_values-same (line_text agent report.runs b e)
+      let cut : lines_in bytes ≡ lines ++ [] ∷ [] = ap lines_in is ∙ cut-lines own lines (sym (ap feeds is) ∙ few) in
+      let there : slice_get (lines_in bytes) (length b) ≡ Some (line_text own report.runs b e) =
+      ap (λ ls. slice_get ls (length b)) (cut ∙ ap (λ es. at_each (line_text own report.runs) [] es ++ [] ∷ []) at)
+      ∙ said-there (line_text own report.runs) [] b e later ([] ∷ []) in
+      ap (λ g. same_line g (line_text own report.runs b e)) there ∙ same_values-same (line_text own report.runs b e)
+
+module _ (agent : Agent) (well : WellFormed agent) (bytes : Text) (report : Report) (read : (journal_of agent bytes).outcome ≡ Ok report) where
+  abbrev own : Agent
+  own = started agent report.start
+
+  head : IsHeaded agent bytes report report.start
+  head = read-head agent well bytes report read
+
+  -- the lines of the entries are those behind the head
+  its-lines : entry_lines own bytes report.start ≡ lines_in head.rest
+  its-lines = same-lines agent bytes report.start ∙ head.lines
+
+  abbrev head_of : Text
+  head_of = option_map_or (head_text agent) report.start []
+
+  spells : AreItsLines own (Some (entry_lines own bytes report.start)) report → SpellsReport agent bytes report
+  spells lines = record {
+    fits = journal-fits agent well bytes report read;
+    text =
+        head.head
+        ∙ ap (λ t. head_of ++ t) (text-so agent own head.rest report head.says (subst (λ ls. AreItsLines own (Some ls) report) its-lines lines));
+  }
+
+  has-lines : SpellsReport agent bytes report → AreItsLines own (Some (entry_lines own bytes report.start)) report
+  has-lines spelled =
+      subst (λ ls. AreItsLines own (Some ls) report) (sym its-lines)
+      (lines-so agent own head.rest report head.says (append_cancel_left head_of head.rest (report_text own report) (sym head.head ∙ spelled.text)))
 
 pub online_is_an_online_run : OnlineIsAnOnlineRun
 online_is_an_online_run agent well bytes report read answer =
-    let tells = no_fault_is_online.of_report agent (Some (lines_in bytes)) report in
-    let own = (read-says agent well bytes report read).start in
-    let spells : VerdictIs agent bytes report (Online answer) → SpellsReport agent bytes report =
-    λ v. record {
-      fits = journal-fits agent well bytes report read;
-      text = text-so agent bytes report read (tells.its_lines v.0) ∙ sym (own_text agent report own);
-    } in
+    let own = started agent report.start in
+    let tells = no_fault_is_online.of_report own (Some (entry_lines own bytes report.start)) report in
+    let spells-so : VerdictIs own bytes report (Online answer) → SpellsReport agent bytes report = λ v. spells agent well bytes report read (tells.its_lines v.0) in
     record {
       run = λ v. record {
         report = report;
-        begun = own;
-        spelled = spells v;
+        begun = refl;
+        spelled = spells-so v;
         online = tells.online v.0;
         ended = record { answer = answer; stands = v.1; shown = refl };
       };
       online = λ v. tells.online v.0;
-      spelled = spells;
-      verdict = λ spelled online ends. (tells.none online (lines-so agent bytes report read (spelled.text ∙ own_text agent report own)), ends);
+      spelled = spells-so;
+      verdict = λ spelled online ends. (tells.none online (has-lines agent well bytes report read spelled), ends);
     }
+
+pub runs_replay_online : RunsReplayOnline
+runs_replay_online agent well apart start bytes status run =
+    let report = run.report in
+    let answer = run.ended.answer in
+    let read : (journal_of agent bytes).outcome ≡ Ok report =
+    ap (λ b. (journal_of agent b).outcome) run.spelled.text
+    ∙ said-is-read agent well apart report run.spelled.fits (journal_text agent report) (written-says agent well report run.spelled.fits) in
+    let online = subst (λ s. IsOnline (started agent s) report) (sym run.begun) run.online in
+    let verdict = (online_is_an_online_run agent well bytes report read answer).verdict run.spelled online run.ended.stands in
+    (read, subst (λ s. VerdictIs (started agent s) bytes report (Online answer)) run.begun verdict)

@@ -6,6 +6,7 @@ use Rattle.std.specs.Option.{option_map_or, option_or, option_to_list}
 use Rattle.std.proofs.lemmas.Bool.{and_from, cases_eq, eq-eqb, le-leb, leb-false, leb-true, lt-leb, ne_eqb}
 use Rattle.std.proofs.lemmas.List.{append-nil, get_or-replicate, length-replicate}
 use Rattle.std.proofs.lemmas.List.Folds.{list_all-append}
+use Rattle.golog_base.proofs.Bools.{and-false, and-true}
 use Rattle.golog_tree.specs.declared.agent.Agent.{Agent}
 use Rattle.golog_semantics.specs.declared.journal.Answer.{Answer}
 use Rattle.golog_semantics.specs.declared.journal.Entry.{Entry}
@@ -125,10 +126,6 @@ module _ (agent : Agent) (journal : Journal) where
 
   pub not-whole : (ts : List Tracked) → AreTracked agent journal ts → list_any (λ (t : Tracked). t.is_open) ts ≡ true → is_whole agent journal ≡ false
   not-whole ts are h = ap (λ b. has_end journal && not b) (sym (open-any ts are) ∙ h) ∙ and-false (has_end journal)
-    where
-      and-false : (b : Bool) → (b && false) ≡ false
-      and-false true = refl
-      and-false false = refl
 
   pub whole-by : (ts : List Tracked) → AreTracked agent journal ts → list_any (λ (t : Tracked). t.is_open) ts ≡ false → (ended : Option Answer) → EndsBy journal ended
       → MatchOption ended (is_whole agent journal ≡ false) (λ answer. (is_whole agent journal ≡ true) × Contains journal (End answer))
@@ -220,10 +217,6 @@ module _ (agent : Agent) (journal : Journal) (e : Entry) (results : AreEarlier j
     awaits = awaits;
   }
     where
-      and-true : (b : Bool) → (b && true) ≡ b
-      and-true true = refl
-      and-true false = refl
-
       some : (es : Journal) → is_empty (es ++ e ∷ []) ≡ false
       some [] = refl
       some (x ∷ es) = refl

@@ -11,5 +11,5 @@ mod standing;
 mod tracked;
 
 pub use golog_semantics::{Answer, Report, Verdict, Why};
-pub use laws::online_is_an_online_run;
+pub use laws::{online_is_an_online_run, runs_replay_online};
 pub use replaying::replay;

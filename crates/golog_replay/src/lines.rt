@@ -1,4 +1,4 @@
-ghost use Rattle.std.specs.Prelude.{◌≡◌, ◌==◌, [], ◌∷◌, MatchOption, position};
+ghost use Rattle.std.specs.Prelude.{◌≡◌, ◌==◌, [], ◌∷◌, MatchOption, drop, position};
 ghost use Rattle.golog_semantics.specs.Verdicts.{lines_in};
 
 use std::marker::Model;
@@ -34,6 +34,15 @@ impl<'a> Lines<'a> {
         Lines {
             rest: bytes,
             is_over: false,
+        }
+    }
+
+    /// Passes over so many lines, or over all where fewer are left.
+    pub(crate) fn pass(&mut self, count: usize)
+        ensures { self.new ≡ drop count self.old }
+    {
+        for _ in 0..count {
+            self.next();
         }
     }
 

@@ -9,7 +9,7 @@ ghost use Rattle.golog_semantics.specs.Text.{Text, line_text};
 ghost use Rattle.golog_semantics.specs.WellFormed.{WellFormed};
 ghost use Rattle.golog_text.specs.Named.{AreFrom, AreNamed, IsNamed};
 ghost use Rattle.golog_replay.specs.Courses.{Follows, JudgedIs, TakenIs};
-ghost use Rattle.golog_semantics.specs.Verdicts.{VerdictIs, lines_in};
+ghost use Rattle.golog_semantics.specs.Verdicts.{VerdictIs, entry_lines};
 
 use crate::course::Course;
 use crate::judged::Judged;
@@ -140,7 +140,7 @@ fn last_verdict(course: &Course, agent: &Agent, entries: &[Entry]) -> Verdict
     requires follows { Follows agent.now entries.now course.now }
     requires short { length entries.now ≤ entry_limit }
     ensures { (bytes : Text) (report : AnyReport) → report.entries ≡ entries.now
-        → first_fault agent.now (Some (lines_in bytes)) report ≡ None → VerdictIs agent.now bytes report result }
+        → first_fault agent.now (Some (entry_lines agent.now bytes report.start)) report ≡ None → VerdictIs agent.now bytes report result }
 {
     match course.standing.whole(agent, entries) {
         Some(answer) => Verdict::Online(answer),
@@ -162,7 +162,7 @@ fn go_along(
     report: &Report,
 ) -> Result<Verdict, NoMemory>
     requires follows { Follows agent.now [] course.old }
-    requires lines { lines.old ≡ lines_in bytes.now }
+    requires lines { lines.old ≡ entry_lines agent.now bytes.now report.now.start }
     requires report { IsReport agent.now report.now }
     ensures { IfOk result (VerdictIs agent.now bytes.now report.now) }
 {
@@ -189,6 +189,20 @@ fn go_along(
     Ok(last_verdict(course, agent, entries))
 }
 
+/// The lines of the entries of a report that was read from these bytes.
+fn entry_lines<'b>(agent: &Agent, bytes: &'b [u8], report: &Report) -> Lines<'b>
+    requires { WellFormed agent.now }
+    ensures { result ≡ entry_lines agent.now bytes.now report.now.start }
+{
+    let mut lines = Lines::of(bytes);
+    if report.start.is_some() {
+        let count = agent.starts.len() + 2;
+        lines.pass(count);
+        return lines;
+    }
+    lines
+}
+
 /// The verdict on a report that was read from these bytes, whose lines are written in this room.
 fn replay_in(
     text: &mut Line,
@@ -202,7 +216,7 @@ fn replay_in(
     ensures { IfOk result (VerdictIs agent.now bytes.now report.now) }
 {
     let mut course = Course::new(alloc, agent)?;
-    let mut lines = Lines::of(bytes);
+    let mut lines = entry_lines(agent, bytes, report);
     let verdict = go_along(&mut course, &mut lines, text, alloc, agent, bytes, report);
     drop(course);
     verdict
@@ -210,7 +224,7 @@ fn replay_in(
 
 /// Whether a report that was read from these bytes is an online execution of the agent, and else the first
 /// place where a rule is broken, and there the first of the rules in their order: `short` at the number of
-/// entries. Takes one decision for each action, test and end, and time for each entry and its line.
+/// entries. The agent is the one that starts from the report's start, where it has one. Takes one decision for each action, test and end, and time for each entry and its line.
 ///
 /// `NoMemory` comes only for want of memory.
 pub fn replay(

@@ -6,7 +6,7 @@ use Rattle.golog_semantics.specs.Reports.{entry_limit}
 use Rattle.golog_text.specs.Named.{AreFrom}
 use Rattle.golog_text.proofs.RunsBehind.{behind_place, from_grows, from_next, from_start}
 use Rattle.golog_replay.specs.Courses.{Follows}
-use Rattle.golog_semantics.specs.Verdicts.{lines_in}
+use Rattle.golog_semantics.specs.Verdicts.{entry_lines}
 use Rattle.golog_replay.proofs.Along.{from-end, from-start, lent-broken, lent-fits, lent-in-order, lent-kept, lent-named, lent-runs-named, lent-short, not-online}
 use Rattle.golog_replay.proofs.Noting.{not-some}
 use Rattle.golog_replay.proofs.replaying.go_along.Goals as goal
@@ -14,7 +14,7 @@ use Rattle.golog_replay.proofs.replaying.go_along.Goals as goal
 pub loop-place-init : goal.loop-place-init
 loop-place-init c = record {
   follows = c.requires.follows;
-  so_far = from-start c.args.agent.now (lines_in c.args.bytes.now) c.args.report.now;
+  so_far = from-start c.args.agent.now (entry_lines c.args.agent.now c.args.bytes.now c.args.report.now.start) c.args.report.now;
   runs = c.as_slice-runs.ensures ∙ from_start c.args.report.now.runs;
   lines = c.requires.lines;
 }
@@ -49,7 +49,7 @@ returns-in-Some c =
     let l = c.loop-place in
     not-online c.args.agent.now c.args.bytes.now c.args.report.now l.place c.in-Some.why
     (lent-broken c.args.agent.now c.args.report.now c.requires.report c.as_slice-entries.result.now c.as_slice-entries.ensures l.place
-    c.loop-place-test.true l.runs.now l.invariant.runs (lines_in c.args.bytes.now) l.lines c.take.new.lines l.invariant.lines
+    c.loop-place-test.true l.runs.now l.invariant.runs (entry_lines c.args.agent.now c.args.bytes.now c.args.report.now.start) l.lines c.take.new.lines l.invariant.lines
     c.take.new.course (Do 0) c.in_ok-broken.broken c.in_ok-broken.ensures l.invariant.so_far c.in-Some.why c.in-Some.is)
 
 pub loop-place-preserved : goal.loop-place-preserved
@@ -57,7 +57,7 @@ loop-place-preserved c =
     let l = c.loop-place in
     let goes =
     lent-kept c.args.agent.now c.args.report.now c.requires.report c.as_slice-entries.result.now c.as_slice-entries.ensures l.place
-    c.loop-place-test.true l.runs.now l.invariant.runs (lines_in c.args.bytes.now) l.lines c.take.new.lines l.invariant.lines
+    c.loop-place-test.true l.runs.now l.invariant.runs (entry_lines c.args.agent.now c.args.bytes.now c.args.report.now.start) l.lines c.take.new.lines l.invariant.lines
     c.take.new.course (Do 0) c.in_ok-broken.broken c.in_ok-broken.ensures l.invariant.so_far
     (not-some c.in_ok-broken.broken c.in_default.not-Some) in
     record {
@@ -86,4 +86,4 @@ returns c =
     let bytes = c.args.bytes.now in
     let same : c.as_slice-entries.result.now ≡ c.args.report.now.entries = c.as_slice-entries.ensures in
     let all = subst (λ es. length es ≤ c.loop-place.place) same c.loop-place-test.false in
-    c.last_verdict.ensures bytes report (sym same) (c.loop-place.invariant.so_far ∙ from-end agent (lines_in bytes) report c.loop-place.place all)
+    c.last_verdict.ensures bytes report (sym same) (c.loop-place.invariant.so_far ∙ from-end agent (entry_lines agent bytes report.start) report c.loop-place.place all)
