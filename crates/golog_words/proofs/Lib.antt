@@ -3,9 +3,11 @@ mod CheckWords
 mod Conditions
 mod DemoWords
 mod Meeting
+mod MigrateWords
 mod Orders
 mod Parts
 mod ReplayWords
+mod Rows
+mod RunWalk
 mod RunWords
-mod Runs
 mod Walks

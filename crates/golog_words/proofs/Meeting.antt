@@ -9,12 +9,17 @@ use Rattle.clap.specs.declared.error.Error.{Error}
 use Rattle.clap.specs.declared.error.ErrorKind.TheVariants.{OutOfMemory}
 use Rattle.clap.specs.declared.builder.command.Command.{Command as Parser}
 use Rattle.clap.specs.declared.parser.matches.ArgMatches.{ArgMatches}
-use Rattle.golog_words.specs.Commands.{CommandLine, Text, run, check, replay, ask, demo, size_in}
+use Rattle.golog_words.specs.Commands.{CommandLine, Text, run, check, replay, ask, migrate, demo, size_in}
 use Rattle.golog_words.specs.Found.{Finds}
 
 -- what the rows of a run hold
-abbrev pub run_rows : List Row → Option Text × Option Text × Option Text
-run_rows rows = (first_of (codes "agent") rows, first_of (codes "devices") rows, one_of (codes "inline") rows)
+abbrev pub run_rows : List Row → Option Text × Option Text × Option Text × Option Text
+run_rows rows = (
+  first_of (codes "agent") rows,
+  first_of (codes "devices") rows,
+  one_of (codes "inline") rows,
+  first_of (codes "from") rows,
+)
 
 abbrev pub replay_rows : List Row → Option Text × Option Text
 replay_rows rows = (first_of (codes "agent") rows, first_of (codes "journal") rows)
@@ -24,11 +29,12 @@ ask_rows rows = (first_of (codes "agent") rows, first_of (codes "journal") rows,
 
 -- the rows hold what the command asks for
 abbrev pub Holds : List Row → CommandLine → Type 0
-Holds rows (run agent devices is_inline) =
-    run_rows rows ≡ (Some agent, devices, Some (if is_inline then codes "true" else codes "false"))
+Holds rows (run agent devices is_inline from) =
+    run_rows rows ≡ (Some agent, devices, Some (if is_inline then codes "true" else codes "false"), from)
 Holds rows (check agent) = first_of (codes "agent") rows ≡ Some agent
 Holds rows (replay agent journal) = replay_rows rows ≡ (Some agent, Some journal)
 Holds rows (ask agent journal condition) = ask_rows rows ≡ (Some agent, Some journal, Some condition)
+Holds rows (migrate agent journal) = replay_rows rows ≡ (Some agent, Some journal)
 Holds rows (demo size) = (word : Text) × (first_of (codes "size") rows ≡ Some word) × (size_in word ≡ Some size)
 
 -- `clap` takes the words, and its rows hold what the command asks for
@@ -38,10 +44,11 @@ Meets app words (Some command) = (Holds (matches_of app words) command) × (take
 
 found_by : (matches : ArgMatches) (command : CommandLine)
     → Holds (rows_of (found_of matches)) command → Finds matches command
-found_by m (run agent devices is_inline) h = (
+found_by m (run agent devices is_inline from) h = (
   first_value-rows (found_of m) (codes "agent") ∙ ap (λ p. p.0) h,
   first_value-rows (found_of m) (codes "devices") ∙ ap (λ p. p.1) h,
   one_text-rows (found_of m) (codes "inline") ∙ ap (λ p. p.2) h,
+  first_value-rows (found_of m) (codes "from") ∙ ap (λ p. p.3) h,
 )
 found_by m (check agent) h = first_value-rows (found_of m) (codes "agent") ∙ h
 found_by m (replay agent journal) h = (
@@ -52,6 +59,10 @@ found_by m (ask agent journal condition) h = (
   first_value-rows (found_of m) (codes "agent") ∙ ap (λ p. p.0) h,
   first_value-rows (found_of m) (codes "journal") ∙ ap (λ p. p.1) h,
   first_value-rows (found_of m) (codes "condition") ∙ ap (λ p. p.2) h,
+)
+found_by m (migrate agent journal) h = (
+  first_value-rows (found_of m) (codes "agent") ∙ ap (λ p. p.0) h,
+  first_value-rows (found_of m) (codes "journal") ∙ ap (λ p. p.1) h,
 )
 found_by m (demo size) h = (h.0, first_value-rows (found_of m) (codes "size") ∙ h.1, h.2)
 

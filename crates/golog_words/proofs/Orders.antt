@@ -10,13 +10,14 @@ other_text one other differs = false_from_ne_true (bytes_eq one other) (λ same.
 
 -- a first word that names no command begins none
 names_none : (first : Text) (words : List Text) → (first ≡ codes "run" → ⊥) → (first ≡ codes "check" → ⊥)
-    → (first ≡ codes "replay" → ⊥) → (first ≡ codes "ask" → ⊥) → (first ≡ codes "demo" → ⊥)
-    → command_in (first ∷ words) ≡ None
-names_none first words run check replay ask demo =
+    → (first ≡ codes "replay" → ⊥) → (first ≡ codes "ask" → ⊥) → (first ≡ codes "migrate" → ⊥)
+    → (first ≡ codes "demo" → ⊥) → command_in (first ∷ words) ≡ None
+names_none first words run check replay ask migrate demo =
     let is_run = other_text first (codes "run") run in
     let is_check = other_text first (codes "check") check in
     let is_replay = other_text first (codes "replay") replay in
     let is_ask = other_text first (codes "ask") ask in
+    let is_migrate = other_text first (codes "migrate") migrate in
     let is_demo = other_text first (codes "demo") demo in
     cc
 
@@ -25,11 +26,11 @@ module _ {Word : Type 0} (bytes : Word → Text) where
   pub names_one : (words : List Word) (word : Word) (first : Text) → 1 ≤ length words → word ≡ slice_index_or words 0 word
       → first ≡ bytes word → IsSome (command_in (map bytes words)) → (first ≡ codes "run" → ⊥)
       → (first ≡ codes "check" → ⊥) → (first ≡ codes "replay" → ⊥) → (first ≡ codes "ask" → ⊥)
-      → (first ≡ codes "demo" → ⊥) → ⊥
-  names_one [] word first some is text spelled run check replay ask demo = absurd (omega arith)
-  names_one (one ∷ words) word first some is text spelled run check replay ask demo =
+      → (first ≡ codes "migrate" → ⊥) → (first ≡ codes "demo" → ⊥) → ⊥
+  names_one [] word first some is text spelled run check replay ask migrate demo = absurd (omega arith)
+  names_one (one ∷ words) word first some is text spelled run check replay ask migrate demo =
       let same : first ≡ bytes one = text ∙ ap bytes is in
-      let none = names_none first (map bytes words) run check replay ask demo in
+      let none = names_none first (map bytes words) run check replay ask migrate demo in
       let no : command_in (bytes one ∷ map bytes words) ≡ None
       = subst (λ (t : Text). command_in (t ∷ map bytes words) ≡ None) same none in
       true≢false (sym spelled ∙ ap is_some no)

@@ -1,11 +1,10 @@
 -- The parts of a command that words spell, in what `clap` found.
 use Rattle.std.proofs.Common.{◌≡◌, ◌∙◌, ap, refl, sym, codes, ℕ, Bool, true, false, true≢false, List, [], ◌∷◌, Option, Some, None, option_map, Bor}
-use Rattle.std.specs.Prelude.{⊤, ◌&&◌, if◌then◌else◌, IsSome}
-use Rattle.std.specs.List.{list_any}
+use Rattle.std.specs.Prelude.{⊤, ◌&&◌, if◌then◌else◌, IsSome, option_and_then}
 use Rattle.clap.specs.Words.{found_of, one_text}
 use Rattle.clap.specs.declared.parser.matches.ArgMatches.{ArgMatches}
 use Rattle.golog_base.specs.Numbers.{amount}
-use Rattle.golog_words.specs.Commands.{CommandLine, Text, run, check, replay, ask, demo, are_run_words, files_in, is_file_word, is_inline, is_size, run_with, run_in, check_in, replay_in, ask_in, demo_of, demo_in, size_in}
+use Rattle.golog_words.specs.Commands.{CommandLine, Text, Said, run, check, replay, ask, migrate, demo, is_file_word, is_size, nothing_said, run_in, run_of, said_by, check_in, replay_in, ask_in, migrate_in, demo_of, demo_in, size_in}
 use Rattle.golog_words.specs.Found.{Finds, text_found}
 use Rattle.golog_words.proofs.Conditions.{holds_under}
 
@@ -33,7 +32,7 @@ Spells Is None = ⊤
 Spells Is (Some command) = Is command
 
 abbrev IsRun : CommandLine → Type 0
-IsRun (run agent devices inline) = ⊤
+IsRun (run agent devices inline from) = ⊤
 IsRun other = ⊥
 
 abbrev IsCheck : CommandLine → Type 0
@@ -48,19 +47,26 @@ abbrev IsAsk : CommandLine → Type 0
 IsAsk (ask agent journal condition) = ⊤
 IsAsk other = ⊥
 
+abbrev IsMigrate : CommandLine → Type 0
+IsMigrate (migrate agent journal) = ⊤
+IsMigrate other = ⊥
+
 abbrev IsDemo : CommandLine → Type 0
 IsDemo (demo size) = ⊤
 IsDemo other = ⊥
 
-runs_of : (files : List Text) (inline : Bool) → Spells IsRun (run_with files inline)
-runs_of [] inline = tt
-runs_of (agent ∷ []) inline = tt
-runs_of (agent ∷ devices ∷ []) inline = tt
-runs_of (agent ∷ devices ∷ other ∷ more) inline = tt
+runs_of : (said : Said) (awaits : Bool) (agent : Option Text)
+    → Spells IsRun (if awaits then None else option_map (λ file. run file said.devices said.is_inline said.from) agent)
+runs_of said true agent = tt
+runs_of said false None = tt
+runs_of said false (Some agent) = tt
+
+runs_after : (said : Option Said) → Spells IsRun (option_and_then run_of said)
+runs_after None = tt
+runs_after (Some said) = runs_of said said.awaits_from said.agent
 
 runs_in : (words : List Text) → Spells IsRun (run_in words)
-runs_in words = holds_under (Spells IsRun) (are_run_words words) (run_with (files_in words) (list_any is_inline words)) tt
-    (λ _. runs_of (files_in words) (list_any is_inline words))
+runs_in words = runs_after (said_by words nothing_said)
 
 checks_in : (words : List Text) → Spells IsCheck (check_in words)
 checks_in [] = tt
@@ -83,6 +89,13 @@ asks_in (agent ∷ journal ∷ condition ∷ []) =
     (Some (ask agent journal condition)) tt (λ _. tt)
 asks_in (agent ∷ journal ∷ condition ∷ other ∷ more) = tt
 
+migrates_in : (words : List Text) → Spells IsMigrate (migrate_in words)
+migrates_in [] = tt
+migrates_in (agent ∷ []) = tt
+migrates_in (agent ∷ journal ∷ []) =
+    holds_under (Spells IsMigrate) (is_file_word agent && is_file_word journal) (Some (migrate agent journal)) tt (λ _. tt)
+migrates_in (agent ∷ journal ∷ other ∷ more) = tt
+
 demos_in : (words : List Text) → Spells IsDemo (demo_in words)
 demos_in [] = tt
 demos_in (word ∷ []) =
@@ -95,10 +108,12 @@ pub record RunParts (found : ArgMatches) (spelled : Option CommandLine) : Type 0
   pub agent : Text
   pub devices : Option Text
   pub is_inline : Bool
-  pub is : spelled ≡ Some (run agent devices is_inline)
+  pub from : Option Text
+  pub is : spelled ≡ Some (run agent devices is_inline from)
   pub agent_is : text_found found (codes "agent") ≡ Some agent
   pub devices_is : text_found found (codes "devices") ≡ devices
   pub inline_is : one_text (found_of found) (codes "inline") ≡ Some (if is_inline then codes "true" else codes "false")
+  pub from_is : text_found found (codes "from") ≡ from
 
 pub record CheckParts (found : ArgMatches) (spelled : Option CommandLine) : Type 0 where
   pub agent : Text
@@ -121,6 +136,13 @@ pub record AskParts (found : ArgMatches) (spelled : Option CommandLine) : Type 0
   pub journal_is : text_found found (codes "journal") ≡ Some journal
   pub condition_is : text_found found (codes "condition") ≡ Some condition
 
+pub record MigrateParts (found : ArgMatches) (spelled : Option CommandLine) : Type 0 where
+  pub agent : Text
+  pub journal : Text
+  pub is : spelled ≡ Some (migrate agent journal)
+  pub agent_is : text_found found (codes "agent") ≡ Some agent
+  pub journal_is : text_found found (codes "journal") ≡ Some journal
+
 pub record DemoParts (found : ArgMatches) (spelled : Option CommandLine) : Type 0 where
   pub word : Text
   pub size : ℕ
@@ -140,8 +162,8 @@ module _ (found : ArgMatches) where
   made Is Made (Some command) kind some finds make = make command refl kind (finds command refl)
 
   run_parts_of : (spelled : Option CommandLine) (command : CommandLine) → spelled ≡ Some command → IsRun command → Finds found command → RunParts found spelled
-  run_parts_of spelled (run a d i) is kind h =
-      record { agent = a; devices = d; is_inline = i; is = is; agent_is = h.0; devices_is = h.1; inline_is = h.2 }
+  run_parts_of spelled (run a d i f) is kind h =
+      record { agent = a; devices = d; is_inline = i; from = f; is = is; agent_is = h.0; devices_is = h.1; inline_is = h.2; from_is = h.3 }
   run_parts_of spelled other is kind h = absurd kind
 
   check_parts_of : (spelled : Option CommandLine) (command : CommandLine) → spelled ≡ Some command → IsCheck command → Finds found command → CheckParts found spelled
@@ -156,6 +178,10 @@ module _ (found : ArgMatches) where
   ask_parts_of spelled (ask a j q) is kind h =
       record { agent = a; journal = j; condition = q; is = is; agent_is = h.0; journal_is = h.1; condition_is = h.2 }
   ask_parts_of spelled other is kind h = absurd kind
+
+  migrate_parts_of : (spelled : Option CommandLine) (command : CommandLine) → spelled ≡ Some command → IsMigrate command → Finds found command → MigrateParts found spelled
+  migrate_parts_of spelled (migrate a j) is kind h = record { agent = a; journal = j; is = is; agent_is = h.0; journal_is = h.1 }
+  migrate_parts_of spelled other is kind h = absurd kind
 
   demo_parts_of : (spelled : Option CommandLine) (command : CommandLine) → spelled ≡ Some command → IsDemo command → Finds found command → DemoParts found spelled
   demo_parts_of spelled (demo n) is kind h = record { word = h.0; size = n; is = is; word_is = h.1; size_is = h.2 }
@@ -176,6 +202,10 @@ module _ (found : ArgMatches) where
   pub ask_parts : (words : List Text) → IsSome (ask_in words) → FindsIt found (ask_in words) → AskParts found (ask_in words)
   ask_parts words some finds =
       made IsAsk (AskParts found (ask_in words)) (ask_in words) (asks_in words) some finds (ask_parts_of (ask_in words))
+
+  pub migrate_parts : (words : List Text) → IsSome (migrate_in words) → FindsIt found (migrate_in words) → MigrateParts found (migrate_in words)
+  migrate_parts words some finds =
+      made IsMigrate (MigrateParts found (migrate_in words)) (migrate_in words) (migrates_in words) some finds (migrate_parts_of (migrate_in words))
 
   pub demo_parts : (words : List Text) → IsSome (demo_in words) → FindsIt found (demo_in words) → DemoParts found (demo_in words)
   demo_parts words some finds =

@@ -2,7 +2,7 @@
 use Rattle.std.specs.Prelude.{◌≡◌, if◌then◌else◌, Option, Some, codes}
 use Rattle.clap.specs.Words.{first_value, found_of, one_text}
 use Rattle.clap.specs.declared.parser.matches.ArgMatches.{ArgMatches}
-use Rattle.golog_words.specs.Commands.{CommandLine, run, check, replay, ask, demo, size_in, Text}
+use Rattle.golog_words.specs.Commands.{CommandLine, run, check, replay, ask, migrate, demo, size_in, Text}
 
 -- the text found under this name
 abbrev pub text_found : ArgMatches → Text → Option Text
@@ -10,10 +10,11 @@ text_found matches name = first_value (found_of matches) name
 
 -- the matches hold what the command asks for
 abbrev pub Finds : ArgMatches → CommandLine → Type 0
-Finds matches (run agent devices is_inline) =
+Finds matches (run agent devices is_inline from) =
     (text_found matches (codes "agent") ≡ Some agent)
     × (text_found matches (codes "devices") ≡ devices)
     × (one_text (found_of matches) (codes "inline") ≡ Some (if is_inline then codes "true" else codes "false"))
+    × (text_found matches (codes "from") ≡ from)
 Finds matches (check agent) = text_found matches (codes "agent") ≡ Some agent
 Finds matches (replay agent journal) =
     (text_found matches (codes "agent") ≡ Some agent) × (text_found matches (codes "journal") ≡ Some journal)
@@ -21,4 +22,6 @@ Finds matches (ask agent journal condition) =
     (text_found matches (codes "agent") ≡ Some agent)
     × (text_found matches (codes "journal") ≡ Some journal)
     × (text_found matches (codes "condition") ≡ Some condition)
+Finds matches (migrate agent journal) =
+    (text_found matches (codes "agent") ≡ Some agent) × (text_found matches (codes "journal") ≡ Some journal)
 Finds matches (demo size) = (word : Text) × (text_found matches (codes "size") ≡ Some word) × (size_in word ≡ Some size)

@@ -1,7 +1,8 @@
 // The test of the words, before they are read: it wants no memory.
 ghost use Rattle.std.specs.Prelude.{◌≡◌, map, string_bytes, is_some};
-ghost use Rattle.golog_words.specs.Commands.{is_file_word, is_inline, run_in, check_in, replay_in, ask_in, demo_in, command_in};
+ghost use Rattle.golog_words.specs.Commands.{run_in, check_in, replay_in, ask_in, migrate_in, demo_in, command_in};
 
+use crate::said::{is_file_word, said_by};
 use crate::size::size_in;
 
 // Whether the words are a command.
@@ -16,6 +17,7 @@ pub(crate) fn is_command(words: &[String]) -> bool
         "check" => is_check(others),
         "replay" => is_replay(others),
         "ask" => is_ask(others),
+        "migrate" => is_migrate(others),
         "demo" => is_demo(others),
         _ => false,
     }
@@ -25,19 +27,9 @@ pub(crate) fn is_command(words: &[String]) -> bool
 fn is_run(words: &[String]) -> bool
     ensures { result ≡ is_some (run_in (map string_bytes words.now)) }
 {
-    match words {
-        [agent] => is_file_word(agent),
-        [one, other] => {
-            is_file_word(one) && (is_file_word(other) || is_inline(other))
-                || is_inline(one) && is_file_word(other)
-        }
-        [one, other, last] => {
-            is_file_word(one)
-                && (is_file_word(other) && is_inline(last)
-                    || is_inline(other) && is_file_word(last))
-                || is_inline(one) && is_file_word(other) && is_file_word(last)
-        }
-        _ => false,
+    match said_by(words) {
+        Some(said) => said.agent.is_some() && !said.awaits_from,
+        None => false,
     }
 }
 
@@ -73,6 +65,16 @@ fn is_ask(words: &[String]) -> bool
     }
 }
 
+// Whether these words may stand behind `migrate`.
+fn is_migrate(words: &[String]) -> bool
+    ensures { result ≡ is_some (migrate_in (map string_bytes words.now)) }
+{
+    match words {
+        [agent, journal] => is_file_word(agent) && is_file_word(journal),
+        _ => false,
+    }
+}
+
 // Whether these words may stand behind `demo`.
 fn is_demo(words: &[String]) -> bool
     ensures { result ≡ is_some (demo_in (map string_bytes words.now)) }
@@ -81,20 +83,4 @@ fn is_demo(words: &[String]) -> bool
         [size] => size_in(size.as_str()).is_some(),
         _ => false,
     }
-}
-
-// Whether the word is not empty and does not begin with `-`.
-fn is_file_word(word: &String) -> bool
-    ensures { result ≡ is_file_word (string_bytes word.now) }
-{
-    match word.as_bytes() {
-        [] => false,
-        [first, ..] => *first != b'-',
-    }
-}
-
-fn is_inline(word: &String) -> bool
-    ensures { result ≡ is_inline (string_bytes word.now) }
-{
-    word.as_str() == "--inline"
 }

@@ -5,6 +5,7 @@ mod command;
 mod matches;
 mod order;
 mod reading;
+mod said;
 mod size;
 
 pub use order::{Order, WordsFault};

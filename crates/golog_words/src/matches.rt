@@ -1,7 +1,7 @@
 // A command of `clap` for each first word, which stands in the words where a program's name does.
 ghost use Rattle.std.specs.Prelude.{◌≡◌, Some, IsSome, IfOk, IfErr, drop, map, string_bytes};
 ghost use Rattle.clap.specs.Words.{kind_of};
-ghost use Rattle.golog_words.specs.Commands.{CommandLine as Spelled, run_in, check_in, replay_in, ask_in, demo_in};
+ghost use Rattle.golog_words.specs.Commands.{CommandLine as Spelled, run_in, check_in, replay_in, ask_in, migrate_in, demo_in};
 ghost use Rattle.golog_words.specs.Found.{Finds};
 
 use clap::error::ErrorKind;
@@ -22,7 +22,8 @@ pub(crate) fn run_matches<'w>(alloc: Global, words: &'w [String]) -> Result<ArgM
             Arg::new(alloc, "inline")
                 .long("inline")
                 .action(ArgAction::SetTrue),
-        )?;
+        )?
+        .arg(Arg::new(alloc, "from").long("from").action(ArgAction::Set))?;
     command.try_get_matches_from(words)
 }
 
@@ -65,6 +66,22 @@ pub(crate) fn ask_matches<'w>(alloc: Global, words: &'w [String]) -> Result<ArgM
         .arg(Arg::new(alloc, "agent"))?
         .arg(Arg::new(alloc, "journal"))?
         .arg(Arg::new(alloc, "condition"))?;
+    command.try_get_matches_from(words)
+}
+
+// What `clap` finds in the words of a `migrate`. It fails only for want of memory.
+pub(crate) fn migrate_matches<'w>(
+    alloc: Global,
+    words: &'w [String],
+) -> Result<ArgMatches<'w>, Error>
+    ensures found { IfOk result (λ found. (command : Spelled)
+        → migrate_in (drop 1 (map string_bytes words.entry.now)) ≡ Some command → Finds found command) }
+    ensures fails { IfErr result (λ error. IsSome (migrate_in (drop 1 (map string_bytes words.entry.now)))
+        → kind_of error ≡ ErrorKind.OutOfMemory) }
+{
+    let command = Command::new(alloc, "migrate")
+        .arg(Arg::new(alloc, "agent"))?
+        .arg(Arg::new(alloc, "journal"))?;
     command.try_get_matches_from(words)
 }
 

@@ -11,6 +11,8 @@ pub enum Order<'w> {
         devices: Option<&'w str>,
         /// Whether all runs on one thread.
         inline: bool,
+        /// The name of the journal file whose values it begins from, if there is one.
+        from: Option<&'w str>,
     },
     /// Checks an agent file.
     Check {
@@ -32,6 +34,13 @@ pub enum Order<'w> {
         journal: &'w str,
         /// The condition, as it is written.
         condition: &'w str,
+    },
+    /// Writes a journal as the second version of the text.
+    Migrate {
+        /// The agent file's name.
+        agent: &'w str,
+        /// The journal file's name.
+        journal: &'w str,
     },
     /// Runs the lift with so many levels, 1 to 200.
     Demo {

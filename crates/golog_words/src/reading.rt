@@ -1,9 +1,11 @@
 ghost use Rattle.std.specs.Prelude.{◌≡◌, Some, IsSome, IfOk, drop, map, string_bytes};
 ghost use Rattle.golog_words.specs.Answers.{Answers, command_of};
-ghost use Rattle.golog_words.specs.Commands.{run_in, check_in, replay_in, ask_in, demo_in, command_in};
+ghost use Rattle.golog_words.specs.Commands.{run_in, check_in, replay_in, ask_in, migrate_in, demo_in, command_in};
 
 use crate::command::is_command;
-use crate::matches::{ask_matches, check_matches, demo_matches, replay_matches, run_matches};
+use crate::matches::{
+    ask_matches, check_matches, demo_matches, migrate_matches, replay_matches, run_matches,
+};
 use crate::order::{Order, WordsFault};
 use crate::size::size_in;
 use golog_base::NoMemory;
@@ -34,6 +36,7 @@ fn read<'w>(alloc: Global, words: &'w [String]) -> Result<Order<'w>, NoMemory>
         "check" => read_check(alloc, words),
         "replay" => read_replay(alloc, words),
         "ask" => read_ask(alloc, words),
+        "migrate" => read_migrate(alloc, words),
         "demo" => read_demo(alloc, words),
         _ => unreachable!(),
     }
@@ -50,6 +53,7 @@ fn read_run<'w>(alloc: Global, words: &'w [String]) -> Result<Order<'w>, NoMemor
         agent: found.get_str("agent").unwrap(),
         devices: found.get_str("devices"),
         inline: found.get_flag("inline"),
+        from: found.get_str("from"),
     })
 }
 
@@ -89,6 +93,19 @@ fn read_ask<'w>(alloc: Global, words: &'w [String]) -> Result<Order<'w>, NoMemor
         agent: found.get_str("agent").unwrap(),
         journal: found.get_str("journal").unwrap(),
         condition: found.get_str("condition").unwrap(),
+    })
+}
+
+fn read_migrate<'w>(alloc: Global, words: &'w [String]) -> Result<Order<'w>, NoMemory>
+    requires { IsSome (migrate_in (drop 1 (map string_bytes words.now))) }
+    ensures { IfOk result (λ order. migrate_in (drop 1 (map string_bytes words.entry.now)) ≡ Some (command_of order)) }
+{
+    let Ok(found) = migrate_matches(alloc, words) else {
+        return Err(NoMemory);
+    };
+    Ok(Order::Migrate {
+        agent: found.get_str("agent").unwrap(),
+        journal: found.get_str("journal").unwrap(),
     })
 }
 

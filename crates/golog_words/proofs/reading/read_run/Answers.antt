@@ -14,4 +14,5 @@ returns c =
       is_text _ _ _ (c.get_str.ensures ∙ parts.agent_is) c.unwrap.ensures,
       c.get_str-2.ensures ∙ parts.devices_is,
       flag_is _ _ _ parts.inline_is c.get_flag.ensures.value c.get_flag.ensures.other,
+      c.get_str-3.ensures ∙ parts.from_is,
     ) parts.is
