@@ -8,8 +8,8 @@ use Rattle.golog_tree.specs.declared.agent.Agent.{Agent}
 use Rattle.golog_tree.specs.declared.cond.Cond.{Cond}
 use Rattle.golog_tree.specs.declared.draft.DraftTheory.{DraftTheory}
 use Rattle.golog_semantics.specs.Text.{Text}
-use Rattle.golog_semantics.specs.Progress.{values_after}
-use Rattle.golog_semantics.specs.Truth.{env_of, truth_of}
+use Rattle.golog_semantics.specs.Restart.{journal_text, migrated, started, values_left}
+use Rattle.golog_semantics.specs.Truth.{Values}
 use Rattle.golog_semantics.specs.declared.journal.Answer.{Answer}
 use Rattle.golog_semantics.specs.declared.journal.Why.{Why}
 use Rattle.golog_semantics.specs.declared.journal.Answer.TheVariants.{Done, Stuck, Unknown, Depth, Fuel, Unanswered, Full, Deep, Memory}
@@ -23,18 +23,18 @@ use Rattle.golog_file.proofs.Answers.{without-theory}
 use Rattle.golog_file.proofs.Excluded.{excluded, one-agent, one-form, theory-same}
 use Rattle.golog_check_text.specs.Counts.{check_text}
 use Rattle.golog_semantics.specs.declared.journal.Verdict.TheVariants.{Online, Not}
-use Rattle.golog_words.specs.Commands.{CommandLine, run, check, replay, ask, demo}
+use Rattle.golog_words.specs.Commands.{CommandLine, run, check, replay, ask, migrate, demo}
 use Rattle.golog_commands.specs.declared.outcome.Input.{Input}
 use Rattle.golog_commands.specs.declared.outcome.Input.TheVariants.{Agent as AgentFile, Devices as DevicesFile, Journal as JournalFile}
 use Rattle.golog_commands.specs.declared.outcome.Outcome.{Outcome}
-use Rattle.golog_commands.specs.declared.outcome.Outcome.TheVariants.{WordsRefused, ReadFault, Refused, Ran, Checked, Judged, Asked, Demonstrated}
+use Rattle.golog_commands.specs.declared.outcome.Outcome.TheVariants.{WordsRefused, ReadFault, Refused, Ran, Checked, Judged, Asked, Migrated, Demonstrated}
 use Rattle.golog_commands.specs.declared.ready.Told.{Told}
 use Rattle.golog_commands.specs.Inputs.{SpellsScripts, RefusesScripts, too_long, of_row, SpellsJournal, RefusesJournal, journal_too_long, of_line, SpellsBoth, Reads, Tells, IsUnread, scripts_for}
 use Rattle.golog_commands.specs.Demos.{Demonstrates, demo_text}
 use Rattle.golog_commands.specs.Runs.{IsRunOf}
-use Rattle.golog_commands.specs.Outcome.{ComesOf, unread, refused, holds, OfFile, OfScripts, OfJournal, OfCondition, RunOf, Judges, TruthOf, Outside, Reports, outcome_text, outcome_status, verdict_line, verdict_status}
+use Rattle.golog_commands.specs.Outcome.{ComesOf, unread, refused, holds, LeavesText, MigratedOf, OfFile, OfScripts, OfJournal, OfFrom, OfCondition, RunOf, Judges, TruthOf, Outside, Reports, outcome_text, outcome_status, truth_after, verdict_line, verdict_status}
 use Rattle.golog_commands.proofs.OneVerdict.{one-verdict}
-use Rattle.golog_commands.specs.Exact.{Writes, Shows, SaysItsCause, IsStopped, Answers, Says, IsRead, FileFollows, CondFollows, ScriptsFollow, JournalFollows, RunFollows, DemoFollows, JudgedFollows, TruthFollows, FollowsItsCause, StatusesAreExact}
+use Rattle.golog_commands.specs.Exact.{Writes, Shows, SaysItsCause, IsStopped, Answers, Says, IsRead, FileFollows, CondFollows, ScriptsFollow, JournalFollows, FromFollows, RunFollows, DemoFollows, JudgedFollows, TruthFollows, FollowsItsCause, StatusesAreExact}
 use Rattle.golog_commands.proofs.Causes.{IsCaused}
 
 -- ---- what is read
@@ -58,7 +58,7 @@ module _ (name bytes : Text) (before after : Outside) (read : IsRead name bytes 
   no_fault (inr rose) = read.unfailed rose
 
   -- the bytes read are those of which something is so
-  read_so : (P : Text → Type 0) → Reads before.held name P → P bytes
+  pub read_so : (P : Text → Type 0) → Reads before.held name P → P bytes
   read_so P reads = subst P (sym (read_has (λ told. told ≡ reads.bytes) reads.has)) reads.so
 
 -- ---- what comes of an input, and what follows of it
@@ -146,11 +146,11 @@ module _ (agent : Agent) where
   pub scripts-one : SpellsOne (SpellsScripts agent)
   scripts-one bytes a b s t = let k : Ok b ≡ Ok a = sym t.spelled ∙ s.spelled in cc
 
-  journals-exclude : Excludes (RefusesJournal agent) (SpellsJournal agent)
+  pub journals-exclude : Excludes (RefusesJournal agent) (SpellsJournal agent)
   journals-exclude bytes told _ _ spells (journal_too_long long) = let small = spells.small in absurd (omega (arith, small, long))
   journals-exclude bytes told _ _ spells (of_line code at small refuses row) = let k : Ok told.report ≡ Err (code, at) = sym spells.said ∙ refuses in absurd (cc)
 
-  journals-one : SpellsOne (SpellsJournal agent)
+  pub journals-one : SpellsOne (SpellsJournal agent)
   journals-one bytes a b s t =
       let k : Ok b.report ≡ Ok a.report = sym t.said ∙ s.said in
       let reports : b.report ≡ a.report = cc in
@@ -179,38 +179,58 @@ module _ (unrefused : SpelledCondIsUnrefused) (one : OneCondIsSpelled) (status :
 -- ---- what follows of the cause
 
 module _ (status : ℕ) (before after : Outside) where
-  ran-follows : (agent : Agent) (listed : List Script) (inline : Bool) (outcome : Outcome) → status ≡ outcome_status outcome → Writes before after (outcome_text outcome)
-      → RunOf agent listed inline before.devices after.devices outcome → RunFollows status before after agent listed inline
-  ran-follows agent listed inline (Ran text answer) is written ran =
+  ran-follows : (agent : Agent) (start : Option Values) (listed : List Script) (inline : Bool) (outcome : Outcome) → status ≡ outcome_status outcome → Writes before after (outcome_text outcome)
+      → RunOf agent start listed inline before.devices after.devices outcome → RunFollows status before after agent start listed inline
+  ran-follows agent start listed inline (Ran text answer) is written ran =
       inl (record {
         text = text;
-        runs = subst (IsRunOf agent (scripts_for agent listed) inline before.devices after.devices text) (sym is) ran;
+        runs = subst (IsRunOf agent start (scripts_for agent listed) inline before.devices after.devices text) (sym is) ran;
         written = written;
       })
-  ran-follows agent listed inline WordsRefused is written ran = absurd ran
-  ran-follows agent listed inline (ReadFault input) is written ran = absurd ran
-  ran-follows agent listed inline (Refused input text) is written ran = absurd ran
-  ran-follows agent listed inline (Checked text) is written ran = absurd ran
-  ran-follows agent listed inline (Judged verdict text) is written ran = absurd ran
-  ran-follows agent listed inline (Asked truth) is written ran = absurd ran
-  ran-follows agent listed inline (Demonstrated text) is written ran = absurd ran
+  ran-follows agent start listed inline WordsRefused is written ran = absurd ran
+  ran-follows agent start listed inline (ReadFault input) is written ran = absurd ran
+  ran-follows agent start listed inline (Refused input text) is written ran = absurd ran
+  ran-follows agent start listed inline (Checked text) is written ran = absurd ran
+  ran-follows agent start listed inline (Judged verdict text) is written ran = absurd ran
+  ran-follows agent start listed inline (Asked truth) is written ran = absurd ran
+  ran-follows agent start listed inline (Migrated text) is written ran = absurd ran
+  ran-follows agent start listed inline (Demonstrated text) is written ran = absurd ran
 
   module _ (unrefused : SpelledCondIsUnrefused) (one : OneCondIsSpelled) (outcome : Outcome) (shown : status ≡ outcome_status outcome)
       (written : Writes before after (outcome_text outcome)) where
     said : (o : Outcome) → outcome ≡ o → Says status (outcome_status o) (outcome_text o) before after
     said o is = inl (shown ∙ ap outcome_status is, written ∙ ap (λ x. and_then_bytes before.taken (outcome_text x)) is)
 
-    abbrev Runs : Agent → Bool → List Script → Outcome → Type 0
-    Runs agent inline listed = RunOf agent listed inline before.devices after.devices
+    abbrev Runs : Agent → Bool → List Script → Option Values → Outcome → Type 0
+    Runs agent inline listed start = RunOf agent start listed inline before.devices after.devices
 
-    scripts-follow : (agent : Agent) (named : Option Text) (inline : Bool)
-        → OfScripts before.held before.file_faults after.file_faults agent named (Runs agent inline) outcome
-        → ScriptsFollow status before after agent named (λ listed. RunFollows status before after agent listed inline)
-    scripts-follow agent None inline ran = ran-follows agent [] inline outcome shown written ran
-    scripts-follow agent (Some name) inline comes =
+    abbrev From : Agent → Option Text → Bool → List Script → Outcome → Type 0
+    From agent from inline listed = OfFrom before.held before.file_faults after.file_faults agent from (Runs agent inline listed)
+
+    from-follow : (agent : Agent) (from : Option Text) (inline : Bool) (listed : List Script) → From agent from inline listed outcome
+        → FromFollows status before after agent from (λ start. RunFollows status before after agent start listed inline)
+    from-follow agent None inline listed ran = ran-follows agent None listed inline outcome shown written ran
+    from-follow agent (Some name) inline listed comes =
+        file-follows before after JournalFile name (RefusesJournal agent) (SpellsJournal agent) (journals-exclude agent) (journals-one agent) outcome status shown
+        (λ told. Runs agent inline listed (Some (values_left agent told.report)))
+        (λ told. RunFollows status before after agent (Some (values_left agent told.report)) listed inline)
+        (λ told ran. ran-follows agent (Some (values_left agent told.report)) listed inline outcome shown written ran) comes
+
+    scripts-follow : (agent : Agent) (named from : Option Text) (inline : Bool)
+        → OfScripts before.held before.file_faults after.file_faults agent named (From agent from inline) outcome
+        → ScriptsFollow status before after agent named (λ listed. FromFollows status before after agent from (λ start. RunFollows status before after agent start listed inline))
+    scripts-follow agent None from inline comes = from-follow agent from inline [] comes
+    scripts-follow agent (Some name) from inline comes =
         file-follows before after DevicesFile name (RefusesScripts agent) (SpellsScripts agent) (scripts-exclude agent) (scripts-one agent) outcome status shown
-        (Runs agent inline) (λ listed. RunFollows status before after agent listed inline)
-        (λ listed ran. ran-follows agent listed inline outcome shown written ran) comes
+        (From agent from inline) (λ listed. FromFollows status before after agent from (λ start. RunFollows status before after agent start listed inline))
+        (λ listed. from-follow agent from inline listed) comes
+
+    migrate-follows : (agent : Agent) (journal : Text) → OfJournal before.held before.file_faults after.file_faults agent journal (MigratedOf agent) outcome
+        → JournalFollows status before after agent journal (λ told. Says status 0 (journal_text agent (migrated agent told.report)) before after)
+    migrate-follows agent journal comes =
+        file-follows before after JournalFile journal (RefusesJournal agent) (SpellsJournal agent) (journals-exclude agent) (journals-one agent) outcome status shown
+        (MigratedOf agent) (λ told. Says status 0 (journal_text agent (migrated agent told.report)) before after)
+        (λ told is. said (Migrated (journal_text agent (migrated agent told.report))) is) comes
 
     abbrev Asks : Agent → Told → Cond → Type 0
     Asks agent told cond = TruthFollows status before after agent told cond
@@ -223,12 +243,12 @@ module _ (status : ℕ) (before after : Outside) where
         (λ told. OfCondition u.theory u.agent condition (λ cond. TruthOf u.agent told cond))
         (λ told. CondFollows status before after u.theory u.agent condition (Asks u.agent told))
         (λ told. cond-follows unrefused one status before after outcome shown u.theory u.agent condition (TruthOf u.agent told) (Asks u.agent told)
-        (λ cond is. said (Asked (truth_of u.agent (values_after u.agent told.report.entries) cond (env_of []))) is)) comes
+        (λ cond is. said (Asked (truth_after u.agent told cond)) is)) comes
 
     -- the verdict is the one that is told
     judge-follows : (agent : Agent) (told : Told) → Judges agent told outcome → JudgedFollows status before after agent told
     judge-follows agent told judges verdict so =
-        let same : judges.verdict ≡ verdict = one-verdict agent told.bytes told.report judges.verdict verdict judges.so so in
+        let same : judges.verdict ≡ verdict = one-verdict (started agent told.report.start) told.bytes told.report judges.verdict verdict judges.so so in
         subst (λ v. Says status (verdict_status v) (verdict_line v) before after) same (said (Judged judges.verdict (verdict_line judges.verdict)) judges.is)
 
     replay-follows : (agent : Agent) (journal : Text) → OfJournal before.held before.file_faults after.file_faults agent journal (Judges agent) outcome
@@ -251,11 +271,11 @@ module _ (status : ℕ) (before after : Outside) where
 
     follows : (spelled : Option CommandLine) → IsCaused spelled before after outcome → FollowsItsCause status before after spelled
     follows None is = inl (shown ∙ ap outcome_status is)
-    follows (Some (run name named inline)) comes =
+    follows (Some (run name named inline from)) comes =
         file-follows before after AgentFile name IsFirstRefusal SpellsAgent agents-exclude agents-one outcome status shown
-        (λ a. OfScripts before.held before.file_faults after.file_faults a named (Runs a inline))
-        (λ a. ScriptsFollow status before after a named (λ listed. RunFollows status before after a listed inline))
-        (λ a. scripts-follow a named inline) comes
+        (λ a. OfScripts before.held before.file_faults after.file_faults a named (From a from inline))
+        (λ a. ScriptsFollow status before after a named (λ listed. FromFollows status before after a from (λ start. RunFollows status before after a start listed inline)))
+        (λ a. scripts-follow a named from inline) comes
     follows (Some (check name)) comes =
         file-follows before after AgentFile name IsFirstRefusal SpellsAgent agents-exclude agents-one outcome status shown
         (λ a o. o ≡ Checked (check_text a)) (λ a. Says status 0 (check_text a) before after) (λ a is. said (Checked (check_text a)) is) comes
@@ -269,14 +289,33 @@ module _ (status : ℕ) (before after : Outside) where
         (λ u. OfJournal before.held before.file_faults after.file_faults u.agent journal (λ told. OfCondition u.theory u.agent condition (λ cond. TruthOf u.agent told cond)))
         (λ u. JournalFollows status before after u.agent journal (λ told. CondFollows status before after u.theory u.agent condition (Asks u.agent told)))
         (λ u. ask-follows u journal condition) comes
+    follows (Some (migrate name journal)) comes =
+        file-follows before after AgentFile name IsFirstRefusal SpellsAgent agents-exclude agents-one outcome status shown
+        (λ a. OfJournal before.held before.file_faults after.file_faults a journal (MigratedOf a))
+        (λ a. JournalFollows status before after a journal (λ told. Says status 0 (journal_text a (migrated a told.report)) before after))
+        (λ a. migrate-follows a journal) comes
     follows (Some (demo size)) comes = demo-follows size comes
 
   module _ (stop : IsStopped status before after) where
-    scripts-stopped : (agent : Agent) (named : Option Text) (inline : Bool)
-        → ScriptsFollow status before after agent named (λ listed. RunFollows status before after agent listed inline)
-    scripts-stopped agent None inline = inr stop
-    scripts-stopped agent (Some name) inline =
-        file-stopped status before after name (RefusesScripts agent) (SpellsScripts agent) (λ listed. RunFollows status before after agent listed inline) stop (λ listed. inr stop)
+    from-stopped : (agent : Agent) (from : Option Text) (inline : Bool) (listed : List Script)
+        → FromFollows status before after agent from (λ start. RunFollows status before after agent start listed inline)
+    from-stopped agent None inline listed = inr stop
+    from-stopped agent (Some name) inline listed =
+        file-stopped status before after name (RefusesJournal agent) (SpellsJournal agent)
+        (λ told. RunFollows status before after agent (Some (values_left agent told.report)) listed inline) stop (λ told. inr stop)
+
+    scripts-stopped : (agent : Agent) (named from : Option Text) (inline : Bool)
+        → ScriptsFollow status before after agent named (λ listed. FromFollows status before after agent from (λ start. RunFollows status before after agent start listed inline))
+    scripts-stopped agent None from inline = from-stopped agent from inline []
+    scripts-stopped agent (Some name) from inline =
+        file-stopped status before after name (RefusesScripts agent) (SpellsScripts agent)
+        (λ listed. FromFollows status before after agent from (λ start. RunFollows status before after agent start listed inline)) stop (from-stopped agent from inline)
+
+    migrate-stopped : (agent : Agent) (journal : Text)
+        → JournalFollows status before after agent journal (λ told. Says status 0 (journal_text agent (migrated agent told.report)) before after)
+    migrate-stopped agent journal =
+        file-stopped status before after journal (RefusesJournal agent) (SpellsJournal agent)
+        (λ told. Says status 0 (journal_text agent (migrated agent told.report)) before after) stop (λ told. inr stop)
 
     replay-stopped : (agent : Agent) (journal : Text) → JournalFollows status before after agent journal (λ told. JudgedFollows status before after agent told)
     replay-stopped agent journal =
@@ -293,9 +332,10 @@ module _ (status : ℕ) (before after : Outside) where
 
     stopped : (spelled : Option CommandLine) → FollowsItsCause status before after spelled
     stopped None = inr stop
-    stopped (Some (run name named inline)) =
+    stopped (Some (run name named inline from)) =
         file-stopped status before after name IsFirstRefusal SpellsAgent
-        (λ a. ScriptsFollow status before after a named (λ listed. RunFollows status before after a listed inline)) stop (λ a. scripts-stopped a named inline)
+        (λ a. ScriptsFollow status before after a named (λ listed. FromFollows status before after a from (λ start. RunFollows status before after a start listed inline))) stop
+        (λ a. scripts-stopped a named from inline)
     stopped (Some (check name)) =
         file-stopped status before after name IsFirstRefusal SpellsAgent (λ a. Says status 0 (check_text a) before after) stop (λ a. inr stop)
     stopped (Some (replay name journal)) =
@@ -306,6 +346,9 @@ module _ (status : ℕ) (before after : Outside) where
         (λ u. JournalFollows status before after u.agent journal
         (λ told. CondFollows status before after u.theory u.agent condition (λ cond. TruthFollows status before after u.agent told cond))) stop
         (λ u. ask-stopped u journal condition)
+    stopped (Some (migrate name journal)) =
+        file-stopped status before after name IsFirstRefusal SpellsAgent
+        (λ a. JournalFollows status before after a journal (λ told. Says status 0 (journal_text a (migrated a told.report)) before after)) stop (λ a. migrate-stopped a journal)
     stopped (Some (demo size)) = inr stop
 
 -- ---- a status only where its cause is
@@ -341,7 +384,7 @@ module _ (status : ℕ) (spelled : Option CommandLine) (before after : Outside) 
   }
 
   starved_says : status ≡ 6
-      → IsSome spelled × ((after.taken ≡ before.taken) ⊎ ((text : Text) × Shows status spelled before after (Ran text Memory)))
+      → IsSome spelled × (LeavesText spelled before after ⊎ ((text : Text) × Shows status spelled before after (Ran text Memory)))
       → SaysItsCause status spelled before after
   starved_says is cause = record {
     words_refused = λ two. absurd (omega (arith, is, two));
@@ -434,19 +477,28 @@ not-words (refused text is r) never = cc
 not-words (holds x h next) never = never x next
 
 module _ (before after : Outside) where
-  not-scripts : (agent : Agent) (named : Option Text) (inline : Bool)
-      → OfScripts before.held before.file_faults after.file_faults agent named (λ listed. RunOf agent listed inline before.devices after.devices) WordsRefused → ⊥
-  not-scripts agent None inline comes = comes
-  not-scripts agent (Some file) inline comes = not-words comes (λ listed none. none)
+  abbrev Ran-from : Agent → Option Text → Bool → List Script → Outcome → Type 0
+  Ran-from agent from inline listed =
+      OfFrom before.held before.file_faults after.file_faults agent from (λ start. RunOf agent start listed inline before.devices after.devices)
+
+  not-from : (agent : Agent) (from : Option Text) (inline : Bool) (listed : List Script) → Ran-from agent from inline listed WordsRefused → ⊥
+  not-from agent None inline listed comes = comes
+  not-from agent (Some file) inline listed comes = not-words comes (λ told none. none)
+
+  not-scripts : (agent : Agent) (named from : Option Text) (inline : Bool)
+      → OfScripts before.held before.file_faults after.file_faults agent named (Ran-from agent from inline) WordsRefused → ⊥
+  not-scripts agent None from inline comes = not-from agent from inline [] comes
+  not-scripts agent (Some file) from inline comes = not-words comes (not-from agent from inline)
 
   refused-words : (spelled : Option CommandLine) → IsCaused spelled before after WordsRefused → spelled ≡ None
   refused-words None cause = refl
-  refused-words (Some (run name named inline)) cause = absurd (not-words cause (λ agent comes. not-scripts agent named inline comes))
+  refused-words (Some (run name named inline from)) cause = absurd (not-words cause (λ agent comes. not-scripts agent named from inline comes))
   refused-words (Some (check name)) cause = absurd (not-words cause (λ agent is. cc))
   refused-words (Some (replay name journal)) cause =
       absurd (not-words cause (λ agent comes. not-words comes (λ told judges. let is = judges.is in cc)))
   refused-words (Some (ask name journal condition)) cause =
       absurd (not-words cause (λ u comes. not-words comes (λ told also. not-words also (λ cond is. cc))))
+  refused-words (Some (migrate name journal)) cause = absurd (not-words cause (λ agent comes. not-words comes (λ told is. cc)))
   refused-words (Some (demo size)) cause = let is = cause.is in absurd (cc)
 
   some-command : (spelled : Option CommandLine) (outcome : Outcome) → (outcome ≡ WordsRefused → ⊥) → IsCaused spelled before after outcome → IsSome spelled
@@ -471,6 +523,7 @@ module _ (status : ℕ) (spelled : Option CommandLine) (before after : Outside) 
   says (Judged (Online answer) text) shows = served_says status spelled before after (Judged (Online answer) text) shows.shown shows
   says (Judged (Not place why) text) shows = not_online_says status spelled before after place why text shows
   says (Asked truth) shows = served_says status spelled before after (Asked truth) shows.shown shows
+  says (Migrated text) shows = served_says status spelled before after (Migrated text) shows.shown shows
   says (Demonstrated text) shows = served_says status spelled before after (Demonstrated text) shows.shown shows
 
 -- ---- both

@@ -1,4 +1,5 @@
 pub mod Causes
+pub mod FromStarts
 pub mod InputLemmas
 pub mod OutcomeLemmas
 pub mod OneVerdict

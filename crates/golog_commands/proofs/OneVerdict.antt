@@ -11,7 +11,7 @@ use Rattle.golog_semantics.proofs.Among.{Among, among-contains, among-left, amon
 use Rattle.golog_semantics.proofs.NoFaults.{no_fault_is_online}
 use Rattle.golog_semantics.specs.declared.journal.Verdict.{Verdict}
 use Rattle.golog_semantics.specs.declared.journal.Verdict.TheVariants.{Online, Not}
-use Rattle.golog_semantics.specs.Verdicts.{VerdictIs, lines_in}
+use Rattle.golog_semantics.specs.Verdicts.{VerdictIs, entry_lines}
 
 -- an end is no closing
 unclosed : (ended : Bool) → ended ≡ true → (not ended || false) ≡ true → ⊥
@@ -45,7 +45,7 @@ module _ (agent : Agent) (report : Report) (keeps : EachKeeps agent report) wher
 module _ (agent : Agent) (bytes : Text) (report : Report) where
   pub one-verdict : (v w : Verdict) → VerdictIs agent bytes report v → VerdictIs agent bytes report w → v ≡ w
   one-verdict (Online a) (Online b) (none, x) (also, y) =
-      let online = (no_fault_is_online.of_report agent (Some (lines_in bytes)) report).online none in
+      let online = (no_fault_is_online.of_report agent (Some (entry_lines agent bytes report.start)) report).online none in
       ap Online
       (one-end agent report online.entries [] report.entries a b refl (among-contains report.entries (End a) x) (among-contains report.entries (End b) y))
   one-verdict (Online a) (Not place why) (none, x) fault = let no = sym none ∙ fault in absurd (cc)

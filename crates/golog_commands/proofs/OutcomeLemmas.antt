@@ -1,5 +1,5 @@
 -- From what the inputs of a call hold, and what a run of these comes to, to what the call comes to.
-use Rattle.std.proofs.Common.{◌≡◌, Bool, ℕ, ◌+◌, ◌<◌, ◌≤◌, List, [], Option, Some, None, Result, Ok, Err, IfOk, length, replicate, refl, sym, subst, inl, inr, arith}
+use Rattle.std.proofs.Common.{◌≡◌, Bool, ℕ, ◌+◌, ◌<◌, ◌≤◌, List, [], Option, Some, None, Result, Ok, Err, IfOk, length, replicate, refl, sym, ap, ◌∙◌, subst, inl, inr, arith}
 use Rattle.std.specs.Prelude.{IsSomeAnd}
 use Rattle.std.proofs.lemmas.List.{length-replicate}
 use Rattle.golog_base.specs.Files.{FileHas}
@@ -7,7 +7,9 @@ use Rattle.golog_base.specs.declared.mem_files.HeldFile.{HeldFile}
 use Rattle.golog_tree.specs.declared.agent.Agent.{Agent}
 use Rattle.golog_tree.specs.declared.cond.Cond.{Cond}
 use Rattle.golog_tree.specs.declared.draft.DraftTheory.{DraftTheory}
+use Rattle.golog_semantics.specs.Restart.{values_left}
 use Rattle.golog_semantics.specs.Text.{Text}
+use Rattle.golog_semantics.specs.Truth.{Values}
 use Rattle.golog_device.specs.Slots.{Standing}
 use Rattle.golog_script.specs.declared.scripts.Script.{Script}
 use Rattle.golog_file.specs.Conditions.{RefusesCond, SpellsCond}
@@ -22,8 +24,8 @@ use Rattle.golog_commands.specs.declared.ready.Ready.{Ready}
 use Rattle.golog_commands.specs.declared.ready.Told.{Told}
 use Rattle.golog_commands.specs.declared.ready.Unready.{Unready}
 use Rattle.golog_commands.specs.declared.ready.Unready.TheVariants.{Ended, Memory}
-use Rattle.golog_commands.specs.Inputs.{Reads, ReadsAgent, ReadsScripts, SpellsScripts, RefusesScripts, too_long, SpellsBoth, SpellsJournal, RefusesJournal, journal_too_long, Tells, input_limit, refusal_text, IsUnread}
-use Rattle.golog_commands.specs.Outcome.{ComesOf, unread, refused, holds, RunOf, OfFile, OfAgent, OfBoth, OfScripts, OfJournal, OfCondition, Comes, CondFails, FileFails, HoldsRun, IfEnded, IsTooLong, Never}
+use Rattle.golog_commands.specs.Inputs.{Reads, ReadsAgent, ReadsScripts, SpellsScripts, RefusesScripts, too_long, SpellsBoth, SpellsJournal, RefusesJournal, journal_too_long, ReadsStart, Tells, input_limit, refusal_text, IsUnread}
+use Rattle.golog_commands.specs.Outcome.{ComesOf, unread, refused, holds, RunOf, OfFile, OfAgent, OfBoth, OfScripts, OfJournal, OfFrom, OfCondition, Comes, CondFails, FileFails, HoldsRun, IfEnded, IsTooLong, Never}
 use Rattle.golog_commands.proofs.InputLemmas.{held-reads, reads-so, unread-since}
 
 -- ---- files that are refused or can't be read
@@ -193,30 +195,81 @@ module _ (held : Option (List HeldFile)) (first now : ℕ) where
   scripts-hold agent None listed P outcome reads next = subst (λ l. P l outcome) reads next
   scripts-hold agent (Some name) listed P outcome reads next = holds listed reads next
 
-  -- where the agent file is no agent's, or is one and the devices file holds no scripts
-  pub scripts-fail : (later : ℕ) → first ≤ later → (name : Text) (agent : Agent) → ReadsAgent held name agent → (named : Option Text) (outcome : Outcome)
-      → IsSomeAnd named (λ file. FileFails DevicesFile (RefusesScripts agent) held file later now outcome)
-      → OfAgent held first now name (λ a. OfScripts held first now a named Never) outcome
-  scripts-fail later grows name agent reads None outcome fails = absurd fails
-  scripts-fail later grows name agent reads (Some file) outcome fails =
+  -- ---- the journal file that a run begins from
+
+  from-so : (agent : Agent) (from : Option Text) (P Q : Option Values → Outcome → Type 0) (outcome : Outcome) → ((start : Option Values) → P start outcome → Q start outcome)
+      → OfFrom held first now agent from P outcome → OfFrom held first now agent from Q outcome
+  from-so agent None P Q outcome so comes = so None comes
+  from-so agent (Some name) P Q outcome so comes =
+      comes-so JournalFile (IsUnread held name first now) (λ text. Reads held name (λ bytes. Tells JournalFile (RefusesJournal agent bytes) text))
+      (λ told. Reads held name (λ bytes. SpellsJournal agent bytes told)) (λ told. P (Some (values_left agent told.report))) (λ told. Q (Some (values_left agent told.report))) outcome
+      (λ told. so (Some (values_left agent told.report))) comes
+
+  from-holds : (agent : Agent) (from : Option Text) (start : Option Values) (P : Option Values → Outcome → Type 0) (outcome : Outcome)
+      → ReadsStart held agent from start → P start outcome → OfFrom held first now agent from P outcome
+  from-holds agent None start P outcome reads next = subst (λ s. P s outcome) reads next
+  from-holds agent (Some name) start P outcome (values, reads, is) next =
+      holds reads.so.told (record { bytes = reads.bytes; has = reads.has; so = reads.so.spells })
+      (subst (λ s. P s outcome) (is ∙ ap Some reads.so.left) next)
+
+  -- what comes of a file since later comes of it since earlier
+  pub from-since : (later : ℕ) → first ≤ later → (agent : Agent) (from : Option Text) (Next : Option Values → Outcome → Type 0) (outcome : Outcome)
+      → OfFrom held later now agent from Next outcome → OfFrom held first now agent from Next outcome
+  from-since later grows agent None Next outcome comes = comes
+  from-since later grows agent (Some name) Next outcome comes =
+      file-since JournalFile held name first later now (RefusesJournal agent) (SpellsJournal agent) (λ told. Next (Some (values_left agent told.report))) outcome grows comes
+
+  pub scripts-since : (later : ℕ) → first ≤ later → (agent : Agent) (named : Option Text) (P Q : List Script → Outcome → Type 0) (outcome : Outcome)
+      → ((listed : List Script) → P listed outcome → Q listed outcome) → OfScripts held later now agent named P outcome → OfScripts held first now agent named Q outcome
+  scripts-since later grows agent None P Q outcome so comes = so [] comes
+  scripts-since later grows agent (Some name) P Q outcome so comes =
+      scripts-so agent (Some name) P Q outcome so
+      (file-since DevicesFile held name first later now (RefusesScripts agent) (SpellsScripts agent) P outcome grows comes)
+
+  -- where the devices file holds no scripts
+  pub scripts-fail : (agent : Agent) (named : Option Text) (Next : List Script → Outcome → Type 0) (outcome : Outcome)
+      → IsSomeAnd named (λ file. FileFails DevicesFile (RefusesScripts agent) held file first now outcome)
+      → OfScripts held first now agent named Next outcome
+  scripts-fail agent None Next outcome fails = absurd fails
+  scripts-fail agent (Some file) Next outcome fails =
+      file-comes DevicesFile held file first now (RefusesScripts agent) (SpellsScripts agent) Next outcome fails
+
+  -- where it does, and the journal file holds no values
+  pub from-fails : (later : ℕ) → first ≤ later → (agent : Agent) (named from : Option Text) (listed : List Script) (outcome : Outcome)
+      → ReadsScripts held agent named listed → OfFrom held later now agent from Never outcome
+      → OfScripts held first now agent named (λ l. OfFrom held first now agent from Never) outcome
+  from-fails later grows agent named from listed outcome reads comes =
+      scripts-hold agent named listed (λ l. OfFrom held first now agent from Never) outcome reads (from-since later grows agent from Never outcome comes)
+
+  -- where the agent file spells an agent, and a file behind it holds nothing
+  pub behind-agent : (later : ℕ) → first ≤ later → (name : Text) (agent : Agent) → ReadsAgent held name agent → (named from : Option Text) (outcome : Outcome)
+      → OfScripts held later now agent named (λ l. OfFrom held later now agent from Never) outcome
+      → OfAgent held first now name (λ a. OfScripts held first now a named (λ l. OfFrom held first now a from Never)) outcome
+  behind-agent later grows name agent reads named from outcome comes =
       holds agent reads
-      (file-comes DevicesFile held file first now (RefusesScripts agent) (SpellsScripts agent) Never outcome
-      (fails-since DevicesFile held file later now first grows (RefusesScripts agent) outcome fails))
+      (scripts-since later grows agent named (λ l. OfFrom held later now agent from Never) (λ l. OfFrom held first now agent from Never) outcome
+      (λ l. from-since later grows agent from Never outcome) comes)
 
   -- ---- runs
 
-  module _ (olds news : List Standing) (name : Text) (named : Option Text) (inline : Bool) where
+  module _ (olds news : List Standing) (name : Text) (named : Option Text) (inline : Bool) (from : Option Text) where
+    abbrev Runs : Agent → List Script → Option Values → Outcome → Type 0
+    Runs a listed start = RunOf a start listed inline olds news
+
     -- what a run of what the files hold comes to
-    pub run-comes : (ready : Ready) → HoldsRun held name named ready → (outcome : Outcome) → RunOf ready.agent ready.scripts inline olds news outcome
-        → Comes held first now olds news (Some (run name named inline)) outcome
+    pub run-comes : (ready : Ready) (has : HoldsRun held name named from ready) (outcome : Outcome) → Runs has.own ready.scripts ready.start outcome
+        → Comes held first now olds news (Some (run name named inline from)) outcome
     run-comes ready has outcome ran =
-        holds ready.agent has.agent_so
-        (scripts-hold ready.agent named ready.scripts (λ listed. RunOf ready.agent listed inline olds news) outcome has.scripts_so ran)
+        holds has.own has.agent_so
+        (scripts-hold has.own named ready.scripts (λ listed. OfFrom held first now has.own from (Runs has.own listed)) outcome has.scripts_so
+        (from-holds has.own from ready.start (Runs has.own ready.scripts) outcome has.start_so ran))
 
     -- what comes of files that hold no run
-    pub never-comes : (outcome : Outcome) → OfAgent held first now name (λ a. OfScripts held first now a named Never) outcome
-        → Comes held first now olds news (Some (run name named inline)) outcome
+    pub never-comes : (outcome : Outcome) → OfAgent held first now name (λ a. OfScripts held first now a named (λ l. OfFrom held first now a from Never)) outcome
+        → Comes held first now olds news (Some (run name named inline from)) outcome
     never-comes outcome comes =
         comes-so AgentFile (IsUnread held name first now) (λ text. Reads held name (λ bytes. Tells AgentFile (IsFirstRefusal bytes) text)) (ReadsAgent held name)
-        (λ a. OfScripts held first now a named Never) (λ a. OfScripts held first now a named (λ listed. RunOf a listed inline olds news)) outcome
-        (λ a. scripts-so a named Never (λ listed. RunOf a listed inline olds news) outcome (λ listed none. absurd none)) comes
+        (λ a. OfScripts held first now a named (λ l. OfFrom held first now a from Never))
+        (λ a. OfScripts held first now a named (λ listed. OfFrom held first now a from (Runs a listed))) outcome
+        (λ a. scripts-so a named (λ l. OfFrom held first now a from Never) (λ listed. OfFrom held first now a from (Runs a listed)) outcome
+        (λ listed. from-so a from Never (Runs a listed) outcome (λ start none. absurd none))) comes

@@ -1,6 +1,6 @@
 -- From a journal to its report, and to what a run of it comes to.
-use Rattle.std.proofs.Common.{◌≡◌, zero, suc, Bool, true, false, not, ◌||◌, List, [], ◌∷◌, ◌++◌, map, Result, Ok, Err, IfOk, refl, sym, ap, ◌∙◌, subst, arith, inl, inr, ◌⊎◌}
-use Rattle.std.specs.Prelude.{Contains}
+use Rattle.std.proofs.Common.{◌≡◌, zero, suc, Bool, true, false, not, ◌||◌, List, [], ◌∷◌, ◌++◌, map, Option, Some, None, Result, Ok, Err, IfOk, refl, sym, ap, ◌∙◌, subst, arith, inl, inr, ◌⊎◌}
+use Rattle.std.specs.Prelude.{Contains, IfSome}
 use Rattle.std.specs.List.{list_any, list_all}
 use Rattle.std.proofs.lemmas.List.Elements.{Contains-append_cases}
 use Rattle.golog_tree.specs.declared.agent.Agent.{Agent}
@@ -13,7 +13,10 @@ use Rattle.golog_semantics.specs.Online.{is_whole}
 use Rattle.golog_semantics.specs.Inline.{lead, rounds, inline_journal, Scripted}
 use Rattle.golog_semantics.specs.InlineText.{inline_report, report_of, new_scripted}
 use Rattle.golog_semantics.specs.Dealt.{Script}
-use Rattle.golog_semantics.specs.Text.{Text, at_each, report_text}
+use Rattle.golog_semantics.specs.InSorts.{AreInSorts}
+use Rattle.golog_semantics.specs.Restart.{started}
+use Rattle.golog_semantics.specs.Text.{Text, at_each, head_text, report_text}
+use Rattle.golog_semantics.specs.Truth.{Values}
 use Rattle.golog_semantics.specs.WellFormed.{WellFormed}
 use Rattle.golog_semantics.specs.Execution.{status_of}
 use Rattle.golog_semantics.proofs.Tests.{and_cases, or_first, or_second}
@@ -22,12 +25,15 @@ use Rattle.golog_certain.proofs.JournalSo.{journal_so}
 use Rattle.golog_journal.specs.Boards.{AgentJournal, IsBoardList, is_lawful}
 use Rattle.golog_journal.proofs.Lawful.{lawful-parts}
 use Rattle.golog_device.specs.Slots.{Standing}
+use Rattle.golog_script.specs.declared.scripts.Script.{Script as Named}
 use Rattle.golog_lead.specs.Rounds.{FollowsRounds}
 use Rattle.golog_lead.specs.Short.{IsShort}
 use Rattle.golog_lead.proofs.WrittenLines.{at_each-append}
 use Rattle.golog_commands.specs.Demos.{is_short}
-use Rattle.golog_commands.specs.Runs.{AllTellLeft, AreTextsOf, FollowsScripts, HasBegun, HasBegunWith, IsCutShort, IsReportOf, IsRunOf}
+use Rattle.golog_commands.specs.Inputs.{scripts_for}
+use Rattle.golog_commands.specs.Runs.{AllTellLeft, AreTextsOf, FollowsScripts, HasBegun, HasBegunWith, IsCutShort, IsReportOf, IsRunOf, head_of}
 use Rattle.golog_commands.proofs.Inlined.{all-the-way, cut-short}
+use Rattle.golog_commands.proofs.FromStarts.{from-start, same-text}
 
 -- ---- the end
 
@@ -71,43 +77,74 @@ module _ (agent : Agent) where
       by (inl c) = let no : false ≡ true = sym (unended before closings a lawful) ∙ any-contains is_end before (End b) c refl in absurd (cc)
       by (inr c) = behind c
 
-  inline-is : (scripts : List Scripted) → (rounds agent (lead agent) 3000000 (record { journal = []; devices = scripts })).journal ≡ inline_journal agent scripts
+  pub inline-is : (scripts : List Scripted) → (rounds agent (lead agent) 3000000 (record { journal = []; devices = scripts })).journal ≡ inline_journal agent scripts
   unfolding inline_journal
   inline-is scripts = refl
 
+-- What is written behind the head of a journal with this start.
+module _ (own : Agent) (start : Option Values) where
+  abbrev again : Agent
+  again = started own start
+
   follows : (scripts : List Script) (journal : Journal) (text : Text) (answer : Answer)
-      → IsBoardList agent journal → Contains journal (End answer) → text ≡ report_text agent (report_of agent journal)
-      → FollowsRounds (lead agent) IsShort agent scripts [] journal → FollowsScripts agent scripts text (status_of answer)
+      → IsBoardList again journal → Contains journal (End answer) → text ≡ head_of own start ++ report_text again (report_of again journal)
+      → FollowsRounds (lead again) IsShort again scripts [] journal → FollowsScripts own start scripts text (status_of answer)
   follows scripts journal text answer lawful ends is (inl whole) =
-      inl (all-the-way agent scripts journal text (status_of answer) (whole ∙ inline-is (map new_scripted scripts)) is (record { answer = answer; stands = ends; shown = refl }))
+      inl (all-the-way own start scripts journal text (status_of answer) (whole ∙ inline-is again (map new_scripted scripts)) is (record { answer = answer; stands = ends; shown = refl }))
   follows scripts journal text answer lawful ends is (inr (before, later, closings, a, short, whole, closes, cut)) =
       let same : answer ≡ a =
-      only-end before closings a answer (subst (IsBoardList agent) cut lawful) closes (subst (λ j. Contains j (End answer)) cut ends) in
+      only-end again before closings a answer (subst (IsBoardList again) cut lawful) closes (subst (λ j. Contains j (End answer)) cut ends) in
       inr
-      (subst (λ b. IsCutShort agent scripts text (status_of b)) (sym same)
-      (cut-short agent scripts before later closings text a (sym (inline-is (map new_scripted scripts)) ∙ whole) short
-      (is ∙ ap (λ j. report_text agent (report_of agent j)) cut)))
+      (subst (λ b. IsCutShort own start scripts text (status_of b)) (sym same)
+      (cut-short own start scripts before later closings text a (sym (inline-is again (map new_scripted scripts)) ∙ whole) short
+      (is ∙ ap (λ j. head_of own start ++ report_text again (report_of again j)) cut)))
 
   -- what a report comes to that is written
   pub run-of : (scripts : List Script) (inline : Bool) (olds news : List Standing) (report : Report) (text : Text) (answer : Answer)
-      → WellFormed agent → IsReportOf agent scripts inline olds news report → text ≡ report_text agent report → Contains report.entries (End answer)
-      → IsRunOf agent scripts inline olds news text (status_of answer)
-  run-of scripts inline olds news report text answer formed of_journal is ends =
+      → WellFormed again → IfSome start (AreInSorts own) → IsReportOf again scripts inline olds news report
+      → text ≡ head_of own start ++ report_text again report → Contains report.entries (End answer)
+      → IsRunOf own start scripts inline olds news text (status_of answer)
+  run-of scripts inline olds news report text answer formed sorts of_journal is ends =
       let journal = of_journal.journal in
-      let text_is : text ≡ report_text agent (report_of agent journal) = is ∙ ap (report_text agent) of_journal.is in
+      let plain = report_of again journal in
+      let text_is : text ≡ head_of own start ++ report_text again plain =
+      is ∙ ap (λ r. head_of own start ++ report_text again r) of_journal.is in
       let there : Contains journal (End answer) = subst (λ (r : Report). Contains r.entries (End answer)) of_journal.is ends in
       record {
         online = record {
-          report = report_of agent journal;
+          report = record plain { start = start };
           begun = refl;
-          spelled = record { fits = of_journal.fits; text = text_is };
-          online = of_journal.online;
+          spelled = record {
+            fits = from-start own start plain sorts of_journal.fits;
+            text = text_is ∙ ap (λ t. head_of own start ++ t) (sym (same-text again start plain));
+          };
+          online = record { entries = of_journal.online.entries; whole = of_journal.online.whole };
           ended = record { answer = answer; stands = there; shown = refl };
         };
-        so = journal_so agent formed (report_of agent journal) (record { entries = of_journal.online.entries });
+        so = journal_so again formed plain (record { entries = of_journal.online.entries });
         dealt = of_journal.dealt;
         scripted = λ rounds tell. follows scripts journal text answer of_journal.lawful there text_is (of_journal.scripted rounds tell);
       }
+
+-- so it is of the agent that was restarted, whose scripts and head are those of the agent
+restarted-run : (own : Agent) (start : Option Values) (listed : List Named) (inline : Bool) (olds news : List Standing) (report : Report) (text : Text) (answer : Answer)
+    → WellFormed (started own start) → IfSome start (AreInSorts own) → IsReportOf (started own start) (scripts_for (started own start) listed) inline olds news report
+    → text ≡ head_of (started own start) start ++ report_text (started own start) report → Contains report.entries (End answer)
+    → IsRunOf own start (scripts_for own listed) inline olds news text (status_of answer)
+unfolding head_text
+restarted-run own None listed inline olds news report text answer formed sorts of_journal is ends =
+    run-of own None (scripts_for own listed) inline olds news report text answer formed sorts of_journal is ends
+restarted-run own (Some values) listed inline olds news report text answer formed sorts of_journal is ends =
+    run-of own (Some values) (scripts_for own listed) inline olds news report text answer formed sorts of_journal is ends
+
+pub ready-run : (own agent : Agent) (start : Option Values) → agent ≡ started own start → (listed : List Named) (inline : Bool) (olds news : List Standing) (report : Report)
+    (text : Text) (answer : Answer) → WellFormed agent → IfSome start (AreInSorts own) → IsReportOf agent (scripts_for agent listed) inline olds news report
+    → text ≡ head_of agent start ++ report_text agent report → Contains report.entries (End answer)
+    → IsRunOf own start (scripts_for own listed) inline olds news text (status_of answer)
+ready-run own agent start same listed inline olds news report text answer formed sorts of_journal is ends =
+    restarted-run own start listed inline olds news report text answer (subst WellFormed same formed) sorts
+    (subst (λ a. IsReportOf a (scripts_for a listed) inline olds news report) same of_journal)
+    (is ∙ ap (λ a. head_of a start ++ report_text a report) same) ends
 
 -- a whole journal has ended
 pub whole-ended : (agent : Agent) (journal : Journal) → is_whole agent journal ≡ true → has_end journal ≡ true

@@ -1,23 +1,29 @@
 -- From what the parts of a call write of what they come to, to how the call ends.
-use Rattle.std.proofs.Common.{◌≡◌, ℕ, Bool, true, false, List, Result, Ok, Err, IfOk, Option, Some, None, IsSome, inl, inr, refl, sym, ap, ◌∙◌, subst, arith, ◌<◌}
-use Rattle.std.specs.Prelude.{OnErr}
-use Rattle.golog_semantics.specs.Text.{Text, report_text}
+use Rattle.std.proofs.Common.{◌≡◌, ℕ, Bool, true, false, List, Result, Ok, Err, IfOk, Option, Some, None, IsSome, ◌⊎◌, inl, inr, ◌++◌, refl, sym, ap, ◌∙◌, subst, arith, ◌<◌}
+use Rattle.std.specs.Prelude.{IfSome, OnErr}
+use Rattle.golog_base.specs.Known.{and_then_bytes}
+use Rattle.golog_tree.specs.declared.agent.Agent.{Agent}
+use Rattle.golog_semantics.specs.InSorts.{AreInSorts}
+use Rattle.golog_semantics.specs.Restart.{started}
+use Rattle.golog_semantics.specs.Text.{Text, head_text, report_text}
+use Rattle.golog_semantics.specs.Truth.{Values}
 use Rattle.golog_device.specs.Slots.{Standing}
-use Rattle.golog_words.specs.Commands.{CommandLine, run, check, replay, ask, demo}
+use Rattle.golog_words.specs.Commands.{CommandLine, run, check, replay, ask, migrate, demo}
 use Rattle.golog_commands.specs.declared.outcome.Outcome.{Outcome}
 use Rattle.golog_commands.specs.declared.outcome.Outcome.TheVariants.{WordsRefused, Ran}
 use Rattle.golog_commands.specs.declared.ready.Ready.{Ready}
 use Rattle.golog_commands.specs.declared.ready.Unready.{Unready}
 use Rattle.golog_commands.specs.declared.ready.Unready.TheVariants.{Ended, Memory}
 use Rattle.golog_commands.specs.Demos.{Demonstrates}
-use Rattle.golog_commands.specs.Inputs.{scripts_for}
-use Rattle.golog_commands.specs.Outcome.{CallEnds, HoldsRun, IfEnded, IsUntouched, Never, OfAgent, OfScripts, Outside, IsReported, LeavesDevices, Reports, outcome_status, outcome_text, uses_devices}
+use Rattle.golog_commands.specs.Inputs.{ReadsAgent, ReadsStart, scripts_for}
+use Rattle.golog_commands.specs.Outcome.{CallEnds, AddsHead, HoldsRun, IfEnded, IsUntouched, LeavesText, Never, OfAgent, OfFrom, OfScripts, Outside, IsReported, LeavesDevices, Reports, outcome_status, outcome_text, uses_devices}
 use Rattle.golog_commands.proofs.Begun.{none-served}
 use Rattle.golog_commands.proofs.Causes.{IsCaused}
-use Rattle.golog_commands.specs.Runs.{IsReportOf}
-use Rattle.golog_commands.specs.Writing.{IfReported, ReportsUnready, WritesNothing, WritesReport}
+use Rattle.golog_commands.specs.Runs.{IsReportOf, head_of}
+use Rattle.golog_commands.specs.Writing.{IfReported, ReportsUnready, WritesHead, WritesNothing, WritesReport}
 use Rattle.golog_commands.proofs.OutcomeLemmas.{never-comes, run-comes}
-use Rattle.golog_commands.proofs.Reported.{run-of}
+use Rattle.golog_commands.proofs.Reported.{ready-run}
+use Rattle.golog_lead.proofs.Writing.{and_then-none}
 
 -- devices that had no part
 untouched : {E : Type 0} (olds news : List Standing) (r : Result Outcome E) → news ≡ olds → IfOk r (IsUntouched olds news)
@@ -71,15 +77,15 @@ module _ (before after : Outside) where
 
   -- ---- a run
 
-  module _ (name : Text) (named : Option Text) (inline : Bool) where
+  module _ (name : Text) (named : Option Text) (inline : Bool) (from : Option Text) where
     -- why its files hold none
     pub unready-reported : {F : Type 0} (fault : Unready) (s : Result ℕ F)
-        → IfEnded fault (OfAgent before.held before.file_faults after.file_faults name (λ a. OfScripts before.held before.file_faults after.file_faults a named Never))
+        → IfEnded fault (OfAgent before.held before.file_faults after.file_faults name (λ a. OfScripts before.held before.file_faults after.file_faults a named (λ listed. OfFrom before.held before.file_faults after.file_faults a from Never)))
         → after.devices ≡ before.devices → ReportsUnready fault s before.taken after.taken before.sink_faults after.sink_faults
-        → IfOk s (λ status. IsReported status (Some (run name named inline)) before after)
+        → IfOk s (λ status. IsReported status (Some (run name named inline from)) before after)
     unready-reported (Ended outcome) (Ok status) ended same reports = record {
       outcome = outcome;
-      cause = never-comes before.held before.file_faults after.file_faults before.devices after.devices name named inline outcome ended;
+      cause = never-comes before.held before.file_faults after.file_faults before.devices after.devices name named inline from outcome ended;
       untouched = λ none. same;
       report = reports;
     }
@@ -87,28 +93,62 @@ module _ (before after : Outside) where
     unready-reported Memory (Ok status) ended same reports = absurd reports
     unready-reported Memory (Err f) ended same reports = tt
 
-    module _ (ready : Ready) (has : HoldsRun before.held name named ready) where
+    module _ (ready : Ready) (has : HoldsRun before.held name named from ready) where
       abbrev Reports-it : ℕ → Type 0
       Reports-it =
-          WritesReport (IsReportOf ready.agent (scripts_for ready.agent ready.scripts) inline before.devices after.devices) ready.agent
+          WritesReport (IsReportOf ready.agent (scripts_for ready.agent ready.scripts) inline before.devices after.devices) ready.agent (head_of ready.agent ready.start)
           before.taken after.taken before.sink_faults after.sink_faults
 
-      run-reported : (status : ℕ) → Reports-it status → IsReported status (Some (run name named inline)) before after
+      run-reported : (status : ℕ) → Reports-it status → IsReported status (Some (run name named inline from)) before after
       run-reported status writes =
-          let text = report_text ready.agent writes.report in
-          let ran = run-of ready.agent (scripts_for ready.agent ready.scripts) inline before.devices after.devices writes.report text writes.answer has.formed writes.so refl writes.ended in
+          let text = head_of ready.agent ready.start ++ report_text ready.agent writes.report in
+          let ran =
+          ready-run has.own ready.agent ready.start has.is ready.scripts inline before.devices after.devices writes.report text writes.answer has.formed has.sorts writes.so refl
+          writes.ended in
           record {
             outcome = Ran text writes.answer;
             cause =
-                run-comes before.held before.file_faults after.file_faults before.devices after.devices name named inline ready has (Ran text writes.answer) ran;
+                run-comes before.held before.file_faults after.file_faults before.devices after.devices name named inline from ready has (Ran text writes.answer) ran;
             untouched = λ none. let no : true ≡ false = none in absurd (cc);
             report = writes.written;
           }
 
       -- the run of what they hold
-      pub runs-reported : {E : Type 0} (r : Result ℕ E) → IfOk r Reports-it → IfOk r (λ status. IsReported status (Some (run name named inline)) before after)
+      pub runs-reported : {E : Type 0} (r : Result ℕ E) → IfOk r Reports-it → IfOk r (λ status. IsReported status (Some (run name named inline from)) before after)
       runs-reported (Ok status) writes = run-reported status writes
       runs-reported (Err e) writes = tt
+
+      -- of which the head alone was written
+      head-left : (own : Agent) (start : Option Values) → ReadsStart before.held own from start → IfSome start (AreInSorts own) → ReadsAgent before.held name own
+          → after.taken ≡ and_then_bytes before.taken (head_of own start)
+          → (after.taken ≡ before.taken) ⊎ AddsHead name from before after
+      head-left own None left sorts reads added = inl (added ∙ and_then-none before.taken)
+      head-left own (Some values) left sorts reads added =
+          inr (record { agent = own; reads = reads; values = values; left = left; sorts = sorts; added = added })
+
+      -- the head of the agent that was restarted is that of the agent
+      own-head : (own : Agent) (start : Option Values) → head_of (started own start) start ≡ head_of own start
+      unfolding head_text
+      own-head own None = refl
+      own-head own (Some values) = refl
+
+      none-or-head : (after.taken ≡ before.taken) ⊎ (after.taken ≡ and_then_bytes before.taken (head_of ready.agent ready.start))
+          → (after.taken ≡ before.taken) ⊎ AddsHead name from before after
+      none-or-head (inl same) = inl same
+      none-or-head (inr added) =
+          head-left has.own ready.start has.start_so has.sorts has.agent_so
+          (added ∙ ap (and_then_bytes before.taken) (ap (λ a. head_of a ready.start) has.is ∙ own-head has.own ready.start))
+
+      -- what is left of a run over threads for which memory was wanting
+      pub left-written : {E : Type 0} (r : Result ℕ E) → inline ≡ false
+          → OnErr r (WritesHead (head_of ready.agent ready.start) before.taken after.taken before.sink_faults after.sink_faults)
+          → OnErr r (LeavesText (Some (run name named inline from)) before after)
+      left-written (Ok status) over_threads writes = tt
+      left-written (Err e) over_threads writes = threads (none-or-head writes.0)
+        where
+          threads : (after.taken ≡ before.taken) ⊎ AddsHead name from before after → (after.taken ≡ before.taken) ⊎ ((inline ≡ false) × AddsHead name from before after)
+          threads (inl same) = inl same
+          threads (inr head) = inr (over_threads, head)
 
 -- ---- a call
 
@@ -120,19 +160,43 @@ on-err (Err e) P so = so
 -- devices to which nothing was done
 pub left-alone : (spelled : Option CommandLine) (standings : List Standing) → LeavesDevices spelled standings standings
 left-alone None standings = tt
-left-alone (Some (run name named inline)) standings = none-served standings
+left-alone (Some (run name named inline from)) standings = none-served standings
 left-alone (Some (check name)) standings = refl
 left-alone (Some (replay name journal)) standings = refl
 left-alone (Some (ask name journal condition)) standings = refl
+left-alone (Some (migrate name journal)) standings = refl
 left-alone (Some (demo size)) standings = tt
+
+-- nothing that was written
+pub none-written : (spelled : Option CommandLine) (before after : Outside) → after.taken ≡ before.taken → LeavesText spelled before after
+none-written None before after same = same
+none-written (Some (run name named inline from)) before after same = inl same
+none-written (Some (check name)) before after same = same
+none-written (Some (replay name journal)) before after same = same
+none-written (Some (ask name journal condition)) before after same = same
+none-written (Some (migrate name journal)) before after same = same
+none-written (Some (demo size)) before after same = same
+
+pub nothing-left : {E : Type 0} (spelled : Option CommandLine) (before after : Outside) (r : Result ℕ E)
+    → OnErr r (WritesNothing before.taken after.taken before.sink_faults after.sink_faults) → OnErr r (LeavesText spelled before after)
+nothing-left spelled before after (Ok status) nothing = tt
+nothing-left spelled before after (Err e) nothing = none-written spelled before after nothing.0
+
+pub no-more-faults : {E : Type 0} (old new : Option Text) (before after : ℕ) (r : Result ℕ E) → OnErr r (WritesNothing old new before after) → OnErr r (after ≡ before)
+no-more-faults old new before after (Ok status) nothing = tt
+no-more-faults old new before after (Err e) nothing = nothing.1
+
+pub head-no-faults : {E : Type 0} (head : Text) (old new : Option Text) (before after : ℕ) (r : Result ℕ E) → OnErr r (WritesHead head old new before after) → OnErr r (after ≡ before)
+head-no-faults head old new before after (Ok status) writes = tt
+head-no-faults head old new before after (Err e) writes = writes.1
 
 -- what a call comes to that has answered, or lacked memory
 pub call-ends : {E : Type 0} (spelled : Option CommandLine) (before after : Outside) (r : Result ℕ E) (status : ℕ) → IfOk r (λ answer. IsReported answer spelled before after)
-    → OnErr r (IsSome spelled) → OnErr r (WritesNothing before.taken after.taken before.sink_faults after.sink_faults)
+    → OnErr r (IsSome spelled) → OnErr r (LeavesText spelled before after) → OnErr r (after.sink_faults ≡ before.sink_faults)
     → OnErr r (LeavesDevices spelled before.devices after.devices) → IfOk r (λ answer. status ≡ answer) → OnErr r (status ≡ 6) → CallEnds status spelled before after
-call-ends spelled before after (Ok answer) status reported command nothing left is six = inl (subst (λ s. IsReported s spelled before after) (sym is) reported)
-call-ends spelled before after (Err e) status reported command nothing left is six =
-    inr (record { answered = six; command = command; nothing = nothing.0; no_fault = nothing.1; devices = left })
+call-ends spelled before after (Ok answer) status reported command nothing still left is six = inl (subst (λ s. IsReported s spelled before after) (sym is) reported)
+call-ends spelled before after (Err e) status reported command nothing still left is six =
+    inr (record { answered = six; command = command; nothing = nothing; no_fault = still; devices = left })
 
 -- a count of faults of the sink that rose in a call gives 5
 pub fault-first : (status : ℕ) (spelled : Option CommandLine) (before after : Outside) → CallEnds status spelled before after

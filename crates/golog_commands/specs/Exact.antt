@@ -11,8 +11,8 @@ use Rattle.golog_semantics.specs.declared.journal.Answer.{Answer}
 use Rattle.golog_semantics.specs.declared.journal.Answer.TheVariants.{Memory}
 use Rattle.golog_semantics.specs.declared.journal.Why.{Why}
 use Rattle.golog_semantics.specs.Text.{Text}
-use Rattle.golog_semantics.specs.Progress.{values_after}
-use Rattle.golog_semantics.specs.Truth.{env_of, truth_of}
+use Rattle.golog_semantics.specs.Restart.{journal_text, migrated, started, values_left}
+use Rattle.golog_semantics.specs.Truth.{Values}
 use Rattle.golog_script.specs.declared.scripts.Script.{Script}
 use Rattle.golog_file.specs.Spelled.{SpellsAgent, IsFirstRefusal}
 use Rattle.golog_file.specs.Conditions.{SpellsCond, RefusesCond}
@@ -21,7 +21,7 @@ use Rattle.golog_check_text.specs.Counts.{check_text}
 use Rattle.golog_semantics.specs.Verdicts.{VerdictIs}
 use Rattle.golog_semantics.specs.declared.journal.Verdict.{Verdict}
 use Rattle.golog_semantics.specs.declared.journal.Verdict.TheVariants.{Not}
-use Rattle.golog_words.specs.Commands.{CommandLine, run, check, replay, ask, demo}
+use Rattle.golog_words.specs.Commands.{CommandLine, run, check, replay, ask, migrate, demo}
 use Rattle.golog_commands.specs.declared.outcome.Input.{Input}
 use Rattle.golog_commands.specs.declared.outcome.Outcome.{Outcome}
 use Rattle.golog_commands.specs.declared.outcome.Outcome.TheVariants.{ReadFault, Refused, Ran, Judged, Demonstrated}
@@ -29,7 +29,7 @@ use Rattle.golog_commands.specs.declared.ready.Told.{Told}
 use Rattle.golog_commands.specs.Inputs.{SpellsScripts, RefusesScripts, SpellsJournal, RefusesJournal, SpellsBoth, scripts_for}
 use Rattle.golog_commands.specs.Demos.{Demonstrates}
 use Rattle.golog_commands.specs.Runs.{IsRunOf}
-use Rattle.golog_commands.specs.Outcome.{Outside, Comes, CallEnds, outcome_status, outcome_text, truth_line, verdict_line, verdict_status}
+use Rattle.golog_commands.specs.Outcome.{Outside, Comes, CallEnds, LeavesText, outcome_status, outcome_text, truth_after, truth_line, verdict_line, verdict_status}
 
 -- the text was written whole
 abbrev pub Writes : Outside → Outside → Text → Type 0
@@ -50,12 +50,13 @@ pub record Shows (status : ℕ) (spelled : Option CommandLine) (before after : O
   pub written : Writes before after (outcome_text outcome)
 
 -- the words are those of a run, and this is so of it
-abbrev pub IfRun : Option CommandLine → (Text → Option Text → Bool → Type 0) → Type 0
+abbrev pub IfRun : Option CommandLine → (Text → Option Text → Bool → Option Text → Type 0) → Type 0
 IfRun None P = ⊥
-IfRun (Some (run agent devices inline)) P = P agent devices inline
+IfRun (Some (run agent devices inline from)) P = P agent devices inline from
 IfRun (Some (check agent)) P = ⊤
 IfRun (Some (replay agent journal)) P = ⊤
 IfRun (Some (ask agent journal condition)) P = ⊤
+IfRun (Some (migrate agent journal)) P = ⊤
 IfRun (Some (demo size)) P = ⊤
 
 -- the status of a run that was not stopped for want of memory
@@ -68,7 +69,7 @@ pub record SaysItsCause (status : ℕ) (spelled : Option CommandLine) (before af
   pub refused : status ≡ 3 → (input : Input) × (text : Text) × Shows status spelled before after (Refused input text)
   pub read_fault : status ≡ 4 → (input : Input) × Shows status spelled before after (ReadFault input)
   pub write_fault : status ≡ 5 → Rose before.sink_faults after.sink_faults
-  pub starved : status ≡ 6 → IsSome spelled × ((after.taken ≡ before.taken)
+  pub starved : status ≡ 6 → IsSome spelled × (LeavesText spelled before after
       ⊎ ((text : Text) × Shows status spelled before after (Ran text Memory)))
   pub ran : (10 ≤ status) × (status ≤ 16)
       → (text : Text) × (answer : Answer) × Shows status spelled before after (Ran text answer)
@@ -129,11 +130,18 @@ module _ (status : ℕ) (before after : Outside) where
   abbrev pub JournalFollows : Agent → Text → (Told → Type 0) → Type 0
   JournalFollows agent = FileFollows (RefusesJournal agent) (SpellsJournal agent)
 
-  -- the text is of a run of the agent and these scripts, and the status that of its end; or the call was stopped
-  abbrev pub RunFollows : Agent → List Script → Bool → Type 0
-  RunFollows agent listed inline =
+  -- a run without a journal file begins from no other values than the agent's
+  abbrev pub FromFollows : Agent → Option Text → (Option Values → Type 0) → Type 0
+  FromFollows agent None Next = Next None
+  FromFollows agent (Some name) Next =
+      JournalFollows agent name (λ told. Next (Some (values_left agent told.report)))
+
+  -- the text is of a run of the agent from this start with these scripts, and the status that of its end; or the
+  -- call was stopped
+  abbrev pub RunFollows : Agent → Option Values → List Script → Bool → Type 0
+  RunFollows agent start listed inline =
       Wrote before after
-      (λ text. IsRunOf agent (scripts_for agent listed) inline before.devices after.devices text status)
+      (λ text. IsRunOf agent start (scripts_for agent listed) inline before.devices after.devices text status)
       ⊎ IsStopped status before after
 
   -- the text is that of a demo of this size; or the call was stopped
@@ -146,25 +154,27 @@ module _ (status : ℕ) (before after : Outside) where
   -- what a replay of the journal finds is told, by its status and its line; or the call was stopped
   abbrev pub JudgedFollows : Agent → Told → Type 0
   JudgedFollows agent told =
-      (verdict : Verdict) → VerdictIs agent told.bytes told.report verdict
+      (verdict : Verdict) → VerdictIs (started agent told.report.start) told.bytes told.report verdict
       → Says status (verdict_status verdict) (verdict_line verdict) before after
 
   abbrev pub TruthFollows : Agent → Told → Cond → Type 0
-  TruthFollows agent told cond =
-      Says status 0 (truth_line (truth_of agent (values_after agent told.report.entries) cond (env_of [])))
-      before after
+  TruthFollows agent told cond = Says status 0 (truth_line (truth_after agent told cond)) before after
 
   -- what words come to that are no command, and what each input of a command does
   abbrev pub FollowsItsCause : Option CommandLine → Type 0
   FollowsItsCause None = Answers status 2 before after
-  FollowsItsCause (Some (run agent devices inline)) =
-      AgentFollows agent (λ a. ScriptsFollow a devices (λ listed. RunFollows a listed inline))
+  FollowsItsCause (Some (run agent devices inline from)) =
+      AgentFollows agent (λ a. ScriptsFollow a devices (λ listed. FromFollows a from (λ start.
+      RunFollows a start listed inline)))
   FollowsItsCause (Some (check agent)) = AgentFollows agent (λ a. Says status 0 (check_text a) before after)
   FollowsItsCause (Some (replay agent journal)) =
       AgentFollows agent (λ a. JournalFollows a journal (λ told. JudgedFollows a told))
   FollowsItsCause (Some (ask agent journal condition)) =
       BothFollow agent (λ u. JournalFollows u.agent journal (λ told.
       CondFollows u.theory u.agent condition (λ cond. TruthFollows u.agent told cond)))
+  FollowsItsCause (Some (migrate agent journal)) =
+      AgentFollows agent (λ a. JournalFollows a journal (λ told.
+      Says status 0 (journal_text a (migrated a told.report)) before after))
   FollowsItsCause (Some (demo size)) = DemoFollows size
 
 abbrev pub StatusesAreExact : Type 0

@@ -9,6 +9,8 @@ use Rattle.golog_tree.specs.declared.agent.Agent.{Agent}
 use Rattle.golog_semantics.specs.Text.{Text}
 use Rattle.golog_semantics.specs.Same.{same_values}
 use Rattle.golog_semantics.specs.Dealt.{Script}
+use Rattle.golog_semantics.specs.Restart.{values_left}
+use Rattle.golog_semantics.specs.Truth.{Values}
 use Rattle.golog_script.specs.declared.scripts.Script.{Script as Named}
 use Rattle.golog_script.specs.DevicesFile.{scripts_of}
 use Rattle.golog_script.specs.ScriptTexts.{script_of_named}
@@ -65,6 +67,12 @@ pub data RefusesJournal (agent : Agent) (bytes : Text) : ℕ → ℕ → Type 0 
   of_line : (code at : ℕ) → length bytes ≤ journal_limit → (journal_of agent bytes).outcome ≡ Err (code, at)
       → first (journal_of agent bytes).rows ≡ Some (code, at) → RefusesJournal agent bytes code at
 
+-- the bytes of a journal file say a report that leaves these values to the next run
+pub record LeavesValues (agent : Agent) (bytes : Text) (values : Values) : Type 0 where
+  pub told : Told
+  pub spells : SpellsJournal agent bytes told
+  pub left : values ≡ values_left agent told.report
+
 -- ---- files
 
 -- the file has bytes of which this is so; they are the bytes held, where files tell them
@@ -85,6 +93,12 @@ SpellsBoth bytes understood = SpellsWith bytes understood.theory understood.agen
 abbrev pub ReadsScripts : Option (List HeldFile) → Agent → Option Text → List Named → Type 0
 ReadsScripts held agent None listed = listed ≡ []
 ReadsScripts held agent (Some name) listed = Reads held name (λ bytes. SpellsScripts agent bytes listed)
+
+-- a run begins from the values that the journal file leaves; without a journal file it begins from none but the agent's
+abbrev pub ReadsStart : Option (List HeldFile) → Agent → Option Text → Option Values → Type 0
+ReadsStart held agent None start = start ≡ None
+ReadsStart held agent (Some name) start =
+    (values : Values) × Reads held name (λ bytes. LeavesValues agent bytes values) × (start ≡ Some values)
 
 -- ---- refusals and faults
 

@@ -1,5 +1,5 @@
 -- What a call of the program comes to: each outcome with its cause, its text and its status.
-use Rattle.std.specs.Prelude.{◌≡◌, ◌⊎◌, ℕ, ◌<◌, Bool, true, false, not, ⊤, List, [], ◌++◌, All, Option, None, Some, IsSome, codes, decimal, length}
+use Rattle.std.specs.Prelude.{◌≡◌, ◌⊎◌, ℕ, ◌<◌, Bool, true, false, not, ⊤, List, [], ◌++◌, All, Option, None, Some, IsSome, IfSome, codes, decimal, length}
 use Rattle.golog_base.specs.Faults.{Rose}
 use Rattle.golog_base.specs.Known.{and_then_bytes, AddsPrefix}
 use Rattle.golog_base.specs.declared.mem_files.HeldFile.{HeldFile}
@@ -8,11 +8,13 @@ use Rattle.golog_tree.specs.declared.cond.Cond.{Cond}
 use Rattle.golog_tree.specs.declared.cond.Truth.{Truth}
 use Rattle.golog_tree.specs.declared.cond.Truth.TheVariants.{Yes, No, Unknown}
 use Rattle.golog_tree.specs.declared.draft.DraftTheory.{DraftTheory}
-use Rattle.golog_semantics.specs.Text.{Text, answer_text}
+use Rattle.golog_semantics.specs.InSorts.{AreInSorts}
+use Rattle.golog_semantics.specs.Restart.{journal_text, migrated, started, values_left}
+use Rattle.golog_semantics.specs.Text.{Text, answer_text, head_text}
 use Rattle.golog_semantics.specs.Verdicts.{why_text, VerdictIs}
 use Rattle.golog_semantics.specs.Execution.{status_of as answer_status}
 use Rattle.golog_semantics.specs.Progress.{values_after}
-use Rattle.golog_semantics.specs.Truth.{env_of, truth_of}
+use Rattle.golog_semantics.specs.Truth.{Values, env_of, truth_of}
 use Rattle.golog_semantics.specs.WellFormed.{WellFormed}
 use Rattle.golog_semantics.specs.Dealt.{Meaning}
 use Rattle.golog_device.specs.Slots.{Standing, standings}
@@ -24,16 +26,16 @@ use Rattle.golog_file.specs.declared.reading.Understood.{Understood}
 use Rattle.golog_check_text.specs.Counts.{check_text}
 use Rattle.golog_semantics.specs.declared.journal.Verdict.{Verdict}
 use Rattle.golog_semantics.specs.declared.journal.Verdict.TheVariants.{Online, Not}
-use Rattle.golog_words.specs.Commands.{CommandLine, run, check, replay, ask, demo}
+use Rattle.golog_words.specs.Commands.{CommandLine, run, check, replay, ask, migrate, demo}
 use Rattle.golog_commands.specs.declared.outcome.Input.{Input}
 use Rattle.golog_commands.specs.declared.outcome.Input.TheVariants.{Agent as AgentFile, Devices as DevicesFile, Journal as JournalFile, Condition}
 use Rattle.golog_commands.specs.declared.outcome.Outcome.{Outcome}
-use Rattle.golog_commands.specs.declared.outcome.Outcome.TheVariants.{WordsRefused, ReadFault, Refused, Ran, Checked, Judged, Asked, Demonstrated}
+use Rattle.golog_commands.specs.declared.outcome.Outcome.TheVariants.{WordsRefused, ReadFault, Refused, Ran, Checked, Judged, Asked, Migrated, Demonstrated}
 use Rattle.golog_commands.specs.declared.ready.Ready.{Ready}
 use Rattle.golog_commands.specs.declared.ready.Told.{Told}
 use Rattle.golog_commands.specs.declared.ready.Unready.{Unready}
 use Rattle.golog_commands.specs.declared.ready.Unready.TheVariants.{Ended, Memory}
-use Rattle.golog_commands.specs.Inputs.{line, fault_text, input_limit, scripts_for, SpellsScripts, RefusesScripts, SpellsJournal, RefusesJournal, SpellsBoth, ReadsAgent, ReadsScripts, Reads, Tells, IsUnread}
+use Rattle.golog_commands.specs.Inputs.{line, fault_text, input_limit, scripts_for, SpellsScripts, RefusesScripts, SpellsJournal, RefusesJournal, SpellsBoth, ReadsAgent, ReadsScripts, ReadsStart, Reads, Tells, IsUnread}
 use Rattle.golog_commands.specs.Demos.{Demonstrates}
 use Rattle.golog_commands.specs.Runs.{AreUnserved, IsRunOf}
 
@@ -63,6 +65,7 @@ outcome_text (Ran text answer) = text
 outcome_text (Checked text) = text
 outcome_text (Judged verdict text) = text
 outcome_text (Asked truth) = truth_line truth
+outcome_text (Migrated text) = text
 outcome_text (Demonstrated text) = text
 
 abbrev pub outcome_status : Outcome → ℕ
@@ -73,6 +76,7 @@ outcome_status (Ran text answer) = answer_status answer
 outcome_status (Checked text) = 0
 outcome_status (Judged verdict text) = verdict_status verdict
 outcome_status (Asked truth) = 0
+outcome_status (Migrated text) = 0
 outcome_status (Demonstrated text) = 0
 
 -- ---- the causes
@@ -85,23 +89,31 @@ pub data ComesOf {A : Type 0} (input : Input) (Unread : Type 0) (Refuses : Text 
       → ComesOf input Unread Refuses Holds Next outcome
   holds : (x : A) → Holds x → Next x outcome → ComesOf input Unread Refuses Holds Next outcome
 
--- what a run of the agent with these scripts comes to: its text is that of an online execution
-abbrev pub RunOf : Agent → List Script → Bool → List Standing → List Standing → Outcome → Type 0
-RunOf agent listed inline olds news (Ran text answer) =
-    IsRunOf agent (scripts_for agent listed) inline olds news text (answer_status answer)
-RunOf agent listed inline olds news outcome = ⊥
+-- what a run of the agent from this start with these scripts comes to: its text is that of an online execution
+abbrev pub RunOf : Agent → Option Values → List Script → Bool → List Standing → List Standing → Outcome → Type 0
+RunOf agent start listed inline olds news (Ran text answer) =
+    IsRunOf agent start (scripts_for agent listed) inline olds news text (answer_status answer)
+RunOf agent start listed inline olds news outcome = ⊥
 
--- what a replay of a journal that was read finds, and its line
+-- what a replay of a journal that was read finds, from the journal's own start where it has one, and its line
 pub record Judges (agent : Agent) (told : Told) (outcome : Outcome) : Type 0 where
   pub formed : WellFormed agent
   pub verdict : Verdict
-  pub so : VerdictIs agent told.bytes told.report verdict
+  pub so : VerdictIs (started agent told.report.start) told.bytes told.report verdict
   pub is : outcome ≡ Judged verdict (verdict_line verdict)
 
--- the truth of a condition after the entries of a journal
+-- the truth of a condition after the entries of a journal, from the journal's own start where it has one
+abbrev pub truth_after : Agent → Told → Cond → Truth
+truth_after agent told cond =
+    let own = started agent told.report.start in
+    truth_of own (values_after own told.report.entries) cond (env_of [])
+
 abbrev pub TruthOf : Agent → Told → Cond → Outcome → Type 0
-TruthOf agent told cond outcome =
-    outcome ≡ Asked (truth_of agent (values_after agent told.report.entries) cond (env_of []))
+TruthOf agent told cond outcome = outcome ≡ Asked (truth_after agent told cond)
+
+-- the text of a journal with its start written out
+abbrev pub MigratedOf : Agent → Told → Outcome → Type 0
+MigratedOf agent told outcome = outcome ≡ Migrated (journal_text agent (migrated agent told.report))
 
 -- What is held under names, and how often a call of the files had failed before and after the call.
 module _ (held : Option (List HeldFile)) (faults_before faults_after : ℕ) where
@@ -130,6 +142,11 @@ module _ (held : Option (List HeldFile)) (faults_before faults_after : ℕ) wher
   abbrev pub OfJournal : Agent → Text → (Told → Outcome → Type 0) → Outcome → Type 0
   OfJournal agent name = OfFile JournalFile name (RefusesJournal agent) (SpellsJournal agent)
 
+  -- what comes of the journal file that a run begins from, if there is one: the values that it leaves
+  abbrev pub OfFrom : Agent → Option Text → (Option Values → Outcome → Type 0) → Outcome → Type 0
+  OfFrom agent None Next = Next None
+  OfFrom agent (Some name) Next = OfJournal agent name (λ told. Next (Some (values_left agent told.report)))
+
 -- what comes of the condition, whose bytes stand among the words
 abbrev pub OfCondition : DraftTheory → Agent → Text → (Cond → Outcome → Type 0) → Outcome → Type 0
 OfCondition theory agent bytes =
@@ -140,10 +157,11 @@ OfCondition theory agent bytes =
 module _ (held : Option (List HeldFile)) (faults_before faults_after : ℕ) (olds news : List Standing) where
   abbrev pub Comes : Option CommandLine → Outcome → Type 0
   Comes None = λ outcome. outcome ≡ WordsRefused
-  Comes (Some (run agent devices inline)) =
+  Comes (Some (run agent devices inline from)) =
       OfAgent held faults_before faults_after agent (λ a.
       OfScripts held faults_before faults_after a devices (λ listed.
-      RunOf a listed inline olds news))
+      OfFrom held faults_before faults_after a from (λ start.
+      RunOf a start listed inline olds news)))
   Comes (Some (check agent)) =
       OfAgent held faults_before faults_after agent (λ a outcome. outcome ≡ Checked (check_text a))
   Comes (Some (replay agent journal)) =
@@ -154,6 +172,9 @@ module _ (held : Option (List HeldFile)) (faults_before faults_after : ℕ) (old
       OfJournal held faults_before faults_after u.agent journal (λ told.
       OfCondition u.theory u.agent condition (λ cond.
       TruthOf u.agent told cond)))
+  Comes (Some (migrate agent journal)) =
+      OfAgent held faults_before faults_after agent (λ a.
+      OfJournal held faults_before faults_after a journal (MigratedOf a))
   Comes (Some (demo size)) = Demonstrates size olds news
 
 -- ---- the call
@@ -186,6 +207,7 @@ uses_devices (Ran text answer) = true
 uses_devices (Checked text) = false
 uses_devices (Judged verdict text) = false
 uses_devices (Asked truth) = false
+uses_devices (Migrated text) = false
 uses_devices (Demonstrated text) = true
 
 -- the devices are as they were, unless they had a part
@@ -211,17 +233,39 @@ pub record IsReported (status : ℕ) (spelled : Option CommandLine) (before afte
 -- and was given and told nothing; a demo may have served them; the other commands leave them as they were.
 abbrev pub LeavesDevices : Option CommandLine → List Standing → List Standing → Type 0
 LeavesDevices None olds news = ⊤
-LeavesDevices (Some (run agent devices inline)) olds news = AreUnserved olds news
+LeavesDevices (Some (run agent devices inline from)) olds news = AreUnserved olds news
 LeavesDevices (Some (check agent)) olds news = news ≡ olds
 LeavesDevices (Some (replay agent journal)) olds news = news ≡ olds
 LeavesDevices (Some (ask agent journal condition)) olds news = news ≡ olds
+LeavesDevices (Some (migrate agent journal)) olds news = news ≡ olds
 LeavesDevices (Some (demo size)) olds news = ⊤
 
--- memory ran out while a command was done, nothing was written, no write failed, and no device was served by a run
+-- the head of a run that begins from a journal was written, and no more
+pub record AddsHead (name : Text) (from : Option Text) (before after : Outside) : Type 0 where
+  pub agent : Agent
+  pub reads : ReadsAgent before.held name agent
+  pub values : Values
+  pub left : ReadsStart before.held agent from (Some values)
+  pub sorts : AreInSorts agent values
+  pub added : after.taken ≡ and_then_bytes before.taken (head_text agent values)
+
+-- What memory that runs out while a command is done leaves written: nothing, or of a run over threads its head.
+abbrev pub LeavesText : Option CommandLine → Outside → Outside → Type 0
+LeavesText None before after = after.taken ≡ before.taken
+LeavesText (Some (run agent devices inline from)) before after =
+    (after.taken ≡ before.taken) ⊎ ((inline ≡ false) × AddsHead agent from before after)
+LeavesText (Some (check agent)) before after = after.taken ≡ before.taken
+LeavesText (Some (replay agent journal)) before after = after.taken ≡ before.taken
+LeavesText (Some (ask agent journal condition)) before after = after.taken ≡ before.taken
+LeavesText (Some (migrate agent journal)) before after = after.taken ≡ before.taken
+LeavesText (Some (demo size)) before after = after.taken ≡ before.taken
+
+-- memory ran out while a command was done, nothing was written, or of a run over threads the head alone, no write
+-- failed, and no device was served by a run
 pub record LacksMemory (status : ℕ) (spelled : Option CommandLine) (before after : Outside) : Type 0 where
   pub answered : status ≡ 6
   pub command : IsSome spelled
-  pub nothing : after.taken ≡ before.taken
+  pub nothing : LeavesText spelled before after
   pub no_fault : after.sink_faults ≡ before.sink_faults
   pub devices : LeavesDevices spelled before.devices after.devices
 
@@ -233,10 +277,11 @@ CallEnds status spelled before after = IsReported status spelled before after �
 
 -- whether the command is a run over threads
 abbrev pub is_threaded : CommandLine → Bool
-is_threaded (run agent devices inline) = not inline
+is_threaded (run agent devices inline from) = not inline
 is_threaded (check agent) = false
 is_threaded (replay agent journal) = false
 is_threaded (ask agent journal condition) = false
+is_threaded (migrate agent journal) = false
 is_threaded (demo size) = false
 
 -- where a file is refused or can't be read, and memory didn't run out, this is so of what is said
@@ -263,10 +308,16 @@ abbrev pub CondFails : DraftTheory → Agent → Text → Outcome → Type 0
 CondFails theory agent bytes outcome =
     (text : Text) × (outcome ≡ Refused Condition text) × Tells Condition (RefusesCond theory agent bytes) text
 
--- the files spell this agent and these scripts of its devices
-pub record HoldsRun (held : Option (List HeldFile)) (agent : Text) (devices : Option Text) (ready : Ready)
+-- the files spell an agent, scripts of its devices, and the values that it was restarted at, if it was
+pub record HoldsRun (held : Option (List HeldFile)) (agent : Text) (devices from : Option Text) (ready : Ready)
     : Type 0 where
+  pub own : Agent
+  pub own_formed : WellFormed own
+  pub is : ready.agent ≡ started own ready.start
+  pub sorts : IfSome ready.start (AreInSorts own)
   pub formed : WellFormed ready.agent
+  pub kept : IfSome ready.start (AreInSorts ready.agent)
   pub texts : All HasTexts ready.scripts
-  pub agent_so : ReadsAgent held agent ready.agent
-  pub scripts_so : ReadsScripts held ready.agent devices ready.scripts
+  pub agent_so : ReadsAgent held agent own
+  pub scripts_so : ReadsScripts held own devices ready.scripts
+  pub start_so : ReadsStart held own from ready.start

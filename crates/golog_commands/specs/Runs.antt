@@ -1,13 +1,16 @@
 -- What a run of an agent comes to.
-use Rattle.std.specs.Prelude.{◌≡◌, ◌⊎◌, ℕ, Bool, true, ◌<◌, nat_lt, IsSome, IfSome, Some, List, [], ◌∷◌, ◌++◌, Contains, length, map, codes, decimal, slice_get}
+use Rattle.std.specs.Prelude.{◌≡◌, ◌⊎◌, ℕ, Bool, true, ◌<◌, nat_lt, IsSome, IfSome, Option, Some, List, [], ◌∷◌, ◌++◌, Contains, length, map, codes, decimal, slice_get}
 use Rattle.std.specs.List.{flat_map}
+use Rattle.std.specs.Option.{option_map_or}
 use Rattle.golog_tree.specs.declared.agent.Agent.{Agent}
 use Rattle.golog_semantics.specs.declared.journal.Answer.{Answer}
 use Rattle.golog_semantics.specs.declared.journal.Entry.TheVariants.{Close}
 use Rattle.golog_semantics.specs.declared.journal.Reason.TheVariants.{Refused}
 use Rattle.golog_semantics.specs.declared.journal.Report.{Report}
 use Rattle.golog_semantics.specs.Journal.{Journal}
-use Rattle.golog_semantics.specs.Text.{Text, answer_text, with_line_feed}
+use Rattle.golog_semantics.specs.Restart.{started}
+use Rattle.golog_semantics.specs.Text.{Text, answer_text, head_text, with_line_feed}
+use Rattle.golog_semantics.specs.Truth.{Values}
 use Rattle.golog_semantics.specs.Reports.{IsReport}
 use Rattle.golog_semantics.specs.Online.{IsOnline}
 use Rattle.golog_semantics.specs.Certain.{JournalIsSo}
@@ -52,40 +55,48 @@ AreUnserved olds news = EachSlot (λ slot. IsUnserved) olds news
 
 -- ---- the text, where all devices tell what is left of their scripts
 
--- the text is that of the rounds with these scripts, and the status that of its end
-pub record IsInline (agent : Agent) (scripts : List Script) (text : Text) (status : ℕ) : Type 0 where
-  pub is : text ≡ inline_text agent scripts
-  pub ended : Ends (inline_report agent scripts).entries status
+-- the head of a journal with this start, where it has one
+abbrev pub head_of : Agent → Option Values → Text
+head_of agent start = option_map_or (head_text agent) start []
 
--- memory or fuel was wanted, and the lines before the end are the first lines of the text of the rounds
-pub record IsCutShort (agent : Agent) (scripts : List Script) (text : Text) (status : ℕ) : Type 0 where
+-- the text is that of the rounds with these scripts, behind the head, and the status that of its end
+pub record IsInline (agent : Agent) (start : Option Values) (scripts : List Script) (text : Text) (status : ℕ)
+    : Type 0 where
+  pub is : text ≡ head_of agent start ++ inline_text (started agent start) scripts
+  pub ended : Ends (inline_report (started agent start) scripts).entries status
+
+-- memory or fuel was wanted, and the lines behind the head and before the end are the first lines of the text of the
+-- rounds
+pub record IsCutShort (agent : Agent) (start : Option Values) (scripts : List Script) (text : Text) (status : ℕ)
+    : Type 0 where
   pub before : List Text
   pub later : List Text
   pub closings : List Text
-  pub whole : inline_text agent scripts ≡ flat_map (with_line_feed agent) (before ++ later)
+  pub whole : inline_text (started agent start) scripts ≡ flat_map (with_line_feed agent) (before ++ later)
   pub answer : Answer
   pub short : IsShort answer
-  pub is : text ≡ flat_map (with_line_feed agent)
+  pub is : text ≡ head_of agent start ++ flat_map (with_line_feed agent)
       (before ++ (decimal (length before) ++ (codes " end " ++ answer_text answer)) ∷ closings)
   pub shown : status ≡ status_of answer
 
-abbrev pub FollowsScripts : Agent → List Script → Text → ℕ → Type 0
-FollowsScripts agent scripts text status =
-    IsInline agent scripts text status ⊎ IsCutShort agent scripts text status
+abbrev pub FollowsScripts : Agent → Option Values → List Script → Text → ℕ → Type 0
+FollowsScripts agent start scripts text status =
+    IsInline agent start scripts text status ⊎ IsCutShort agent start scripts text status
 
 -- ---- a run
 
--- The text is that of an online execution of the agent's program, and the status that of its end. In each
--- world that agrees with the entries before it, each entry is so: a step is a step of the program left, which
--- may end where the journal says done, and may neither step nor end where it says stuck. Each device was dealt
--- with, with its script. Where the run is one without threads, and all devices tell what is left of their scripts,
--- the text is that of the rounds.
-pub record IsRunOf (agent : Agent) (scripts : List Script) (inline : Bool) (olds news : List Standing) (text : Text)
-    (status : ℕ) : Type 0 where
-  pub online : IsOnlineRun agent text status
-  pub so : JournalIsSo agent online.report.entries
-  pub dealt : AreDealtWith agent scripts online.report.entries olds news
-  pub scripted : inline ≡ true → AllTellLeft agent olds → FollowsScripts agent scripts text status
+-- The text is that of an online execution of the agent's program from this start, or from the agent's own where there
+-- is none, and the status that of its end. In each world that agrees with the entries before it, each entry is so: a
+-- step is a step of the program left, which may end where the journal says done, and may neither step nor end where it
+-- says stuck. Each device was dealt with, with its script. Where the run is one without threads, and all devices tell
+-- what is left of their scripts, the text is that of the rounds.
+pub record IsRunOf (agent : Agent) (start : Option Values) (scripts : List Script) (inline : Bool)
+    (olds news : List Standing) (text : Text) (status : ℕ) : Type 0 where
+  pub online : IsOnlineRun agent start text status
+  pub so : JournalIsSo (started agent start) online.report.entries
+  pub dealt : AreDealtWith (started agent start) scripts online.report.entries olds news
+  pub scripted : inline ≡ true → AllTellLeft (started agent start) olds
+      → FollowsScripts agent start scripts text status
 
 -- these are texts of the scripts
 abbrev pub AreTextsOf : List Text → List Script → Type 0

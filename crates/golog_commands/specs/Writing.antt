@@ -1,5 +1,6 @@
 -- What the parts of a call write of what they come to.
-use Rattle.std.specs.Prelude.{◌≡◌, ℕ, Option, Result, Ok, Err, Contains}
+use Rattle.std.specs.Prelude.{◌≡◌, ◌⊎◌, ℕ, ◌++◌, Option, Result, Ok, Err, Contains}
+use Rattle.golog_base.specs.Known.{and_then_bytes}
 use Rattle.golog_tree.specs.declared.agent.Agent.{Agent}
 use Rattle.golog_semantics.specs.declared.journal.Answer.{Answer}
 use Rattle.golog_semantics.specs.declared.journal.Entry.TheVariants.{End}
@@ -31,13 +32,18 @@ ReportsUnready Memory (Err f) old new faults_before faults_after = WritesNothing
 ReportsUnready (Ended outcome) (Err f) old new faults_before faults_after = ⊥
 ReportsUnready Memory (Ok status) old new faults_before faults_after = ⊥
 
--- A report of which this is so was written: its text whole, and the status is that of its end; or a write failed, the
--- status is that of a fault, and a prefix of its text was written.
-pub record WritesReport (P : Report → Type 0) (agent : Agent) (old new : Option Text)
+-- nothing was written, or the head alone, and no write failed
+abbrev pub WritesHead : Text → Option Text → Option Text → ℕ → ℕ → Type 0
+WritesHead head old new faults_before faults_after =
+    ((new ≡ old) ⊎ (new ≡ and_then_bytes old head)) × (faults_after ≡ faults_before)
+
+-- The head and behind it a report of which this is so were written: the text whole, and the status is that of the
+-- report's end; or a write failed, the status is that of a fault, and a prefix of the text was written.
+pub record WritesReport (P : Report → Type 0) (agent : Agent) (head : Text) (old new : Option Text)
     (faults_before faults_after status : ℕ) : Type 0 where
   pub report : Report
   pub so : P report
   pub answer : Answer
   pub ended : Contains report.entries (End answer)
-  pub written : Reports status (report_text agent report) (answer_status answer)
+  pub written : Reports status (head ++ report_text agent report) (answer_status answer)
       old new faults_before faults_after

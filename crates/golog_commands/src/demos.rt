@@ -83,7 +83,11 @@ fn ready_of(alloc: Global, files: &DemoFiles) -> Result<Ready, NoMemory>
 {
     match agent_of(alloc, files.agent.as_slice()) {
         Ok(agent) => match scripts_for(alloc, &agent, files.devices.as_slice()) {
-            Ok(scripts) => Ok(Ready { agent, scripts }),
+            Ok(scripts) => Ok(Ready {
+                agent,
+                scripts,
+                start: None,
+            }),
             Err(fault) => {
                 drop(agent);
                 Err(fault)

@@ -7,13 +7,17 @@ mod commands;
 mod demos;
 mod outcome;
 mod ready;
+mod starts;
 mod verdicts;
 mod writing;
 
 pub use beginning::begun_with;
-pub use commands::{asked, checked};
+pub use commands::{asked, checked, migrated};
 pub use demos::{demo_of, demo_outcome};
 pub use outcome::{Input, Outcome};
 pub use ready::{Ready, Told, Unready, agent_in, ended, let_go, ready_in, told_in};
+pub use starts::{head_of, restart_at};
 pub use verdicts::verdict_line;
-pub use writing::{NO_MEMORY, call_status, report, report_if, report_unready, run_status};
+pub use writing::{
+    NO_MEMORY, WRITE_FAULT, call_status, report, report_if, report_unready, run_status,
+};

@@ -75,6 +75,8 @@ pub enum Outcome {
     Judged { verdict: Verdict, text: Bytes },
     /// The truth of the condition was asked for.
     Asked(Truth),
+    /// The journal was migrated: its text with the start written out.
+    Migrated { text: Bytes },
     /// The demo ran: what its journal has.
     Demonstrated { text: Bytes },
 }
@@ -89,7 +91,7 @@ impl Outcome {
             Outcome::ReadFault(input) => input.fault_text(),
             Outcome::Refused { text, .. } | Outcome::Ran { text, .. } => text.as_slice(),
             Outcome::Checked { text } | Outcome::Demonstrated { text } => text.as_slice(),
-            Outcome::Judged { text, .. } => text.as_slice(),
+            Outcome::Judged { text, .. } | Outcome::Migrated { text } => text.as_slice(),
             Outcome::Asked(truth) => truth_line(*truth),
         }
     }
@@ -105,7 +107,8 @@ impl Outcome {
             Outcome::Refused { .. } => 3,
             Outcome::Ran { answer, .. } => exit_status(*answer),
             Outcome::Judged { verdict, .. } => verdict_status(*verdict),
-            Outcome::Checked { .. } | Outcome::Asked(_) | Outcome::Demonstrated { .. } => 0,
+            Outcome::Checked { .. } | Outcome::Asked(_) => 0,
+            Outcome::Migrated { .. } | Outcome::Demonstrated { .. } => 0,
         }
     }
 }

@@ -1,18 +1,21 @@
 // What the inputs of a command hold.
-ghost use Rattle.std.specs.Prelude.{◌≡◌, ◌≤◌, ◌++◌, All, IfOk, IfErr, IsTrue, IsSomeAnd, OnOk, OnErr, length, option_map};
+ghost use Rattle.std.specs.Prelude.{◌≡◌, ◌≤◌, ◌++◌, All, IfOk, IfErr, IfSome, IsTrue, IsSomeAnd, OnOk, OnErr, length, option_map};
 ghost use Rattle.golog_semantics.specs.Fits.{cond_fits, nothing_bound};
+ghost use Rattle.golog_semantics.specs.InSorts.{AreInSorts};
 ghost use Rattle.golog_semantics.specs.Reports.{IsReport};
+ghost use Rattle.golog_semantics.specs.Restart.{started};
 ghost use Rattle.golog_semantics.specs.WellFormed.{WellFormed};
 ghost use Rattle.golog_script.specs.ScriptTexts.{HasTexts};
 ghost use Rattle.golog_file.specs.Conditions.{CondsStayKept, SpellsCond};
 ghost use Rattle.golog_file.specs.Spelled.{IsFirstRefusal};
-ghost use Rattle.golog_commands.specs.Inputs.{Reads, ReadsAgent, ReadsScripts, RefusesJournal, RefusesScripts, SpellsBoth, SpellsJournal, SpellsScripts, input_limit, refusal_text};
-ghost use Rattle.golog_commands.specs.Outcome.{CondFails, FileFails, HoldsRun, IfEnded, IsTooLong, Never, OfAgent, OfScripts};
+ghost use Rattle.golog_commands.specs.Inputs.{Reads, ReadsAgent, ReadsScripts, ReadsStart, RefusesJournal, RefusesScripts, SpellsBoth, SpellsJournal, SpellsScripts, input_limit, refusal_text};
+ghost use Rattle.golog_commands.specs.Outcome.{CondFails, FileFails, HoldsRun, IfEnded, IsTooLong, Never, OfAgent, OfFrom, OfScripts};
 ghost use Rattle.golog_base.specs.Files.{FileHas};
 ghost use Rattle.golog_commands.specs.declared.outcome.Input.TheVariants.{Agent as AgentFile, Devices as DevicesFile, Journal as JournalFile};
 ghost use Rattle.golog_commands.specs.declared.outcome.Outcome.TheVariants.{Refused};
 
 use crate::outcome::{Input, Outcome};
+use crate::starts::{restart_at, start_in};
 use golog_base::{Bytes, Files, List, NoMemory, ReadFault, read_all};
 use golog_check_text::add_count;
 use golog_file::{AgentFault, CondFault, Understood, read_condition, read_theory_and_agent};
@@ -28,10 +31,12 @@ const TOO_LONG: u8 = 5;
 /// What the files of a run hold.
 #[derive(Drop)]
 pub struct Ready {
-    /// The agent of the agent file.
+    /// The agent of the agent file, restarted at the values below where there are some.
     pub agent: Agent,
     /// The scripts of the devices file, in its order; none without one.
     pub scripts: List<Script>,
+    /// The values that the journal file leaves, from which the run begins; none without one.
+    pub start: Option<List<u8>>,
 }
 
 /// What a journal file tells.
@@ -84,28 +89,121 @@ pub fn ended(unready: Unready) -> Result<Outcome, NoMemory>
     }
 }
 
-/// What the files of these names hold: an agent, and scripts of its devices.
+/// What the files of these names hold: an agent, scripts of its devices, and the values from which it begins, at which
+/// it was restarted. What was read of the journal is let go.
 pub fn ready_in<F: Files>(
     alloc: Global,
     files: &mut F,
     agent: &str,
     devices: Option<&str>,
+    from: Option<&str>,
 ) -> Result<Ready, Unready>
-    ensures ready { IfOk result (HoldsRun (F.held files.old) agent.now (option_map (λ file. file.now) devices.entry)) }
+    ensures ready { IfOk result (HoldsRun (F.held files.old) agent.now (option_map (λ file. file.now) devices.entry)
+        (option_map (λ file. file.now) from.entry)) }
     ensures unready { IfErr result (λ fault. IfEnded fault
         (OfAgent (F.held files.old) (F.faults files.old) (F.faults files.new) agent.now
         (λ a. OfScripts (F.held files.old) (F.faults files.old) (F.faults files.new) a
-        (option_map (λ file. file.now) devices.entry) Never))) }
+        (option_map (λ file. file.now) devices.entry)
+        (λ listed. OfFrom (F.held files.old) (F.faults files.old) (F.faults files.new) a
+        (option_map (λ file. file.now) from.entry) Never)))) }
 {
     match agent_in(alloc, files, agent) {
-        Ok(agent) => match scripts_in(alloc, files, devices, &agent) {
-            Ok(scripts) => Ok(Ready { agent, scripts }),
-            Err(unready) => {
-                drop(agent);
-                Err(unready)
-            }
-        },
+        Ok(agent) => ready_of(alloc, files, agent, devices, from),
         Err(unready) => Err(unready),
+    }
+}
+
+// The same of an agent that was read.
+fn ready_of<F: Files>(
+    alloc: Global,
+    files: &mut F,
+    agent: Agent,
+    devices: Option<&str>,
+    from: Option<&str>,
+) -> Result<Ready, Unready>
+    requires { WellFormed agent }
+    ensures texts { IfOk result (λ ready. All HasTexts ready.scripts) }
+    ensures scripts { IfOk result (λ ready. ReadsScripts (F.held files.old) agent
+        (option_map (λ file. file.now) devices.entry) ready.scripts) }
+    ensures formed { IfOk result (λ ready. WellFormed ready.agent) }
+    ensures is { IfOk result (λ ready. ready.agent ≡ started agent ready.start) }
+    ensures sorts { IfOk result (λ ready. IfSome ready.start (AreInSorts agent)) }
+    ensures kept { IfOk result (λ ready. IfSome ready.start (AreInSorts ready.agent)) }
+    ensures start { IfOk result (λ ready. ReadsStart (F.held files.old) agent
+        (option_map (λ file. file.now) from.entry) ready.start) }
+    ensures unready { IfErr result (λ fault. IfEnded fault
+        (OfScripts (F.held files.old) (F.faults files.old) (F.faults files.new) agent
+        (option_map (λ file. file.now) devices.entry)
+        (λ listed. OfFrom (F.held files.old) (F.faults files.old) (F.faults files.new) agent
+        (option_map (λ file. file.now) from.entry) Never))) }
+{
+    match scripts_in(alloc, files, devices, &agent) {
+        Ok(scripts) => ready_from(alloc, files, agent, scripts, from),
+        Err(unready) => {
+            drop(agent);
+            Err(unready)
+        }
+    }
+}
+
+// The same of an agent and scripts that were read.
+fn ready_from<F: Files>(
+    alloc: Global,
+    files: &mut F,
+    agent: Agent,
+    scripts: List<Script>,
+    from: Option<&str>,
+) -> Result<Ready, Unready>
+    requires { WellFormed agent }
+    ensures scripts { IfOk result (λ ready. ready.scripts ≡ scripts) }
+    ensures formed { IfOk result (λ ready. WellFormed ready.agent) }
+    ensures is { IfOk result (λ ready. ready.agent ≡ started agent ready.start) }
+    ensures sorts { IfOk result (λ ready. IfSome ready.start (AreInSorts agent)) }
+    ensures kept { IfOk result (λ ready. IfSome ready.start (AreInSorts ready.agent)) }
+    ensures start { IfOk result (λ ready. ReadsStart (F.held files.old) agent
+        (option_map (λ file. file.now) from.entry) ready.start) }
+    ensures unready { IfErr result (λ fault. IfEnded fault
+        (OfFrom (F.held files.old) (F.faults files.old) (F.faults files.new) agent
+        (option_map (λ file. file.now) from.entry) Never)) }
+{
+    match start_in(alloc, files, from, &agent) {
+        Ok(start) => restarted(alloc, agent, scripts, start),
+        Err(unready) => {
+            drop(scripts);
+            drop(agent);
+            Err(unready)
+        }
+    }
+}
+
+// The agent restarted at these values, if there are some.
+fn restarted(
+    alloc: Global,
+    mut agent: Agent,
+    scripts: List<Script>,
+    start: Option<List<u8>>,
+) -> Result<Ready, Unready>
+    requires formed { WellFormed agent }
+    requires sorts { IfSome start (AreInSorts agent) }
+    ensures scripts { IfOk result (λ ready. ready.scripts ≡ scripts) }
+    ensures start { IfOk result (λ ready. ready.start ≡ start) }
+    ensures formed { IfOk result (λ ready. WellFormed ready.agent) }
+    ensures is { IfOk result (λ ready. ready.agent ≡ started agent ready.start) }
+    ensures kept { IfOk result (λ ready. IfSome ready.start (AreInSorts ready.agent)) }
+    ensures memory { IfErr result (λ fault. fault ≡ Unready.Memory) }
+{
+    match restart_at(alloc, &mut agent, &start) {
+        Ok(()) => Ok(Ready {
+            agent,
+            scripts,
+            start,
+        }),
+        Err(NoMemory) => {
+            drop(start);
+            drop(scripts);
+            drop(agent);
+            Err(Unready::Memory)
+        }
     }
 }
 
@@ -180,6 +278,8 @@ fn scripts_in<F: Files>(
         IsSomeAnd (option_map (λ file. file.now) name.entry) (λ file.
         FileFails DevicesFile (RefusesScripts agent.now) (F.held files.old) file
         (F.faults files.old) (F.faults files.new) outcome))) }
+    ensures held { F.held files.new ≡ F.held files.old }
+    ensures faults { F.faults files.old ≤ F.faults files.new }
 {
     match name {
         Some(name) => scripts_under(alloc, files, name, agent),
@@ -199,6 +299,8 @@ fn scripts_under<F: Files>(
         (λ bytes. SpellsScripts agent.now bytes listed)) }
     ensures unready { IfErr result (λ fault. IfEnded fault (FileFails DevicesFile (RefusesScripts agent.now)
         (F.held files.old) name.now (F.faults files.old) (F.faults files.new))) }
+    ensures held { F.held files.new ≡ F.held files.old }
+    ensures faults { F.faults files.old ≤ F.faults files.new }
 {
     match bytes_in(alloc, files, Input::Devices, name) {
         Ok(bytes) => match scripts_of(alloc, bytes.as_slice(), &agent.devices) {

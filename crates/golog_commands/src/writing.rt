@@ -10,7 +10,7 @@ use golog_base::{NoMemory, Sink, write_all};
 use golog_semantics::Answer;
 
 /// The exit status where a write failed.
-const WRITE_FAULT: u8 = 5;
+pub const WRITE_FAULT: u8 = 5;
 
 /// The exit status where memory ran out.
 pub const NO_MEMORY: u8 = 6;

@@ -1,4 +1,5 @@
 pub mod Replayed
+pub mod Chains
 pub mod Begun
 pub mod Served
 pub mod Reported

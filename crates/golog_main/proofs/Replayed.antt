@@ -3,6 +3,7 @@ use Rattle.std.proofs.Common.{◌≡◌, ℕ, Some, Ok, inl, inr, sym, ap, ◌�
 use Rattle.golog_base.specs.Known.{and_then_bytes}
 use Rattle.golog_tree.specs.declared.agent.Agent.{Agent}
 use Rattle.golog_semantics.specs.Execution.{IsOnlineRun, status_of as answer_status}
+use Rattle.golog_semantics.specs.Restart.{started}
 use Rattle.golog_semantics.specs.Text.{Text}
 use Rattle.golog_semantics.specs.WellFormed.{WellFormed}
 use Rattle.golog_reports.specs.Reads.{journal_of}
@@ -33,16 +34,18 @@ module _ (law : OnlineIsAnOnlineRun) (name journal : Text) (before after : Outsi
     said : (journal_of agent told.bytes).outcome ≡ Ok told.report
     said = subst (λ b. (journal_of agent b).outcome ≡ Ok told.report) (sym same) spells.so.said
 
-    of-verdict : (v : Verdict) (outcome : Outcome) → 0 ≡ outcome_status outcome → Writes before after (outcome_text outcome) → VerdictIs agent told.bytes told.report v
+    of-verdict : (v : Verdict) (outcome : Outcome) → 0 ≡ outcome_status outcome → Writes before after (outcome_text outcome) → VerdictIs (started agent told.report.start) told.bytes told.report v
         → outcome ≡ Judged v (verdict_line v) → ReplaysRun before after name journal
     of-verdict (Online answer) outcome shown written so is = record {
       agent = agent;
       reads = reads;
       answer = answer;
+      told = told;
+      said = spells;
       run = record {
         bytes = spells.bytes;
         has = spells.has;
-        so = subst (λ b. IsOnlineRun agent b (answer_status answer)) same ((law agent formed told.bytes told.report said answer).run so);
+        so = subst (λ b. IsOnlineRun agent told.report.start b (answer_status answer)) same ((law agent formed told.bytes told.report said answer).run so);
       };
       written = written ∙ ap (λ x. and_then_bytes before.taken (outcome_text x)) is;
     }

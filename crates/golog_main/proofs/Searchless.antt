@@ -1,9 +1,10 @@
 -- A run of a program without search blocks ends neither for the depth of a search nor for its fuel, and one that
 -- ends for want of fuel is of a program that is heavy there.
-use Rattle.std.proofs.Common.{◌≡◌, ℕ, zero, suc, ◌+◌, ◌<◌, Bool, true, false, ◌&&◌, ◌||◌, if◌then◌else◌, List, [], ◌∷◌, ◌++◌, Some, None, refl, sym, ap, ◌∙◌, subst, arith}
+use Rattle.std.proofs.Common.{◌≡◌, ℕ, zero, suc, ◌+◌, ◌<◌, Bool, true, false, ◌&&◌, ◌||◌, if◌then◌else◌, List, [], ◌∷◌, ◌++◌, map, length, Option, Some, None, refl, sym, ap, ◌∙◌, subst, arith}
 use Rattle.std.specs.Prelude.{not, Contains}
 use Rattle.std.specs.List.{flat_map, list_any, range_with_len}
 use Rattle.golog_tree.specs.declared.agent.Agent.{Agent}
+use Rattle.golog_tree.specs.declared.agent.ProcItem.{ProcItem}
 use Rattle.golog_tree.specs.declared.prog.Prog.{Prog}
 use Rattle.golog_tree.specs.declared.prog.Prog.TheOpen.{Nil, Act, Test, Seq, Choice, Pick, Star, If, While, Conc, Prio, Cstar, Call, Search, Follow}
 use Rattle.golog_tree.specs.declared.prog.Prog.TheViews.{out-Prog}
@@ -19,7 +20,8 @@ use Rattle.golog_semantics.specs.Program.{put_arg, body_of}
 use Rattle.golog_semantics.specs.Ways.{is_empty}
 use Rattle.golog_semantics.specs.Search.{final}
 use Rattle.golog_semantics.specs.Blocks.{moves}
-use Rattle.golog_semantics.specs.BlockFree.{has_block}
+use Rattle.golog_semantics.specs.BlockFree.{has_block, has_block_by, proc_blocks, proc_blocks_to}
+use Rattle.golog_semantics.specs.Restart.{restarted, started}
 use Rattle.golog_semantics.specs.Guarded.{front}
 use Rattle.golog_semantics.specs.Heavy.{Reached, blocks_step, blocks_to, front_blocks, heavy, weighs}
 use Rattle.golog_semantics.specs.Journal.{Journal, is_full, is_quiet, is_settled, lacks_results, may_be_answered}
@@ -34,7 +36,7 @@ use Rattle.golog_semantics.proofs.StepsKeep.{InParts}
 use Rattle.golog_semantics.proofs.Tests.{and_cases}
 use Rattle.golog_ways.proofs.Blockless.{P, blockless_parts}
 use Rattle.golog_search.proofs.LeftBlockless.{left_blockless}
-use Rattle.golog_main.specs.Searchless.{FuelIsHeavy}
+use Rattle.golog_main.specs.Searchless.{FuelIsHeavy, SearchlessEnds}
 
 -- ---- no block is at the front
 
@@ -157,11 +159,15 @@ stands-at (x ∷ entries) e (suc k, l, is) =
     let rest = stands-at entries e (k, omega (arith, l), is) in
     record { before = x ∷ rest.before; later = rest.later; is = ap (λ ys. x ∷ ys) rest.is }
 
-module _ (agent : Agent) (text : Text) (status : ℕ) (run : IsOnlineRun agent text status) where
+module _ (agent : Agent) (start : Option Values) (text : Text) (status : ℕ) (run : IsOnlineRun agent start text status) where
+  -- the agent that the run starts from
+  abbrev own : Agent
+  own = started agent start
+
   the-end : StandsAt run.report.entries (End run.ended.answer)
   the-end = stands-at run.report.entries (End run.ended.answer) run.ended.stands
 
-  allowed : may_end agent the-end.before (values_after agent the-end.before) (left_after agent the-end.before) run.ended.answer ≡ true
+  allowed : may_end own the-end.before (values_after own the-end.before) (left_after own the-end.before) run.ended.answer ≡ true
   allowed = (run.online.entries the-end.before (End run.ended.answer) the-end.later the-end.is).answer
 
 -- ---- the status
@@ -177,11 +183,26 @@ status-plain Full h k = ((λ e. absurd (omega arith)), (λ e. absurd (omega arit
 status-plain Deep h k = ((λ e. absurd (omega arith)), (λ e. absurd (omega arith)))
 status-plain Memory h k = ((λ e. absurd (omega arith)), (λ e. absurd (omega arith)))
 
-pub searchless : (agent : Agent) (text : Text) (status : ℕ) → not (has_block agent agent.main) ≡ true → IsOnlineRun agent text status
-    → (¬ (status ≡ 12)) × (¬ (status ≡ 13))
-searchless agent text status free run =
-    let at = (the-end agent text status run).before in
-    let p = plain agent at (values_after agent at) (left_after agent at) (left_blockless agent free at) run.ended.answer (allowed agent text status run) in
+-- an agent that starts from other values has no other blocks
+same-blocks-to : (agent : Agent) (values : Values) (k : ℕ) → proc_blocks_to k (restarted agent values) ≡ proc_blocks_to k agent
+same-blocks-to agent values zero = refl
+same-blocks-to agent values (suc k) =
+    ap (λ bs. map (λ (item : ProcItem). has_block_by bs item.body) agent.procs) (same-blocks-to agent values k)
+
+same-blocks : (agent : Agent) (values : Values) → proc_blocks (restarted agent values) ≡ proc_blocks agent
+unfolding proc_blocks
+same-blocks agent values = same-blocks-to agent values (length agent.procs)
+
+still-free : (agent : Agent) (start : Option Values) → not (has_block agent agent.main) ≡ true → not (has_block (started agent start) (started agent start).main) ≡ true
+still-free agent None free = free
+still-free agent (Some values) free = subst (λ bs. not (has_block_by bs agent.main) ≡ true) (sym (same-blocks agent values)) free
+
+pub searchless : SearchlessEnds
+searchless agent start text status free run =
+    let own = started agent start in
+    let at = (the-end agent start text status run).before in
+    let p =
+    plain own at (values_after own at) (left_after own at) (left_blockless own (still-free agent start free) at) run.ended.answer (allowed agent start text status run) in
     let s = status-plain run.ended.answer p.0 p.1 in
     let e = run.ended.shown in
     ((λ k. s.0 (sym e ∙ k)), (λ k. s.1 (sym e ∙ k)))
@@ -199,15 +220,16 @@ status-fuel Memory e = absurd (omega (arith, e))
 
 -- where fuel was wanted the program is heavy
 pub fuel-heavy : FuelIsHeavy
-fuel-heavy agent text run =
-    let end = the-end agent text 13 run in
+fuel-heavy agent start text run =
+    let own = started agent start in
+    let end = the-end agent start text 13 run in
     let fuel = status-fuel run.ended.answer run.ended.shown in
-    let may = subst (λ a. may_end agent end.before (values_after agent end.before) (left_after agent end.before) a ≡ true) fuel (allowed agent text 13 run) in
+    let may = subst (λ a. may_end own end.before (values_after own end.before) (left_after own end.before) a ≡ true) fuel (allowed agent start text 13 run) in
     record {
       before = end.before;
       later = end.later;
       is = end.is ∙ ap (λ a. end.before ++ End a ∷ end.later) fuel;
       weighs =
-          (and_cases (not (is_full end.before) && not (is_unanswered agent end.before) && is_settled agent end.before)
-          (heavy agent (values_after agent end.before) (left_after agent end.before)) may).1;
+          (and_cases (not (is_full end.before) && not (is_unanswered own end.before) && is_settled own end.before)
+          (heavy own (values_after own end.before) (left_after own end.before)) may).1;
     }

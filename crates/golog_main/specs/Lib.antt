@@ -1,3 +1,4 @@
 pub mod Runs
 pub mod Searchless
 pub mod Replayed
+pub mod Chains

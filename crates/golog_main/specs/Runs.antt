@@ -1,7 +1,8 @@
 -- What a run makes of the journal and of the devices.
 use Rattle.std.specs.Prelude.{◌≡◌, ℕ, Bool, true, ◌≤◌, nat_lt, List, Contains, length}
 use Rattle.golog_tree.specs.declared.agent.Agent.{Agent}
-use Rattle.golog_semantics.specs.declared.journal.Entry.TheVariants.{Close}
+use Rattle.golog_semantics.specs.declared.journal.Answer.{Answer}
+use Rattle.golog_semantics.specs.declared.journal.Entry.TheVariants.{Close, End}
 use Rattle.golog_semantics.specs.declared.journal.Reason.TheVariants.{Refused}
 use Rattle.golog_semantics.specs.declared.journal.Report.{Report}
 use Rattle.golog_semantics.specs.Journal.{Journal, longest}
@@ -49,3 +50,10 @@ pub record RunsOn (agent : Agent) (inline : Bool) (before : Journal) (olds news 
   pub online : IsOnline agent (report_of agent journal)
   pub run : HaveRun agent before journal olds news
   pub scripted : inline ≡ true → FollowsLeft agent before journal olds
+
+-- a run of whose report this is so has gone on to its end
+pub record HasEnded (P : Report → Type 0) : Type 0 where
+  pub report : Report
+  pub so : P report
+  pub answer : Answer
+  pub ended : Contains report.entries (End answer)

@@ -1,5 +1,5 @@
 -- How a run ends of an agent without search blocks, and where one ends for want of fuel.
-use Rattle.std.specs.Prelude.{◌≡◌, ℕ, IsTrue, not, ◌∷◌, ◌++◌}
+use Rattle.std.specs.Prelude.{◌≡◌, ℕ, IsTrue, not, Option, ◌∷◌, ◌++◌}
 use Rattle.golog_tree.specs.declared.agent.Agent.{Agent}
 use Rattle.golog_semantics.specs.declared.journal.Entry.TheVariants.{End}
 use Rattle.golog_semantics.specs.declared.journal.Answer.TheVariants.{Fuel}
@@ -7,14 +7,16 @@ use Rattle.golog_semantics.specs.BlockFree.{has_block}
 use Rattle.golog_semantics.specs.Heavy.{heavy}
 use Rattle.golog_semantics.specs.Journal.{Journal}
 use Rattle.golog_semantics.specs.Progress.{values_after, left_after}
+use Rattle.golog_semantics.specs.Restart.{started}
 use Rattle.golog_semantics.specs.Text.{Text}
+use Rattle.golog_semantics.specs.Truth.{Values}
 use Rattle.golog_semantics.specs.Execution.{IsOnlineRun}
 
 -- it ends neither for the depth of a search nor for its fuel
 abbrev pub SearchlessEnds : Type 0
 SearchlessEnds =
-    (agent : Agent) (text : Text) (status : ℕ) → IsTrue (not (has_block agent agent.main))
-    → IsOnlineRun agent text status → (¬ (status ≡ 12)) × (¬ (status ≡ 13))
+    (agent : Agent) (start : Option Values) (text : Text) (status : ℕ) → IsTrue (not (has_block agent agent.main))
+    → IsOnlineRun agent start text status → (¬ (status ≡ 12)) × (¬ (status ≡ 13))
 
 -- the program is heavy after the entries before the end
 pub record IsHeavyAtEnd (agent : Agent) (journal : Journal) : Type 0 where
@@ -26,4 +28,5 @@ pub record IsHeavyAtEnd (agent : Agent) (journal : Journal) : Type 0 where
 -- so it is where the end is for want of fuel
 abbrev pub FuelIsHeavy : Type 0
 FuelIsHeavy =
-    (agent : Agent) (text : Text) (run : IsOnlineRun agent text 13) → IsHeavyAtEnd agent run.report.entries
+    (agent : Agent) (start : Option Values) (text : Text) (run : IsOnlineRun agent start text 13)
+    → IsHeavyAtEnd (started agent start) run.report.entries

@@ -4,7 +4,7 @@ ghost use Rattle.golog_semantics.specs.Journal.{device_limit};
 ghost use Rattle.golog_device.specs.Slots.{standings, FreshBelow};
 ghost use Rattle.golog_words.specs.Answers.{command_of};
 ghost use Rattle.golog_words.specs.Commands.{run};
-ghost use Rattle.golog_commands.specs.Outcome.{IsReported, LeavesDevices, is_threaded, outside};
+ghost use Rattle.golog_commands.specs.Outcome.{IsReported, LeavesDevices, LeavesText, is_threaded, outside};
 ghost use Rattle.golog_commands.specs.Runs.{AreUnserved};
 ghost use Rattle.golog_commands.specs.Writing.{WritesNothing};
 
@@ -12,7 +12,7 @@ use crate::demos::demonstrated;
 use crate::judged::replayed;
 use crate::run::{run_in_rounds, run_on_threads};
 use golog_base::{Files, NoMemory, Sink};
-use golog_commands::{asked, checked, ready_in, report_if, report_unready};
+use golog_commands::{asked, checked, migrated, ready_in, report_if, report_unready};
 use golog_device::Device;
 use golog_words::Order;
 use std::alloc::Global;
@@ -51,8 +51,9 @@ pub fn served<F: Files, K: Sink, D: Device>(
         Order::Run {
             agent,
             devices: named,
+            from,
             ..
-        } => over_rounds(alloc, files, out, agent, named, devices),
+        } => over_rounds(alloc, files, out, agent, named, from, devices),
         Order::Check { agent } => report_if(out, checked(alloc, files, agent)),
         Order::Replay { agent, journal } => report_if(out, replayed(alloc, files, agent, journal)),
         Order::Ask {
@@ -60,6 +61,7 @@ pub fn served<F: Files, K: Sink, D: Device>(
             journal,
             condition,
         } => report_if(out, asked(alloc, files, agent, journal, condition)),
+        Order::Migrate { agent, journal } => report_if(out, migrated(alloc, files, agent, journal)),
         Order::Demo { size } => report_if(out, demonstrated(alloc, size, devices)),
     }
 }
@@ -71,12 +73,13 @@ fn over_rounds<F: Files, K: Sink, D: Device>(
     out: &mut K,
     agent: &str,
     named: Option<&str>,
+    from: Option<&str>,
     devices: &mut [D],
 ) -> Result<u8, NoMemory>
     requires boxes { device_limit ≤ length devices.old }
     requires fresh { FreshBelow device_limit (standings D.fresh D.meaning devices.old) }
     ensures reported { IfOk result (λ status. IsReported status
-        (Some (run agent.now (option_map (λ name. name.now) named.entry) true))
+        (Some (run agent.now (option_map (λ name. name.now) named.entry) true (option_map (λ name. name.now) from.entry)))
         (outside F.held F.faults K.taken K.faults D.fresh D.meaning files.old out.old devices.old)
         (outside F.held F.faults K.taken K.faults D.fresh D.meaning files.new out.new devices.new)) }
     ensures nothing { OnErr result (WritesNothing
@@ -84,9 +87,16 @@ fn over_rounds<F: Files, K: Sink, D: Device>(
     ensures unserved { OnErr result (AreUnserved
         (standings D.fresh D.meaning devices.old) (standings D.fresh D.meaning devices.new)) }
 {
-    match ready_in(alloc, files, agent, named) {
+    match ready_in(alloc, files, agent, named, from) {
         Ok(ready) => {
-            let status = run_in_rounds(alloc, &ready.agent, ready.scripts.as_slice(), out, devices);
+            let status = run_in_rounds(
+                alloc,
+                &ready.agent,
+                &ready.start,
+                ready.scripts.as_slice(),
+                out,
+                devices,
+            );
             ready.let_go();
             status
         }
@@ -102,25 +112,30 @@ pub fn over_threads<R: Threads + Wait + Sync, F: Files, K: Sink, D: Device + Sen
     out: &mut K,
     agent: &str,
     named: Option<&str>,
+    from: Option<&str>,
     devices: &mut [D],
 ) -> Result<u8, NoMemory>
     requires boxes { device_limit ≤ length devices.old }
     requires fresh { FreshBelow device_limit (standings D.fresh D.meaning devices.old) }
     ensures reported { IfOk result (λ status. IsReported status
-        (Some (run agent.now (option_map (λ name. name.now) named.entry) false))
+        (Some (run agent.now (option_map (λ name. name.now) named.entry) false (option_map (λ name. name.now) from.entry)))
         (outside F.held F.faults K.taken K.faults D.fresh D.meaning files.old out.old devices.old)
         (outside F.held F.faults K.taken K.faults D.fresh D.meaning files.new out.new devices.new)) }
-    ensures nothing { OnErr result (WritesNothing
-        (K.taken out.old) (K.taken out.new) (K.faults out.old) (K.faults out.new)) }
+    ensures nothing { OnErr result (LeavesText
+        (Some (run agent.now (option_map (λ name. name.now) named.entry) false (option_map (λ name. name.now) from.entry)))
+        (outside F.held F.faults K.taken K.faults D.fresh D.meaning files.old out.old devices.old)
+        (outside F.held F.faults K.taken K.faults D.fresh D.meaning files.new out.new devices.new)) }
+    ensures no_fault { OnErr result (K.faults out.new ≡ K.faults out.old) }
     ensures unserved { OnErr result (AreUnserved
         (standings D.fresh D.meaning devices.old) (standings D.fresh D.meaning devices.new)) }
 {
-    match ready_in(alloc, files, agent, named) {
+    match ready_in(alloc, files, agent, named, from) {
         Ok(ready) => {
             let status = run_on_threads(
                 rt,
                 alloc,
                 &ready.agent,
+                &ready.start,
                 ready.scripts.as_slice(),
                 out,
                 devices,

@@ -5,7 +5,7 @@ ghost use Rattle.golog_semantics.specs.WellFormed.{WellFormed};
 ghost use Rattle.golog_commands.specs.Outcome.{Judges, OfAgent, OfJournal};
 
 use golog_base::{Files, NoMemory};
-use golog_commands::{Outcome, Told, agent_in, ended, let_go, told_in, verdict_line};
+use golog_commands::{Outcome, Told, agent_in, ended, let_go, restart_at, told_in, verdict_line};
 use golog_replay::replay;
 use golog_tree::Agent;
 use std::alloc::Global;
@@ -21,8 +21,8 @@ pub fn replayed<F: Files>(
         OfJournal (F.held files.old) (F.faults files.old) (F.faults files.new) agent journal.now (Judges agent))) }
 {
     match agent_in(alloc, files, name) {
-        Ok(agent) => {
-            let outcome = replayed_of(alloc, files, &agent, journal);
+        Ok(mut agent) => {
+            let outcome = replayed_of(alloc, files, &mut agent, journal);
             let_go(agent);
             outcome
         }
@@ -30,16 +30,16 @@ pub fn replayed<F: Files>(
     }
 }
 
-// The same of an agent that was read.
+// The same of an agent that was read, which starts from the journal's start then.
 fn replayed_of<F: Files>(
     alloc: Global,
     files: &mut F,
-    agent: &Agent,
+    agent: &mut Agent,
     journal: &str,
 ) -> Result<Outcome, NoMemory>
-    requires { WellFormed agent.now }
+    requires { WellFormed agent.old }
     ensures { IfOk result (OfJournal (F.held files.old) (F.faults files.old) (F.faults files.new)
-        agent.now journal.now (Judges agent.now)) }
+        agent.old journal.now (Judges agent.old)) }
 {
     match told_in(alloc, files, journal, agent) {
         Ok(told) => {
@@ -52,11 +52,12 @@ fn replayed_of<F: Files>(
 }
 
 // The same of a journal that was read.
-fn judged(alloc: Global, agent: &Agent, told: &Told) -> Result<Outcome, NoMemory>
-    requires formed { WellFormed agent.now }
-    requires fits { IsReport agent.now told.now.report }
-    ensures { IfOk result (Judges agent.now told.now) }
+fn judged(alloc: Global, agent: &mut Agent, told: &Told) -> Result<Outcome, NoMemory>
+    requires formed { WellFormed agent.old }
+    requires fits { IsReport agent.old told.now.report }
+    ensures { IfOk result (Judges agent.old told.now) }
 {
+    restart_at(alloc, agent, &told.report.start)?;
     let verdict = replay(alloc, agent, told.bytes.as_slice(), &told.report)?;
     let text = verdict_line(alloc, verdict)?;
     Ok(Outcome::Judged { verdict, text })

@@ -1,10 +1,12 @@
 ghost use Rattle.golog_commands.specs.Exact.{StatusesAreExact};
 ghost use Rattle.golog_commands.specs.CutShort.{CutShortBeginsOnline};
+ghost use Rattle.golog_main.specs.Chains.{ChainsReplay};
 ghost use Rattle.golog_main.specs.Replayed.{OnlineReplaysRun};
 ghost use Rattle.golog_main.specs.Searchless.{FuelIsHeavy, SearchlessEnds};
 
 use golog_file::{one_cond_is_spelled, spelled_cond_is_unrefused};
 use golog_replay::online_is_an_online_run;
+use golog_reports::written_reads_back;
 
 /// Each status comes exactly where it has its cause, for each command, unless the outside fails or memory runs out.
 pub fn each_status_where_its_cause_is()
@@ -18,6 +20,14 @@ pub fn each_status_where_its_cause_is()
 pub fn online_replays_run()
     ensures { OnlineReplaysRun }
 {
+    online_is_an_online_run();
+}
+
+/// Of any number of runs, each from the values that the journal of the one before leaves, each replays online.
+pub fn chains_replay()
+    ensures { ChainsReplay }
+{
+    written_reads_back();
     online_is_an_online_run();
 }
 

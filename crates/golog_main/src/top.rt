@@ -6,8 +6,7 @@ ghost use Rattle.golog_words.specs.Answers.{command_of};
 ghost use Rattle.golog_words.specs.Commands.{command_in};
 ghost use Rattle.golog_commands.specs.CutShort.{LinesBegin};
 ghost use Rattle.golog_commands.specs.InWorlds.{RunsAreSo};
-ghost use Rattle.golog_commands.specs.Outcome.{CallEnds, IsReported, LeavesDevices, is_threaded, outside};
-ghost use Rattle.golog_commands.specs.Writing.{WritesNothing};
+ghost use Rattle.golog_commands.specs.Outcome.{CallEnds, IsReported, LeavesDevices, LeavesText, is_threaded, outside};
 
 use crate::commands::{over_threads, served};
 use golog_base::{Files, NoMemory, Sink};
@@ -29,16 +28,19 @@ use std::thread::Threads;
 ///
 /// The words are one of these, where a file word is not empty and does not begin with `-`:
 ///
-/// - `run AGENT [DEVICES] [--inline]` runs the program, with `--inline` anywhere among the files: the journal.
+/// - `run AGENT [DEVICES] [--inline] [--from JOURNAL]` runs the program, with `--inline`, and `--from` with its word,
+///   anywhere among the files: the journal. With `--from` it begins from the values that this journal leaves.
 /// - `check AGENT`: how many ground fluents, ground actions, procedures and devices the agent has.
 /// - `replay AGENT JOURNAL`: whether the journal is the text of an online execution of the agent's program, and
 ///   else the first place where a rule is broken and the first that is broken there.
 /// - `ask AGENT JOURNAL CONDITION`: the condition's truth by what is known after the journal's entries.
+/// - `migrate AGENT JOURNAL`: the journal as the second version of the text, with its start written out.
 /// - `demo N` runs the lift of N levels, 1 to 200: how many entries, actions and posts its journal has, and its
 ///   answer.
 ///
-/// What a command needs is read in this order: the agent file, then the devices file, or the journal and behind it
-/// the condition. The first of these that fits is the answer:
+/// What a command needs is read in this order: the agent file, then the devices file, then the journal file, then the
+/// condition, each where the command has it. A replay and a condition start from the journal's own start, where it has
+/// one. The first of these that fits is the answer:
 ///
 /// - 2, `words refused`: the words are anything else.
 /// - 4, `read fault INPUT`: the file could not be read, which comes only where it is not there or a call of `files`
@@ -46,20 +48,21 @@ use std::thread::Threads;
 /// - 3, `refused INPUT CODE at PLACE`: the input spells nothing of its kind; the code and the place are those of
 ///   its first refusal, as of `golog_file::read_agent`, `golog_script::scripts_of`, `golog_reports::read_journal` and
 ///   `golog_file::read_condition`, or 5 at its limit where it has more bytes. INPUT may be `condition` too.
-/// - 0, the text of `check`, `ask` or `demo`; or of `replay`, `online ANSWER`, where the journal is online.
+/// - 0, the text of `check`, `ask`, `migrate` or `demo`; or of `replay`, `online ANSWER`, where the journal is online.
 /// - 17, the text of `replay`, `not online PLACE RULE`, where it is not.
 /// - 0, or 10 to 16, the journal of an online execution of the agent's program, which ends `done`, `stuck`,
-///   `unknown`, `depth`, `fuel`, `unanswered`, `full` or `deep`. Each device that tells it was dealt with
-///   as the journal says, with its script, the empty one where the devices file has none. With
-///   `--inline`, where all tell what is left of their scripts, it is the journal of the rounds of these
-///   scripts; one that ends `fuel` has the first lines of that. In each world that agrees with the entries
-///   before it, each step of the journal is a step of the program left, which may end there where the
-///   journal says done, and may neither step nor end where it says stuck.
+///   `unknown`, `depth`, `fuel`, `unanswered`, `full` or `deep`. With `--from` its head has the values from which it
+///   begins; without it there is none. Each device that tells it was dealt with as the journal says, with its script,
+///   the empty one where the devices file has none. With `--inline`, where all tell what is left of their scripts, it
+///   is the journal of the rounds of these scripts; one that ends `fuel` has the first lines of that. In each world
+///   that agrees with the entries before it, each step of the journal is a step of the program left, which may end
+///   there where the journal says done, and may neither step nor end where it says stuck.
 ///
 /// Each line ends with a line feed. Where the sink's count of faults rises the answer is 5, before any other: a prefix
 /// of the text is written, of a run the beginning of the text of an online execution, and the run goes on to its end.
-/// Where memory runs out the answer is 6: nothing is written, and each device of a run is as it was or has begun and
-/// was given and told nothing; or the journal of a run that ends `memory` is written.
+/// Where memory runs out the answer is 6: nothing is written, or of a run over threads its head alone, and each device
+/// of a run is as it was or has begun and was given and told nothing; or the journal of a run that ends `memory` is
+/// written.
 ///
 /// With `--inline` the devices have their turns in rounds with the program. Without it the call makes threads for them;
 /// such a run may wait for ever, as where a device's call does, or where no thread can be made. That they run beside
@@ -127,8 +130,10 @@ fn answered<R: Threads + Wait + Sync, F: Files, K: Sink, D: Device + Send>(
     ensures reported { IfOk result (λ status. IsReported status (command_in (map string_bytes words.now))
         (outside F.held F.faults K.taken K.faults D.fresh D.meaning files.old out.old devices.old)
         (outside F.held F.faults K.taken K.faults D.fresh D.meaning files.new out.new devices.new)) }
-    ensures nothing { OnErr result (WritesNothing
-        (K.taken out.old) (K.taken out.new) (K.faults out.old) (K.faults out.new)) }
+    ensures nothing { OnErr result (LeavesText (command_in (map string_bytes words.now))
+        (outside F.held F.faults K.taken K.faults D.fresh D.meaning files.old out.old devices.old)
+        (outside F.held F.faults K.taken K.faults D.fresh D.meaning files.new out.new devices.new)) }
+    ensures no_fault { OnErr result (K.faults out.new ≡ K.faults out.old) }
     ensures left { OnErr result (LeavesDevices (command_in (map string_bytes words.now))
         (standings D.fresh D.meaning devices.old) (standings D.fresh D.meaning devices.new)) }
     ensures command { OnErr result (IsSome (command_in (map string_bytes words.now))) }
@@ -155,8 +160,10 @@ fn done<R: Threads + Wait + Sync, F: Files, K: Sink, D: Device + Send>(
         (Some (command_of order.entry))
         (outside F.held F.faults K.taken K.faults D.fresh D.meaning files.old out.old devices.old)
         (outside F.held F.faults K.taken K.faults D.fresh D.meaning files.new out.new devices.new)) }
-    ensures nothing { OnErr result (WritesNothing
-        (K.taken out.old) (K.taken out.new) (K.faults out.old) (K.faults out.new)) }
+    ensures nothing { OnErr result (LeavesText (Some (command_of order.entry))
+        (outside F.held F.faults K.taken K.faults D.fresh D.meaning files.old out.old devices.old)
+        (outside F.held F.faults K.taken K.faults D.fresh D.meaning files.new out.new devices.new)) }
+    ensures no_fault { OnErr result (K.faults out.new ≡ K.faults out.old) }
     ensures left { OnErr result (LeavesDevices (Some (command_of order.entry))
         (standings D.fresh D.meaning devices.old) (standings D.fresh D.meaning devices.new)) }
 {
@@ -165,7 +172,8 @@ fn done<R: Threads + Wait + Sync, F: Files, K: Sink, D: Device + Send>(
             agent,
             devices: named,
             inline: false,
-        } => over_threads(rt, alloc, files, out, agent, named, devices),
+            from,
+        } => over_threads(rt, alloc, files, out, agent, named, from, devices),
         _ => served(alloc, order, files, out, devices),
     }
 }

@@ -1,5 +1,3 @@
-use Rattle.std.proofs.Common.{sym, ◌∙◌}
-use Rattle.golog_semantics.proofs.Starts.{own_text}
 use Rattle.golog_embedded.proofs.journal_text.Goals as goal
 
 pub returns-clause-journal : goal.returns-clause-journal
@@ -9,7 +7,7 @@ returns-clause-journal c = (
   c.in_ok-agent.ensures.answer,
   record {
     fits = c.in_ok-report.ensures.fits;
-    text = c.in_ok-text.ensures ∙ sym (own_text c.in_ok-agent.agent c.in_ok-report.report c.in_ok-report.ensures.begun);
+    text = c.in_ok-text.ensures;
   },
   c.in_ok-report.ensures.online,
   c.in_ok-report.ensures.begun,

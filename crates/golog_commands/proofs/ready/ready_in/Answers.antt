@@ -1,32 +1,36 @@
-use Rattle.std.specs.Prelude.{IsSomeAnd, option_map}
+use Rattle.std.specs.Prelude.{option_map}
+use Rattle.std.proofs.lemmas.Result.{IfErr-weaker}
 use Rattle.golog_file.specs.Spelled.{IsFirstRefusal, SpellsAgent}
-use Rattle.golog_commands.specs.declared.outcome.Input.TheVariants.{Agent as AgentFile, Devices as DevicesFile}
-use Rattle.golog_commands.specs.Inputs.{RefusesScripts}
-use Rattle.golog_commands.specs.Outcome.{FileFails, Never, OfAgent, OfScripts}
-use Rattle.golog_commands.proofs.OutcomeLemmas.{ended-so, file-comes, scripts-fail}
+use Rattle.golog_commands.specs.declared.outcome.Input.TheVariants.{Agent as AgentFile}
+use Rattle.golog_commands.specs.Outcome.{FileFails, IfEnded, Never, OfAgent, OfFrom, OfScripts}
+use Rattle.golog_commands.proofs.OutcomeLemmas.{behind-agent, ended-so, file-comes}
+use Rattle.golog_commands.proofs.FromStarts.{run-held}
 use Rattle.golog_commands.proofs.ready.ready_in.Goals as goal
 
-pub returns-in-Ok-scripts_in-clause-ready : goal.returns-in-Ok-scripts_in-clause-ready
-returns-in-Ok-scripts_in-clause-ready g c = record {
-  formed = c.in-Ok.ensures.formed;
-  texts = c.in-Ok-scripts_in.ensures.texts;
-  agent_so = c.in-Ok.ensures.reads;
-  scripts_so = rw c.in-Ok.ensures.held at c.in-Ok-scripts_in.ensures.reads;
-}
+pub returns-in-Ok-clause-ready : goal.returns-in-Ok-clause-ready
+returns-in-Ok-clause-ready g c =
+    let e = c.ready_of.ensures in
+    let same = c.in-Ok.ensures.held in
+    run-held (g.F.Files.held c.args.files.now) c.args.agent.now (option_map (λ file. file.now) c.args.devices) (option_map (λ file. file.now) c.args.from) c.in-Ok.agent c.ready_of.result
+    c.in-Ok.ensures.formed c.in-Ok.ensures.reads e.texts (rw same at e.scripts) e.formed e.is e.sorts e.kept (rw same at e.start)
 
-pub returns-in-Err-scripts_in-clause-unready : goal.returns-in-Err-scripts_in-clause-unready
-returns-in-Err-scripts_in-clause-unready g c =
+pub returns-in-Ok-clause-unready : goal.returns-in-Ok-clause-unready
+returns-in-Ok-clause-unready g c =
     let held = g.F.Files.held c.args.files.now in
     let first = g.F.Files.faults c.args.files.now in
     let later = g.F.Files.faults c.agent_in.new.files in
-    let now = g.F.Files.faults c.scripts_in.new.files in
+    let now = g.F.Files.faults c.ready_of.new.files in
     let name = c.args.agent.now in
     let named = option_map (λ file. file.now) c.args.devices in
-    ended-so c.in-Err-scripts_in.unready
-    (λ o. IsSomeAnd named (λ file. FileFails DevicesFile (RefusesScripts c.in-Ok.agent) held file later now o))
-    (OfAgent held first now name (λ a. OfScripts held first now a named Never))
-    (scripts-fail held first now later c.in-Ok.ensures.faults name c.in-Ok.agent c.in-Ok.ensures.reads named)
-    (rw c.in-Ok.ensures.held at c.in-Err-scripts_in.ensures.unready)
+    let from = option_map (λ file. file.now) c.args.from in
+    let agent = c.in-Ok.agent in
+    IfErr-weaker c.ready_of.result
+    (λ fault. IfEnded fault (OfScripts held later now agent named (λ l. OfFrom held later now agent from Never)))
+    (λ fault. IfEnded fault (OfAgent held first now name (λ a. OfScripts held first now a named (λ l. OfFrom held first now a from Never))))
+    (λ fault. ended-so fault (OfScripts held later now agent named (λ l. OfFrom held later now agent from Never))
+    (OfAgent held first now name (λ a. OfScripts held first now a named (λ l. OfFrom held first now a from Never)))
+    (behind-agent held first now later c.in-Ok.ensures.faults name agent c.in-Ok.ensures.reads named from))
+    (rw c.in-Ok.ensures.held at c.ready_of.ensures.unready)
 
 pub returns-in-Err-clause-unready : goal.returns-in-Err-clause-unready
 returns-in-Err-clause-unready g c =
@@ -35,7 +39,8 @@ returns-in-Err-clause-unready g c =
     let now = g.F.Files.faults c.agent_in.new.files in
     let name = c.args.agent.now in
     let named = option_map (λ file. file.now) c.args.devices in
+    let from = option_map (λ file. file.now) c.args.from in
     ended-so c.in-Err.unready (FileFails AgentFile IsFirstRefusal held name first now)
-    (OfAgent held first now name (λ a. OfScripts held first now a named Never))
-    (file-comes AgentFile held name first now IsFirstRefusal SpellsAgent (λ a. OfScripts held first now a named Never))
+    (OfAgent held first now name (λ a. OfScripts held first now a named (λ l. OfFrom held first now a from Never)))
+    (file-comes AgentFile held name first now IsFirstRefusal SpellsAgent (λ a. OfScripts held first now a named (λ l. OfFrom held first now a from Never)))
     c.in-Err.ensures.unready

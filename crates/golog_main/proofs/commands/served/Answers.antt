@@ -1,5 +1,5 @@
 use Rattle.std.proofs.Common.{Some, refl}
-use Rattle.golog_words.specs.Commands.{check, replay, ask}
+use Rattle.golog_words.specs.Commands.{check, replay, ask, migrate}
 use Rattle.golog_commands.specs.Outcome.{outside}
 use Rattle.golog_commands.proofs.Reporting.{demo-reported, on-err, outcome-nothing, plain-reported}
 use Rattle.golog_main.proofs.commands.served.Goals as goal
@@ -37,6 +37,17 @@ returns-in-Ask-clause-reported g c =
 pub returns-in-Ask-clause-nothing : goal.returns-in-Ask-clause-nothing
 returns-in-Ask-clause-nothing g c = outcome-nothing c.asked.result c.report_if-in-Ask.result _ _ _ _ c.report_if-in-Ask.ensures
 
+pub returns-in-Migrate-clause-reported : goal.returns-in-Migrate-clause-reported
+returns-in-Migrate-clause-reported g c =
+    let means = outside g.F.Files.held g.F.Files.faults g.K.Sink.taken g.K.Sink.faults g.D.Device.fresh g.D.Device.meaning in
+    rw c.in-Migrate.is
+    (plain-reported (means c.args.files.now c.args.out.now c.args.devices.now)
+    (means c.migrated.new.files c.report_if-in-Migrate.new.out c.args.devices.now)
+    (Some (migrate c.in-Migrate.agent.now c.in-Migrate.journal.now)) c.migrated.result c.report_if-in-Migrate.result refl c.migrated.ensures c.report_if-in-Migrate.ensures)
+
+pub returns-in-Migrate-clause-nothing : goal.returns-in-Migrate-clause-nothing
+returns-in-Migrate-clause-nothing g c = outcome-nothing c.migrated.result c.report_if-in-Migrate.result _ _ _ _ c.report_if-in-Migrate.ensures
+
 pub returns-in-Demo-clause-reported : goal.returns-in-Demo-clause-reported
 returns-in-Demo-clause-reported g c =
     let means = outside g.F.Files.held g.F.Files.faults g.K.Sink.taken g.K.Sink.faults g.D.Device.fresh g.D.Device.meaning in
@@ -59,6 +70,9 @@ returns-in-Replay-clause-left g c = rw c.in-Replay.is (on-err c.report_if-in-Rep
 
 pub returns-in-Ask-clause-left : goal.returns-in-Ask-clause-left
 returns-in-Ask-clause-left g c = rw c.in-Ask.is (on-err c.report_if-in-Ask.result _ refl)
+
+pub returns-in-Migrate-clause-left : goal.returns-in-Migrate-clause-left
+returns-in-Migrate-clause-left g c = rw c.in-Migrate.is (on-err c.report_if-in-Migrate.result _ refl)
 
 pub returns-in-Demo-clause-left : goal.returns-in-Demo-clause-left
 returns-in-Demo-clause-left g c = rw c.in-Demo.is (on-err c.report_if-in-Demo.result _ tt)

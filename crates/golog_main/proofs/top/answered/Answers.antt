@@ -1,7 +1,7 @@
 use Rattle.std.proofs.Common.{refl}
 use Rattle.golog_device.specs.Slots.{standings}
 use Rattle.golog_commands.specs.Outcome.{outside}
-use Rattle.golog_commands.proofs.Reporting.{left-alone, words-reported}
+use Rattle.golog_commands.proofs.Reporting.{left-alone, none-written, words-reported}
 use Rattle.golog_main.proofs.top.answered.Goals as goal
 
 pub returns-in-Err-Refused-clause-reported : goal.returns-in-Err-Refused-clause-reported
@@ -12,3 +12,6 @@ returns-in-Err-Refused-clause-reported g c =
 
 pub returns-in-Err-Memory-clause-left : goal.returns-in-Err-Memory-clause-left
 returns-in-Err-Memory-clause-left g c = left-alone _ (standings g.D.Device.fresh g.D.Device.meaning c.args.devices.now)
+
+pub returns-in-Err-Memory-clause-nothing : goal.returns-in-Err-Memory-clause-nothing
+returns-in-Err-Memory-clause-nothing g c = none-written _ _ _ refl

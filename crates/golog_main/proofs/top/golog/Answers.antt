@@ -5,7 +5,7 @@ use Rattle.golog_main.proofs.top.golog.Goals as goal
 
 pub returns-clause-ends : goal.returns-clause-ends
 returns-clause-ends g c =
-    call-ends _ _ _ c.answered.result c.call_status.result c.answered.ensures.reported c.answered.ensures.command c.answered.ensures.nothing c.answered.ensures.left c.call_status.ensures.status
+    call-ends _ _ _ c.answered.result c.call_status.result c.answered.ensures.reported c.answered.ensures.command c.answered.ensures.nothing c.answered.ensures.no_fault c.answered.ensures.left c.call_status.ensures.status
     c.call_status.ensures.memory
 
 pub returns-clause-fault : goal.returns-clause-fault
