@@ -34,26 +34,35 @@ fn commands_are_read(rt: HostRuntime) -> Result<(), NoMemory> {
     let table = [
         (
             "run a",
-            "Run { agent: \"a\", devices: None, inline: false }",
+            "Run { agent: \"a\", devices: None, inline: false, from: None }",
         ),
         (
             "run --inline a",
-            "Run { agent: \"a\", devices: None, inline: true }",
+            "Run { agent: \"a\", devices: None, inline: true, from: None }",
         ),
         (
             "run a d",
-            "Run { agent: \"a\", devices: Some(\"d\"), inline: false }",
+            "Run { agent: \"a\", devices: Some(\"d\"), inline: false, from: None }",
         ),
         (
             "run a --inline d",
-            "Run { agent: \"a\", devices: Some(\"d\"), inline: true }",
+            "Run { agent: \"a\", devices: Some(\"d\"), inline: true, from: None }",
         ),
         (
             "run run check --inline",
-            "Run { agent: \"run\", devices: Some(\"check\"), inline: true }",
+            "Run { agent: \"run\", devices: Some(\"check\"), inline: true, from: None }",
+        ),
+        (
+            "run --from j a",
+            "Run { agent: \"a\", devices: None, inline: false, from: Some(\"j\") }",
+        ),
+        (
+            "run a --inline --from j d",
+            "Run { agent: \"a\", devices: Some(\"d\"), inline: true, from: Some(\"j\") }",
         ),
         ("check check", "Check { agent: \"check\" }"),
         ("replay a j", "Replay { agent: \"a\", journal: \"j\" }"),
+        ("migrate a j", "Migrate { agent: \"a\", journal: \"j\" }"),
         (
             "ask a j (p)",
             "Ask { agent: \"a\", journal: \"j\", condition: \"(p)\" }",

@@ -20,7 +20,10 @@ const RUN: &[&str] = &["run", "x.agent", "--inline"];
 /// The words of a run of `x.agent` with the scripts of `x.devices`.
 const RUN_BOTH: &[&str] = &["run", "x.agent", "x.devices", "--inline"];
 
-/// The words of the same over threads.
+/// The words of a run of `x.agent` from `x.journal`.
+pub const RUN_FROM: &[&str] = &["run", "x.agent", "--inline", "--from", "x.journal"];
+
+/// The words of a run with scripts over threads.
 pub const RUN_ON_THREADS: &[&str] = &["run", "x.agent", "x.devices"];
 
 /// The words of a replay of `x.journal`.
@@ -309,13 +312,32 @@ fn threaded<R: Threads + Wait + Sync, D: Device + Send>(
     Call { status, out }
 }
 
+/// The exit status of a call over these devices, each on a thread of its own, that writes to this sink.
+pub fn threaded_to<R: Threads + Wait + Sync, K: Sink, D: Device + Send>(
+    rt: &R,
+    alloc: Global,
+    setting: &Setting<'_>,
+    out: &mut K,
+    devices: &mut [D],
+) -> Result<u8, NoMemory>
+    requires boxes { 16 ≤ length devices.old }
+    requires fresh { FreshBelow 16 (standings D.fresh D.meaning devices.old) }
+{
+    let words = words_of(alloc, setting.words);
+    let (words, mut files) = both(words, files_of(alloc, setting))?;
+    let status = status_of(rt, alloc, words.as_slice(), &mut files, out, devices);
+    drop(words);
+    drop(files);
+    Ok(status)
+}
+
 /// The same of words that may need threads.
-fn status_of<R: Threads + Wait + Sync, D: Device + Send>(
+fn status_of<R: Threads + Wait + Sync, K: Sink, D: Device + Send>(
     rt: &R,
     alloc: Global,
     words: &[String],
     files: &mut MemFiles,
-    out: &mut MemSink,
+    out: &mut K,
     devices: &mut [D],
 ) -> u8
     requires boxes { 16 ≤ length devices.old }

@@ -1,4 +1,4 @@
-use crate::calls::{ONE, REPLAY, Setting, says};
+use crate::calls::{ONE, REPLAY, RUN_FROM, Setting, says};
 use golog_base::NoMemory;
 use std::alloc::Global;
 use std::process::Abort;
@@ -17,6 +17,8 @@ const LAMPS: &[u8] = b"(agent
 
 const ASK: &[&str] = &["ask", "x.agent", "x.journal", "(p)"];
 
+const MIGRATE: &[&str] = &["migrate", "x.agent", "x.journal"];
+
 /// A call with these words over an agent file and a journal file.
 fn over<'a>(words: &'a [&'a str], agent: &'a [u8], journal: &'a [u8]) -> Setting<'a> {
     Setting::of(words, ("x.agent", agent), ("x.journal", journal))
@@ -25,7 +27,7 @@ fn over<'a>(words: &'a [&'a str], agent: &'a [u8], journal: &'a [u8]) -> Setting
 // The agent file is selected, read and found to end; then the journal file is.
 #[test]
 fn a_read_that_fails_is_a_read_fault(rt: HostRuntime) -> Result<(), NoMemory> {
-    let rows: [(&[&str], &[u32], &str); 8] = [
+    let rows: [(&[&str], &[u32], &str); 13] = [
         (ASK, &[0], "read fault agent\n"),
         (ASK, &[1], "read fault agent\n"),
         (ASK, &[2], "read fault agent\n"),
@@ -34,6 +36,11 @@ fn a_read_that_fails_is_a_read_fault(rt: HostRuntime) -> Result<(), NoMemory> {
         (ASK, &[5], "read fault journal\n"),
         (REPLAY, &[2], "read fault agent\n"),
         (REPLAY, &[3], "read fault journal\n"),
+        (MIGRATE, &[2], "read fault agent\n"),
+        (MIGRATE, &[3], "read fault journal\n"),
+        (RUN_FROM, &[2], "read fault agent\n"),
+        (RUN_FROM, &[3], "read fault journal\n"),
+        (RUN_FROM, &[5], "read fault journal\n"),
     ];
     for (words, reads, said) in rows {
         let failing = Setting {
@@ -48,10 +55,12 @@ fn a_read_that_fails_is_a_read_fault(rt: HostRuntime) -> Result<(), NoMemory> {
 // A write that fails goes before each answer.
 #[test]
 fn a_write_that_fails_is_told(rt: HostRuntime) -> Result<(), NoMemory> {
-    let lines: [(&[&str], &str); 5] = [
+    let lines: [(&[&str], &str); 7] = [
         (&["check", "x.agent"], "ok"),
         (REPLAY, "no"),
         (ASK, "tr"),
+        (MIGRATE, "go"),
+        (RUN_FROM, "go"),
         (&["demo", "1"], "de"),
         (&["check", "y.agent"], "re"),
     ];

@@ -1,5 +1,5 @@
 use crate::asserting::same;
-use crate::calls::{Call, ONE, Setting, called, says};
+use crate::calls::{Call, ONE, RUN_FROM, Setting, called, says};
 use golog_base::NoMemory;
 use std::alloc::Global;
 
@@ -21,15 +21,18 @@ const BUTTON_JOURNAL: &str =
     4 do off(1) @lift\n5 do stop_interrupts\n6 close lift ended 1\n7 end done\n";
 
 /// A search for a way up.
-const FLOORS: (&[u8], &[u8]) = (
-    b"(agent (sort level 1 4) (fluent floor () level 1) (action up ())
-        (poss (up) (< (floor) 4)) (causes (up) (floor) (+ (floor) 1))
-        (main (search 8 1000 (seq (star (act up)) (test (= (floor) 2))))))",
-    b"[]",
-);
+const FLOORS: &[u8] = b"(agent (sort level 1 4) (fluent floor () level 1) (action up ())
+    (poss (up) (< (floor) 4)) (causes (up) (floor) (+ (floor) 1))
+    (main (search 8 1000 (seq (star (act up)) (test (= (floor) 2))))))";
 
 /// The journal of its run.
 const FLOORS_JOURNAL: &str = "0 do up run up; -\n1 test\n2 end done\n";
+
+/// A journal from which `ONE` runs, and that of this run.
+const DONE_ONCE: &[u8] = b"0 do a\n";
+
+const DONE_AGAIN: &str = "golog 2\nstart interrupts_running false\nstart p true\nbegin\n\
+    0 do a\n1 test\n2 end done\n";
 
 #[test]
 fn a_read_that_fails_in_mid_stream_is_a_read_fault(rt: HostRuntime) -> Result<(), NoMemory> {
@@ -96,8 +99,8 @@ fn is_so_or_told(call: &Call, journal: &str) -> bool {
     }
 }
 
-/// The run of an agent and scripts with this journal.
-type Run<'a> = (&'a [u8], &'a [u8], &'a str);
+/// A call of a run with this journal.
+type Run<'a> = (Setting<'a>, &'a str);
 
 /// The status of such a run over a sink with room for so many bytes, whose calls of these numbers fail, and how many
 /// bytes were written, if they are the journal, or its first and a write failed.
@@ -107,11 +110,11 @@ fn written_into<'a>(
     room: u32,
     writes: &'a [u32],
 ) -> Result<(u8, Option<usize>), NoMemory> {
-    let (agent, scripts, journal) = run;
+    let (setting, journal) = run;
     let setting = Setting {
         room,
         writes,
-        ..Setting::run_with(agent, scripts)
+        ..setting
     };
     let call = called(alloc, &setting)?;
     let is_so = is_so_or_told(&call, journal);
@@ -131,7 +134,7 @@ fn may_fail(alloc: Global, run: Run<'_>, number: u32) -> Result<bool, NoMemory> 
 /// that is all.
 fn may_end(alloc: Global, run: Run<'_>, room: u32) -> Result<bool, NoMemory> {
     let (status, written) = written_into(alloc, run, room, &[])?;
-    let (_agent, _scripts, journal) = run;
+    let (_setting, journal) = run;
     let length = journal.len().min(room as usize);
     Ok(written == Some(length) && (status == 0) == (length == journal.len()))
 }
@@ -139,9 +142,14 @@ fn may_end(alloc: Global, run: Run<'_>, room: u32) -> Result<bool, NoMemory> {
 // Each call of the sink fails in turn, and it has room for each number of bytes.
 #[test]
 fn each_write_may_fail(rt: HostRuntime) -> Result<(), NoMemory> {
-    for (files, journal) in [(FLOORS, FLOORS_JOURNAL), (BUTTON, BUTTON_JOURNAL)] {
-        let (agent, scripts) = files;
-        let run = (agent, scripts, journal);
+    let (button, scripts) = BUTTON;
+    let from = Setting::of(RUN_FROM, ("x.agent", ONE), ("x.journal", DONE_ONCE));
+    let runs = [
+        (Setting::run(FLOORS), FLOORS_JOURNAL),
+        (Setting::run_with(button, scripts), BUTTON_JOURNAL),
+        (from, DONE_AGAIN),
+    ];
+    for run in runs {
         for number in 0..10u32 {
             same(&rt, number, may_fail(rt.alloc(), run, number)?, true);
         }

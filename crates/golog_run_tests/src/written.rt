@@ -1,11 +1,14 @@
 //! Journals that are written while the program runs: whoever follows one sees each line when its entry is seen.
+use crate::actors::{Actor, Actors, Part};
 use crate::asserting::same;
-use crate::calls::{Setting, served_to};
+use crate::calls::{NO_FILE, Setting, served_to, threaded_to};
 use crate::slots::{Maker, sixteen};
 use golog_base::{Bytes, Failed, List, NoMemory, Sink};
 use golog_device::{Begun, Device, Idle, Served};
 use std::alloc::Global;
+use std::sync::Wait;
 use std::sync::atomic::{AtomicU64, Ordering};
+use std::thread::Threads;
 
 /// A program of two steps beside a device that posts.
 const AGENT: &[u8] =
@@ -119,5 +122,50 @@ fn followed(alloc: Global) -> Result<(u8, u64, u64), NoMemory> {
 #[test]
 fn each_line_of_a_call_is_seen_with_its_entry(rt: HostRuntime) -> Result<(), NoMemory> {
     same(&rt, "lines", followed(rt.alloc())?, (0, 24, 6));
+    Ok(())
+}
+
+/// The words of a run over threads.
+const ON_THREADS: &[&str] = &["run", "x.agent"];
+
+/// A program of two steps, which goes on where its device says so.
+const WAITING: &[u8] =
+    b"(agent (device one) (fluent over () bool false) (action step ()) (exo stop () one)
+    (causes (stop) (over) true) (main (seq (act step) (act step) (test (over)))))";
+
+/// The exit status of a call over threads whose device awaits two lines before it posts, and how many lines there were.
+fn followed_on_threads<R: Threads + Wait + Sync>(
+    threads: &R,
+    rt: &HostRuntime,
+) -> Result<(u8, u64), NoMemory> {
+    let (come, lines) = (AtomicU64::new(0), AtomicU64::new(0));
+    let part = Part {
+        awaited: 2,
+        ..Part::of("", "stop")
+    };
+    let actors = Actors {
+        clock: rt,
+        first: part,
+        others: part,
+        one: &come,
+        two: &lines,
+    };
+    let alloc = rt.alloc();
+    let mut devices = sixteen::<Actor<'_, '_, HostRuntime>, _>(alloc, &actors)?;
+    let mut out = Counting { lines: &lines };
+    let setting = Setting::of(ON_THREADS, ("x.agent", WAITING), NO_FILE);
+    let status = threaded_to(threads, alloc, &setting, &mut out, devices.as_mut_slice());
+    drop(devices);
+    match status {
+        Ok(status) => Ok((status, lines.load(Ordering::SeqCst))),
+        Err(NoMemory) => Err(NoMemory),
+    }
+}
+
+// The lines of the two steps are written while the program waits for the device, which posts behind them. It would wait
+// in vain for those of a call that wrote the journal at the end of its run, and the program would be stuck.
+#[test]
+fn each_line_over_threads_is_seen_with_its_entry(rt: HostRuntime) -> Result<(), NoMemory> {
+    same(&rt, "lines", followed_on_threads(&rt, &rt)?, (0, 6));
     Ok(())
 }

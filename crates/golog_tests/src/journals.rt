@@ -6,7 +6,7 @@ use golog_base::NoMemory;
 use golog_file::read_agent;
 use golog_reports::{TextFault, read_journal};
 use golog_semantics::Report;
-use golog_text::write_journal;
+use golog_text::{head_text, write_journal};
 use golog_tree::Agent;
 use std::alloc::Global;
 
@@ -29,13 +29,27 @@ enum Read {
     NoMemory,
 }
 
+/// Whether the text begins with the head of the report's start, where it has one.
+fn has_head(alloc: Global, agent: &Agent, report: &Report, text: &[u8]) -> bool
+    requires formed { WellFormed agent.now }
+    requires report { IsReport agent.now report.now }
+{
+    let Some(values) = &report.start else {
+        return true;
+    };
+    match head_text(alloc, agent, values.as_slice()) {
+        Ok(head) => text.strip_prefix(head.as_slice()).is_some(),
+        Err(NoMemory) => false,
+    }
+}
+
 /// Whether the report has this text.
 fn is_written(alloc: Global, agent: &Agent, report: &Report, text: &[u8]) -> bool
     requires formed { WellFormed agent.now }
     requires report { IsReport agent.now report.now }
 {
     match write_journal(alloc, agent, report) {
-        Ok(written) => written.as_slice() == text,
+        Ok(written) => written.as_slice() == text && has_head(alloc, agent, report, text),
         Err(NoMemory) => false,
     }
 }
@@ -83,7 +97,7 @@ const WHOLE: &[u8] = b"0 do go(-1)
 ";
 
 /// Texts that are refused, each with the code and the line.
-const REFUSED: [(&[u8], u8, u32); 56] = [
+const REFUSED: [(&[u8], u8, u32); 72] = [
     // A line has a body and a line feed.
     (b"\n", 50, 0),
     (b"0 test", 50, 0),
@@ -148,7 +162,68 @@ const REFUSED: [(&[u8], u8, u32); 56] = [
     (b"0 do look @arm\n1 sense arm 0 true against 3\n", 53, 1),
     (b"0 do look @arm\n1 sense arm 2 true\n", 53, 1),
     (b"0 do lift(1,1) @arm\n1 sense arm 0 true\n", 53, 1),
+    // A head has the lines of the fluents in their order, and a last one.
+    (b"golog 2", 50, 0),
+    (b"golog 2\r\n", 50, 0),
+    (b"golog 3\n", 50, 0),
+    (b"golog 2\n", 54, 1),
+    (b"golog 2\nbegin\n", 54, 1),
+    (b"golog 2\nstart opened true\n", 54, 1),
+    (b"golog 2\nstart interrupts_running unknown", 54, 1),
+    (b"golog 2\nstart interrupts_running 0\n", 54, 1),
+    (
+        b"golog 2\nstart interrupts_running false\nstart opened 3\n",
+        54,
+        2,
+    ),
+    (
+        b"golog 2\nstart interrupts_running false\nstart opened  true\n",
+        54,
+        2,
+    ),
+    (
+        b"golog 2\nstart interrupts_running false\nstart opened true\nstart height 4\n",
+        54,
+        3,
+    ),
+    (
+        b"golog 2\nstart interrupts_running false\nstart opened true\nstart height -1\n",
+        54,
+        4,
+    ),
+    (
+        b"golog 2\nstart interrupts_running false\nstart opened true\nstart height -1\nbegin",
+        54,
+        4,
+    ),
+    (
+        b"golog 2\nstart interrupts_running false\nstart opened true\nstart height -1\nend\nbegin\n",
+        54,
+        4,
+    ),
+    // Behind it, places are counted from 0, and lines from the first of the text.
+    (
+        b"golog 2\nstart interrupts_running false\nstart opened true\nstart height -1\nbegin\n5 test\n",
+        51,
+        5,
+    ),
+    (
+        b"golog 2\nstart interrupts_running false\nstart opened true\nstart height -1\nbegin\n0 do zz\n",
+        52,
+        5,
+    ),
 ];
+
+/// Entries behind a head.
+const HEADED: &[u8] = b"golog 2
+start interrupts_running false
+start opened unknown
+start height -1
+begin
+0 do weigh @arm
+1 sense arm 0 3 against -1
+2 end done
+";
 
 #[test]
 fn lines_are_read_or_refused(rt: HostRuntime) {
@@ -160,9 +235,10 @@ fn lines_are_read_or_refused(rt: HostRuntime) {
             Read::Refused(code, line),
         );
     }
-    let entries: [(&[u8], usize, bool); 3] = [
+    let entries: [(&[u8], usize, bool); 4] = [
         (b"", 0, true),
         (WHOLE, 12, true),
+        (HEADED, 3, true),
         (
             b"0 do look @arm\n1 sense arm 0 true against true\n",
             2,
