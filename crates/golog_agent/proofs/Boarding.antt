@@ -6,6 +6,7 @@ use Rattle.std.specs.Option.{option_map_or}
 use Rattle.std.proofs.lemmas.Bool.{or_parts, or_from, and_from}
 use Rattle.std.proofs.lemmas.List.{append-nil}
 use Rattle.std.proofs.lemmas.List.Folds.{list_any-append}
+use Rattle.golog_base.proofs.Bools.{or-false}
 use Rattle.golog_semantics.specs.declared.journal.Entry.{Entry}
 use Rattle.golog_semantics.specs.declared.journal.Entry.TheVariants.{Do, Test, Exo, Sense, Rest, Close, End}
 use Rattle.golog_semantics.specs.Journal.{Journal, has_end, is_end, poster_of}
@@ -44,10 +45,6 @@ no-end-in [] h = refl
 no-end-in (e ∷ others) h =
     let parts = or_parts (is_of_program e) (list_any is_of_program others) h in
     or_from _ _ (no-end-one e parts.0) (no-end-in others parts.1)
-
-or-false : (b : Bool) → (b || false) ≡ b
-or-false true = refl
-or-false false = refl
 
 -- entries of devices do not end the program
 pub end-stays : (seen others : Journal) → list_any is_of_program others ≡ false → has_end (seen ++ others) ≡ has_end seen

@@ -6,6 +6,7 @@ use Rattle.std.specs.Option.{option_map_or}
 use Rattle.std.proofs.lemmas.Bool.{and_parts}
 use Rattle.std.proofs.lemmas.Option.{slice_get_within}
 use Rattle.std.proofs.lemmas.List.Elements.{Contains-push, Contains-append_left}
+use Rattle.golog_base.proofs.Bools.{or-false}
 use Rattle.golog_tree.specs.declared.agent.Agent.{Agent}
 use Rattle.golog_tree.specs.declared.agent.ActionItem.{ActionItem}
 use Rattle.golog_tree.specs.declared.prog.Prog.{Prog}
@@ -93,10 +94,6 @@ module _ (agent : Agent) (journal : Journal) where
       ∙ ap (known_as (values_after agent (journal ++ e ∷ []))) (sym is)
 
   -- ---- the end
-
-  or-false : (b : Bool) → (b || false) ≡ b
-  or-false true = refl
-  or-false false = refl
 
   others : (ended : Option Answer) (e : Entry) → is_end e ≡ false → EndsBy journal ended → EndsBy (and_then journal e) ended
   others None e none h = (entries_grow journal e).end ∙ ap (λ b. has_end journal || b) none ∙ or-false (has_end journal) ∙ h

@@ -3,6 +3,7 @@ use Rattle.std.proofs.Common.{◌≡◌, ◌≢◌, ℕ, zero, suc, ◌+◌, ◌
 use Rattle.std.specs.Prelude.{filter, is_none, nat_lt, option_map}
 use Rattle.std.specs.List.{list_all, list_any, range_with_len}
 use Rattle.std.proofs.lemmas.Bool.{and_parts, cases_eq, cases_lt, le-ltb, lt-ltb, le-leb}
+use Rattle.golog_base.proofs.Bools.{or-true}
 use Rattle.golog_tree.specs.declared.agent.Agent.{Agent}
 use Rattle.golog_tree.specs.declared.prog.Prog.{Prog}
 use Rattle.golog_tree.specs.Nest.{nest}
@@ -256,10 +257,6 @@ module _ (agent : Agent) (journal : Journal) where
           first = inside.2.1;
           nests = inside.1;
         }
-
-    or-true : (b : Bool) → (b || true) ≡ true
-    or-true true = refl
-    or-true false = refl
 
     -- how a blocked program ends where no device may post any more
     abbrev blocked-end : Blocked → Option Answer

@@ -5,6 +5,7 @@ use Rattle.std.specs.List.{list_all}
 use Rattle.std.proofs.lemmas.Bool.{and_from}
 use Rattle.std.proofs.lemmas.List.{append-nil}
 use Rattle.std.proofs.lemmas.List.Folds.{list_any-append, list_all-append}
+use Rattle.golog_base.proofs.Bools.{or-true}
 use Rattle.golog_tree.specs.declared.agent.Agent.{Agent}
 use Rattle.golog_semantics.specs.declared.journal.Entry.{Entry}
 use Rattle.golog_semantics.specs.declared.journal.Entry.TheVariants.{End}
@@ -137,10 +138,6 @@ step-comes sight = each-step (λ e. may_come sight e ≡ true) (λ action. refl)
 
 step-goes-on : (e : Entry) → is_step_entry e ≡ true → is_end e ≡ false
 step-goes-on = each-step (λ e. is_end e ≡ false) (λ action. refl) refl
-
-or-true : (b : Bool) → (b || true) ≡ true
-or-true true = refl
-or-true false = refl
 
 module _ (old new : Sight) where
   leads-by : (committed : Journal) → list_all (may_come old) committed ≡ true → Follows old new committed → Leads old new

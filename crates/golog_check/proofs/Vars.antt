@@ -9,6 +9,7 @@ use Rattle.std.proofs.lemmas.List.{length-append}
 use Rattle.std.proofs.lemmas.List.Folds.{list_any-append}
 use Rattle.std.proofs.lemmas.List.Quantifiers.{position-Some}
 use Rattle.std.proofs.lemmas.Option.{slice_get-get_or, slice_get-map}
+use Rattle.golog_base.proofs.Bools.{and-false}
 use Rattle.golog_tree.specs.declared.agent.SortItem.{SortItem}
 use Rattle.golog_tree.specs.declared.agent.SortItem.TheVariants as sort
 use Rattle.golog_tree.specs.declared.cond.Arg.{Arg}
@@ -169,13 +170,9 @@ module _ (names : Declared) where
       ap (λ b. b || list_any (sorts.lists_before names word at) (enumerate_from (first + 1) (map sort_item xs))) (one s here)
       ∙ ap (λ b. lists_before word at s || b) rest
     where
-      and-none : (b : Bool) → (b && false) ≡ false
-      and-none true = refl
-      and-none false = refl
-
       one : (s : DraftSort) → slice_get names.places first ≡ Some (sort_place s)
           → sorts.lists_before names word at (first, sort_item s) ≡ lists_before word at s
-      one (Range name low high place) e = and-none (sorts.is_declared names at first)
+      one (Range name low high place) e = and-false (sorts.is_declared names at first)
       one (Listed name constants place) e =
           ap (λ (o : Option ℕ). option_map_or (λ p. nat_le p at) o true && list_any (same word) constants) e
 

@@ -4,6 +4,7 @@ use Rattle.std.specs.Prelude.{not, ◌&&◌, ◌||◌, filter, sum_by, unwrap_or
 use Rattle.std.specs.List.{flat_map, list_any, range_with_len}
 use Rattle.std.proofs.lemmas.List.{length-map}
 use Rattle.std.proofs.lemmas.List.FromFn.{sum_by-map-range_with_len_more}
+use Rattle.golog_base.proofs.Bools.{or-false}
 use Rattle.golog_tree.specs.declared.agent.Agent.{Agent}
 use Rattle.golog_tree.specs.declared.prog.Prog.{Prog}
 use Rattle.golog_tree.specs.declared.prog.Way.{Way}
@@ -16,7 +17,7 @@ use Rattle.golog_semantics.specs.Blocks.{State, distinct, has_path, is_cut, leve
 use Rattle.golog_find.specs.Levels.{Level, Reached, is_there, reached_by, state_of}
 use Rattle.golog_find.proofs.Seen.{count_before, cut_before, level_at}
 use Rattle.golog_find.proofs.FirstRuns.{same_state-eq}
-use Rattle.golog_find.proofs.LevelParts.{any-append, cut_at, cuts, fresh, next_level-parts, next_level-states, or-assoc, or-false, steps_all, steps_from}
+use Rattle.golog_find.proofs.LevelParts.{any-append, cut_at, cuts, fresh, next_level-parts, next_level-states, or-assoc, steps_all, steps_from}
 
 -- whether some of these pass, as their distinct states tell
 module _ (f : State → Bool) where

@@ -8,6 +8,7 @@ use Rattle.std.proofs.lemmas.Bool.{eqb-true, eq-eqb}
 use Rattle.std.proofs.lemmas.List.{drop_more, length_push}
 use Rattle.std.proofs.lemmas.List.Elements.{All-cons, All-get_or, All-head, All-nil, All-push, All-tail, All-weaker}
 use Rattle.std.proofs.lemmas.Option.{slice_get-get_or, slice_get-map, slice_get_read, slice_get_within}
+use Rattle.golog_base.proofs.Bools.{or-false, or-true}
 use Rattle.golog_tree.specs.declared.agent.Agent.{Agent}
 use Rattle.golog_tree.specs.declared.prog.Label.{Label}
 use Rattle.golog_tree.specs.declared.prog.Label.TheVariants.{Quiet}
@@ -34,7 +35,7 @@ use Rattle.golog_find.specs.declared.level.Level.{Level as AnyLevel}
 use Rattle.golog_find.specs.declared.numbered.Numbered.{Numbered}
 use Rattle.golog_find.specs.Levels.{AreSearched, Level, Looked, Reached, is_there, reached_by, start_of, state_of, stored_steps, with_state, with_stored, with_way}
 use Rattle.golog_find.specs.Numbers.{GoesOn, HaveNumbers, IsLevel, Sees, all_meant, is_pair, level_of, meant, with_numbered}
-use Rattle.golog_find.proofs.LevelParts.{any-append, map-append, or-false, or-true}
+use Rattle.golog_find.proofs.LevelParts.{any-append, map-append}
 
 pub goes_on-same : (progs : List Prog) → GoesOn progs progs
 goes_on-same progs = record { longer = omega arith; same = λ i l. refl }

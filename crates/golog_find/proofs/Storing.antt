@@ -5,6 +5,7 @@ use Rattle.std.specs.List.{position_from}
 use Rattle.std.specs.Option.{option_map_or, option_or}
 use Rattle.std.proofs.lemmas.Bool.{ltb-false, ltb-true}
 use Rattle.std.proofs.lemmas.List.{length_push}
+use Rattle.golog_base.proofs.Bools.{or-true}
 use Rattle.golog_tree.specs.declared.agent.Agent.{Agent}
 use Rattle.golog_tree.specs.declared.prog.Way.{Way}
 use Rattle.golog_semantics.specs.declared.Mode.{Mode}
@@ -15,7 +16,6 @@ use Rattle.golog_semantics.specs.Search.{final, is_followed, plain_ways}
 use Rattle.golog_semantics.specs.Blocks.{State, same_state}
 use Rattle.golog_find.specs.Levels.{AreStored, IsStoredOf, Level, Reached, end_of, ends_at, first_end, is_stored, is_there, next_level, nothing_reached, reached_by, run_to, state_of, stored_level, stored_steps, with_state, with_steps, with_stored, with_way}
 use Rattle.golog_find.proofs.FirstRuns.{same_state-eq}
-use Rattle.golog_find.proofs.LevelParts.{or-true}
 use Rattle.golog_find.proofs.RunsTo.{with_step}
 
 -- the first so many of a list

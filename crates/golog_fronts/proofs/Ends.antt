@@ -4,6 +4,7 @@ use Rattle.std.specs.Prelude.{Result, Ok, Err, IfOk}
 use Rattle.std.specs.List.{list_all, list_any, range_with_len}
 use Rattle.std.proofs.lemmas.List.Folds.{list_any-append}
 use Rattle.std.proofs.lemmas.List.FromFn.{map-range_with_len_more}
+use Rattle.golog_base.proofs.Bools.{and-true, or-false}
 use Rattle.golog_tree.specs.declared.agent.Agent.{Agent}
 use Rattle.golog_tree.specs.declared.cond.Arg.{Arg}
 use Rattle.golog_tree.specs.declared.cond.Cond.{Cond}
@@ -44,10 +45,6 @@ range-more i =
     sym (map-id (range_with_len 0 (i + 1))) ∙ map-range_with_len_more (λ n. n) 0 i i (omega arith)
     ∙ ap (λ ns. ns ++ i ∷ []) (map-id (range_with_len 0 i))
 
-or_false : (b : Bool) → (b || false) ≡ b
-or_false true = refl
-or_false false = refl
-
 -- when conditions put together hold
 module _ (agent : Agent) (values : Values) (m : Mode) where
   abbrev so : Cond → Bool
@@ -79,17 +76,13 @@ module _ (agent : Agent) (values : Values) (m : Mode) where
   so-or cs = ap (λ (f : TC). holds m (at f)) (fold-or TC TT (cond_step agent values) (term_step agent values) cs) ∙ or_all cs
 
   pub so-either : (c d : Cond) → so (cond.Or (c ∷ d ∷ [])) ≡ (so c || so d)
-  so-either c d = so-or (c ∷ d ∷ []) ∙ ap (λ b. so c || b) (or_false (so d))
-
-  and_true : (b : Bool) → (b && true) ≡ b
-  and_true true = refl
-  and_true false = refl
+  so-either c d = so-or (c ∷ d ∷ []) ∙ ap (λ b. so c || b) (or-false (so d))
 
   pub so-both : (c d : Cond) → so (cond.And (c ∷ d ∷ [])) ≡ (so c && so d)
   so-both c d =
       ap (λ (f : TC). holds m (at f)) (fold-and TC TT (cond_step agent values) (term_step agent values) (c ∷ d ∷ []))
       ∙ holds-both m (truth_of agent values c (env_of [])) (both (truth_of agent values d (env_of [])) Yes)
-      ∙ ap (λ b. so c && b) (holds-both m (truth_of agent values d (env_of [])) Yes ∙ ap (λ b. so d && b) (holds-yes m) ∙ and_true (so d))
+      ∙ ap (λ b. so c && b) (holds-both m (truth_of agent values d (env_of [])) Yes ∙ ap (λ b. so d && b) (holds-yes m) ∙ and-true (so d))
 
 module _ (agent : Agent) (g : IsGuarded agent) where
   abbrev End : Prog → Cond → Type 0

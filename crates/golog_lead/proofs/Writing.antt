@@ -24,7 +24,7 @@ and_then-none None = refl
 and_then-none (Some told) = ap Some (append-nil told)
 
 -- the first bytes of a text are those of what begins with it
-prefix-more : (was is : Option Text) (text more : Text) → AddsPrefix was is text → AddsPrefix was is (text ++ more)
+pub prefix-more : (was is : Option Text) (text more : Text) → AddsPrefix was is text → AddsPrefix was is (text ++ more)
 prefix-more was is text more (n, within, added) = (
   n,
   let long = length-append text more in omega (arith, within, long),
@@ -32,7 +32,7 @@ prefix-more was is text more (n, within, added) = (
 )
 
 -- a text, and the first bytes of what comes behind it
-prefix-behind : (was now is : Option Text) (text line : Text) → now ≡ and_then_bytes was text → AddsPrefix now is line → AddsPrefix was is (text ++ line)
+pub prefix-behind : (was now is : Option Text) (text line : Text) → now ≡ and_then_bytes was text → AddsPrefix now is line → AddsPrefix was is (text ++ line)
 prefix-behind was now is text line whole (n, within, added) = (
   length text + n,
   let long = length-append text line in omega (arith, within, long),

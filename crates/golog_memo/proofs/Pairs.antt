@@ -4,6 +4,7 @@ use Rattle.std.specs.HashSet.{HashSet, IsUnchanged, UpdatesBy, contains_by}
 use Rattle.std.specs.List.{list_any}
 use Rattle.std.specs.Set.{KeepsOthers}
 use Rattle.std.proofs.lemmas.Bool.{eqb-true}
+use Rattle.golog_base.proofs.Bools.{or-false, or-true}
 use Rattle.golog_semantics.specs.Same.{same_values}
 use Rattle.golog_semantics.proofs.Levels.{same_values-eq}
 use Rattle.golog_semantics.proofs.Tests.{and_cases}
@@ -13,14 +14,6 @@ use Rattle.golog_memo.specs.declared.seen.Pair.{Pair}
 -- the two pairs are equal
 abbrev pub same_pair : Pair → Pair → Bool
 same_pair one other = is_pair one.prog one.values.items other
-
-or-true : (b : Bool) → (b || true) ≡ true
-or-true true = refl
-or-true false = refl
-
-or-false : (b : Bool) → (b || false) ≡ b
-or-false true = refl
-or-false false = refl
 
 -- a pair is like an equal one
 alike : (number : ℕ) (values : List ℕ) (x y : Pair) → is_pair number values x ≡ true → is_pair number values y ≡ same_pair x y

@@ -2,6 +2,7 @@
 use Rattle.std.proofs.Common.{◌≡◌, ℕ, zero, suc, Bool, true, false, ◌&&◌, if◌then◌else◌, List, [], ◌∷◌, refl, ap, ◌∙◌, arith}
 use Rattle.std.specs.Prelude.{not}
 use Rattle.std.specs.List.{list_any}
+use Rattle.golog_base.proofs.Bools.{and-false}
 use Rattle.golog_tree.specs.declared.agent.Agent.{Agent}
 use Rattle.golog_tree.specs.declared.prog.Prog.{Prog}
 use Rattle.golog_tree.specs.declared.prog.Prog.TheOpen.{Nil, Act, Test, Seq, Choice, Pick, Star, If, While, Conc, Prio, Cstar, Call, Search, Follow}
@@ -31,10 +32,6 @@ if_none : (b : Bool) (blocks : List Reached) → OfEach Never blocks → OfEach 
 if_none true blocks h = h
 if_none false blocks h = tt
 
-and_false : (b : Bool) → (b && false) ≡ false
-and_false true = refl
-and_false false = refl
-
 module _ (agent : Agent) (values : Values) where
   step_none : (u : Bool → Prog → List Reached) → ((b : Bool) (q : Prog) → P agent q → OfEach Never (u b q)) → (b : Bool) (l : Layer) → InParts agent (blockless agent) l
       → OfEach Never (blocks_step agent values u b l)
@@ -63,4 +60,4 @@ module _ (agent : Agent) (values : Values) where
   unfolding heavy
   blockless_light p h =
       ap (λ blocks. not (final agent values Must p) && list_any (weighs agent values p) blocks) (never (front_blocks agent values p) (none_to (front agent p).height false p h))
-      ∙ and_false (not (final agent values Must p))
+      ∙ and-false (not (final agent values Must p))

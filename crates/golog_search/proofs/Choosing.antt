@@ -3,6 +3,7 @@ use Rattle.std.proofs.Common.{◌≡◌, Bool, true, false, ◌&&◌, ◌||◌, 
 use Rattle.std.specs.Prelude.{not, IfOk, Result, Ok, Err}
 use Rattle.std.specs.List.{list_any}
 use Rattle.std.specs.Option.{is_some, option_map}
+use Rattle.golog_base.proofs.Bools.{or-true}
 use Rattle.golog_tree.specs.declared.agent.Agent.{Agent}
 use Rattle.golog_tree.specs.declared.prog.Prog.{Prog}
 use Rattle.golog_semantics.specs.declared.Mode.{Mode}
@@ -26,7 +27,7 @@ use Rattle.golog_search.specs.declared.decision.Decision.TheVariants.{Final, Blo
 use Rattle.golog_search.specs.BlockSteps.{IsSearchedIn}
 use Rattle.golog_search.specs.Decided.{IsAhead, IsDecided, ahead, along, blocked, decision, stepping}
 use Rattle.golog_search.specs.Weighing.{weighs_by}
-use Rattle.golog_search.proofs.FuelLacked.{lacks-told, or_cases, or_true, wants}
+use Rattle.golog_search.proofs.FuelLacked.{lacks-told, or_cases, wants}
 use Rattle.golog_search.proofs.HeavyPrograms.{heavy_weighs}
 
 -- a block weighs where fewer did
@@ -42,7 +43,7 @@ module _ (agent : Agent) (values : Values) where
   weighs-more s t h [] e = e
   weighs-more s t h (at ∷ blocks) e = elim (or_cases (weighs_by agent values s at) (list_any (weighs_by agent values s) blocks) e) [
     | inl k ↦ ap (λ c. c || list_any (weighs_by agent values t) blocks) (weighs-too (is_above agent values Must at.block) (is_above agent values Near at.block) s t at.is_higher h k)
-    | inr k ↦ ap (λ c. weighs_by agent values t at || c) (weighs-more s t h blocks k) ∙ or_true (weighs_by agent values t at)
+    | inr k ↦ ap (λ c. weighs_by agent values t at || c) (weighs-more s t h blocks k) ∙ or-true (weighs_by agent values t at)
   ]
 
 module _ (agent : Agent) (values : Values) (p : Prog) where

@@ -3,6 +3,7 @@ use Rattle.std.proofs.Common.{◌≡◌, ℕ, zero, suc, Bool, true, false, ◌&
 use Rattle.std.specs.Prelude.{not}
 use Rattle.std.specs.List.{list_any}
 use Rattle.std.proofs.lemmas.List.Folds.{list_any-append}
+use Rattle.golog_base.proofs.Bools.{or-true}
 use Rattle.golog_tree.specs.declared.agent.Agent.{Agent}
 use Rattle.golog_tree.specs.declared.prog.Prog.{Prog}
 use Rattle.golog_tree.specs.declared.prog.Way.{Way}
@@ -28,16 +29,12 @@ pub or_cases : (a b : Bool) → (a || b) ≡ true → (a ≡ true) ⊎ (b ≡ tr
 or_cases true b e = inl refl
 or_cases false b e = inr e
 
-pub or_true : (b : Bool) → (b || true) ≡ true
-or_true true = refl
-or_true false = refl
-
 -- what each that passes tells is told where one passes
 any_told : {A : Type 0} (f k : A → Bool) (b : Bool) (xs : List A) → ((x : A) → f x ≡ true → (b ≡ true) × (k x ≡ true)) → list_any f xs ≡ true → (b ≡ true) × (list_any k xs ≡ true)
 any_told f k b [] each h = absurd (cc)
 any_told f k b (x ∷ xs) each h = elim (or_cases (f x) (list_any f xs) h) [
   | inl e ↦ let d = each x e in (d.0, ap (λ c. c || list_any k xs) d.1)
-  | inr e ↦ let d = any_told f k b xs each e in (d.0, ap (λ c. k x || c) d.1 ∙ or_true (k x))
+  | inr e ↦ let d = any_told f k b xs each e in (d.0, ap (λ c. k x || c) d.1 ∙ or-true (k x))
 ]
 
 -- a block that wants more, by what is so of it
@@ -76,7 +73,7 @@ module _ (bounded : Bool) (agent : Agent) (values : Values) (stepless : Bool) wh
   told_left us vs h = (h.0, list_any-append test us vs ∙ ap (λ b. b || list_any test vs) h.1)
 
   told_right : (us vs : List Reached) → Told vs → Told (us ++ vs)
-  told_right us vs h = (h.0, list_any-append test us vs ∙ ap (λ b. list_any test us || b) h.1 ∙ or_true (list_any test us))
+  told_right us vs h = (h.0, list_any-append test us vs ∙ ap (λ b. list_any test us || b) h.1 ∙ or-true (list_any test us))
 
   told_if : (b : Bool) (us : List Reached) → b ≡ true → Told us → Told (if b then us else [])
   told_if b us e h = (h.0, ap (λ c. list_any test (if c then us else [])) e ∙ h.1)
@@ -127,7 +124,7 @@ module _ (bounded : Bool) (agent : Agent) (values : Values) (stepless : Bool) wh
       | inr e ↦ told_right (blocks_at agent values higher p) (blocks_at agent values higher q) (deep near higher asks q e)
     ]
     in_layer n deep near higher asks (Prio p q) h = elim (or_cases (lacks_to agent wants n true p) (lacks_to agent wants n near q) h) [
-      | inl e ↦ told_left (blocks_at agent values true p) (blocks_at agent values higher q) (deep true true (λ _. or_true stepless) p e)
+      | inl e ↦ told_left (blocks_at agent values true p) (blocks_at agent values higher q) (deep true true (λ _. or-true stepless) p e)
       | inr e ↦ told_right (blocks_at agent values true p) (blocks_at agent values higher q) (deep near higher asks q e)
     ]
     in_layer n deep near higher asks (Cstar p) h = deep near higher asks p h

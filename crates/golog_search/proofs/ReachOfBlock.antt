@@ -4,6 +4,7 @@ use Rattle.std.specs.Prelude.{not, nat_le, MatchOption, IfOk, IfErr, Result, Ok,
 use Rattle.std.specs.List.{list_all}
 use Rattle.std.specs.Option.{is_some}
 use Rattle.std.proofs.lemmas.Bool.{leb-true}
+use Rattle.golog_base.proofs.Bools.{or-true}
 use Rattle.golog_tree.specs.declared.agent.Agent.{Agent}
 use Rattle.golog_semantics.specs.declared.Mode.{Mode}
 use Rattle.golog_semantics.specs.declared.Mode.TheVariants.{Must, May, Near}
@@ -29,10 +30,6 @@ use Rattle.golog_search.specs.BlockSteps.{AreNear, first_of_block, has_step, nea
 use Rattle.golog_find.specs.Finding.{found_by, run_or}
 use Rattle.golog_search.proofs.BlockSteps.{may-steps, near-steps}
 use Rattle.golog_search.proofs.CertainNear.{best-near, kept-near}
-
-or_true : (b : Bool) → (b || true) ≡ true
-or_true true = refl
-or_true false = refl
 
 module _ (bounded : Bool) (agent : Agent) (values : Values) (block : Block) where
   module _ (m : Mode) where
@@ -184,7 +181,7 @@ module _ (agent : Agent) (values : Values) (block : Block) (rest : Run) where
   near-wants bounded (Ok a) k h = h
   near-wants bounded (Err stop) k h = λ e.
       ap (λ b. wants_more bounded agent values Must block rest || b) (wants-anew bounded agent values block rest Near k (h e))
-      ∙ or_true (wants_more bounded agent values Must block rest)
+      ∙ or-true (wants_more bounded agent values Must block rest)
 
   pub must-wants : (bounded : Bool) → is_kept agent values block.body rest ≡ false → (bounded && is_above agent values Must block) ≡ true
       → (wants_more bounded agent values Must block rest || wants_more bounded agent values Near block rest) ≡ true

@@ -2,6 +2,7 @@
 use Rattle.std.proofs.Common.{◌≡◌, ℕ, Bool, true, false, ◌&&◌, if◌then◌else◌, List, [], ◌∷◌, inl, inr, refl, sym, ap, ◌∙◌, subst}
 use Rattle.std.specs.Prelude.{not}
 use Rattle.std.specs.List.{list_any}
+use Rattle.golog_base.proofs.Bools.{and-false}
 use Rattle.golog_tree.specs.declared.agent.Agent.{Agent}
 use Rattle.golog_tree.specs.declared.prog.Prog.{Prog}
 use Rattle.golog_tree.specs.declared.prog.Prog.TheOpen.{Follow}
@@ -24,10 +25,6 @@ use Rattle.golog_search.specs.Decided.{IsDecided, along, decision}
 use Rattle.golog_search.specs.Kept.{KeepsRun, following}
 use Rattle.golog_search.specs.Weighing.{blocks_at}
 use Rattle.golog_search.proofs.FrontBlocksUnfold.{front_blocks-out}
-
-and_false : (b : Bool) → (b && false) ≡ false
-and_false true = refl
-and_false false = refl
 
 module _ (agent : Agent) (g : IsGuarded agent) (values : Values) (depth fuel : ℕ) (body : Prog) (w : Way) (rest : Run) (kept : goes_through agent body (w ∷ rest) values ≡ true) where
   abbrev p : Prog
@@ -61,7 +58,7 @@ module _ (agent : Agent) (g : IsGuarded agent) (values : Values) (depth fuel : �
   unfolding heavy
   light =
       ap (λ blocks. not (final agent values Must p) && list_any (weighs agent values p) blocks) no_block
-      ∙ and_false (not (final agent values Must p))
+      ∙ and-false (not (final agent values Must p))
 
   pub follows : (bounded : Bool) (d : Decision) → IsDecided agent values p bounded d → d ≡ following agent values depth fuel body w rest
   follows bounded d (inl h) = h ∙ decides

@@ -3,6 +3,7 @@ use Rattle.std.proofs.Common.{◌≡◌, ℕ, ◌+◌, ◌-◌, ◌<◌, ◌≤�
 use Rattle.std.specs.Prelude.{Result, IfOk}
 use Rattle.std.specs.List.{flat_map, list_any}
 use Rattle.std.proofs.lemmas.List.Folds.{list_any-append}
+use Rattle.golog_base.proofs.Bools.{or-false}
 use Rattle.golog_tree.specs.declared.agent.Agent.{Agent}
 use Rattle.golog_tree.specs.declared.cond.Arg.{Arg}
 use Rattle.golog_tree.specs.declared.cond.Cond.{Cond}
@@ -26,10 +27,6 @@ use Rattle.golog_search.proofs.FrontBlocksUnfold.{front_blocks-out}
 -- an answer, by another name
 pub ok_as : {E : Type 0} (result : Result Bool E) (x y : Bool) → x ≡ y → IfOk result (λ b. b ≡ x) → IfOk result (λ b. b ≡ y)
 ok_as result x y e h = subst (λ (z : Bool). IfOk result (λ b. b ≡ z)) e h
-
-or_false : (b : Bool) → (b || false) ≡ b
-or_false true = refl
-or_false false = refl
 
 pub any-flat : (f : Reached → Bool) (g : ℕ → List Reached) (xs : List ℕ) → list_any f (flat_map g xs) ≡ list_any (λ c. list_any f (g c)) xs
 any-flat f g [] = refl
@@ -120,11 +117,11 @@ module _ (agent : Agent) (values : Values) (stepless higher : Bool) where
     seq_weighs p q s = sym (in_seq p q ∙ ap (λ b. weighs p || list_any test (if b then blocks_at agent values higher q else [])) s)
 
     pub seq_first : (p q : Prog) → (front agent p).skip ≡ false → weighs p ≡ weighs (prog.Seq p q)
-    seq_first p q s = sym (in_seq p q ∙ ap (λ b. weighs p || list_any test (if b then blocks_at agent values higher q else [])) s ∙ or_false (weighs p))
+    seq_first p q s = sym (in_seq p q ∙ ap (λ b. weighs p || list_any test (if b then blocks_at agent values higher q else [])) s ∙ or-false (weighs p))
 
     pub search_weighs : (r p : Prog) (depth fuel : ℕ) → r ≡ prog.Search depth fuel p
         → test (record { block = record { depth = depth; fuel = fuel; body = p }; is_higher = higher }) ≡ weighs r
-    search_weighs r p depth fuel e = sym (out r (Search depth fuel p) (ap out-Prog e ∙ prog.outs-Search depth fuel p) ∙ or_false _)
+    search_weighs r p depth fuel e = sym (out r (Search depth fuel p) (ap out-Prog e ∙ prog.outs-Search depth fuel p) ∙ or-false _)
 
     abbrev unless_kept : Block → List Way → Bool
     unless_kept = weighs_unless_kept agent values stepless higher
@@ -132,7 +129,7 @@ module _ (agent : Agent) (values : Values) (stepless higher : Bool) where
     -- a kept run is none
     any_unless : (b : Bool) (at : Reached) → list_any test (if b then [] else at ∷ []) ≡ (if b then false else test at)
     any_unless true at = refl
-    any_unless false at = or_false (test at)
+    any_unless false at = or-false (test at)
 
     pub follow_weighs : (r p : Prog) (depth fuel : ℕ) (rest : List Way) → r ≡ prog.Follow depth fuel p rest
         → unless_kept (record { depth = depth; fuel = fuel; body = p }) rest ≡ weighs r

@@ -2,6 +2,7 @@
 use Rattle.std.proofs.Common.{◌≡◌, ℕ, ◌<◌, Bool, true, false, ◌||◌, List, [], ◌∷◌, length, Some, None, refl, arith}
 use Rattle.std.specs.Prelude.{nat_le}
 use Rattle.std.specs.List.{list_all}
+use Rattle.golog_base.proofs.Bools.{or-true}
 use Rattle.golog_form.specs.declared.form.Form.{Form}
 use Rattle.golog_tree.specs.declared.draft.DraftTheory.{DraftTheory}
 use Rattle.golog_tree.specs.declared.draft.DraftFluent.{DraftFluent}
@@ -90,12 +91,8 @@ module _ (theory : DraftTheory) where
   sent-keeps : (at : ℕ) (item : DraftAction) (device : ℕ) → Bare at item → is_draft_device theory device ≡ true → draft_action_keeps theory (record item { device = Some device }) ≡ true
   sent-keeps at item device bare is = rw (bare.args, is, bare.posters) refl
 
-  or_true : (a : Bool) → (a || true) ≡ true
-  or_true true = refl
-  or_true false = refl
-
   posted-keeps : (at : ℕ) (item : DraftAction) (posters : List ℕ) → Bare at item → list_all (is_draft_device theory) posters ≡ true → draft_action_keeps theory (record item { posters = posters }) ≡ true
-  posted-keeps at item posters bare are = rw (bare.args, bare.device, are, or_true (is_empty posters)) refl
+  posted-keeps at item posters bare are = rw (bare.args, bare.device, are, or-true (is_empty posters)) refl
 
   pub action_item-yields : (at : ℕ) (fs : List Form) → Yields (ActionFits theory at) (action_item theory at fs)
   unfolding action_item

@@ -5,7 +5,7 @@ use Rattle.golog_tree.specs.declared.agent.Agent.{Agent}
 use Rattle.golog_semantics.specs.declared.journal.Entry.{Entry}
 use Rattle.golog_semantics.specs.declared.journal.Entry.TheVariants.{Close}
 use Rattle.golog_semantics.specs.declared.journal.Reason.TheVariants.{Refused}
-use Rattle.golog_semantics.specs.Journal.{Journal, is_open, has_end, longest}
+use Rattle.golog_semantics.specs.Journal.{Journal, device_limit, is_open, has_end, longest}
 use Rattle.golog_semantics.specs.Dealt.{Meaning, Script, WasDealtWith}
 use Rattle.golog_journal.specs.Boards.{IsBoardList}
 use Rattle.golog_journal.specs.Taken.{IsReady}
@@ -68,7 +68,7 @@ module _ {D : Type 0} (agent : Agent) (meaning : D → Meaning) where
 pub record MayDrive (agent : Agent) (first count : ℕ) (seen : Journal) (parties : List ℕ) (opens : List Bool)
     : Type 0 where
   pub holds : HoldsFrom first count parties
-  pub few : first + count ≤ 16
+  pub few : first + count ≤ device_limit
   pub lawful : IsBoardList agent seen
   pub told : (i : ℕ) → i < count → slice_index_or opens (first + i) false ≡ is_open (first + i) seen
   pub ready : (i : ℕ) → i < count → is_open (first + i) seen ≡ true → IsReady agent seen (first + i) 0

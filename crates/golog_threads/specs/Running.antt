@@ -2,7 +2,7 @@
 use Rattle.std.specs.Prelude.{◌≡◌, ℕ, ◌<◌, ◌≤◌, true, false, Bool, List, slice_index_or}
 use Rattle.golog_tree.specs.declared.agent.Agent.{Agent}
 use Rattle.golog_semantics.specs.WellFormed.{WellFormed}
-use Rattle.golog_semantics.specs.Journal.{Journal, is_open}
+use Rattle.golog_semantics.specs.Journal.{Journal, device_limit, is_open}
 use Rattle.golog_journal.specs.Boards.{AgentJournal, IsBoardList}
 use Rattle.golog_journal.specs.Leading.{Mind, IsBehind}
 use Rattle.golog_journal.specs.Taken.{IsReady}
@@ -18,7 +18,7 @@ pub record MayRun (agent : Agent) (journal : AgentJournal) (mind : Mind) (count 
   pub formed : WellFormed agent
   pub of_agent : journal.agent ≡ agent
   pub leads : mind.agent ≡ agent
-  pub few : count ≤ 16
+  pub few : count ≤ device_limit
   pub lawful : IsBoardList agent journal.entries
   pub told : (device : ℕ) → device < count → slice_index_or opens device false ≡ is_open device journal.entries
   pub ready : AreReady agent journal.entries count

@@ -2,7 +2,7 @@
 ghost use Rattle.std.specs.Prelude.{◌≡◌, ◌≤◌, ◌<◌, ℕ, true, false, IsTrue, length, OnOk, OnErr, slice_index_or};
 ghost use Rattle.std.specs.Thread.{IsSync, IsSend};
 ghost use Rattle.golog_semantics.specs.WellFormed.{WellFormed};
-ghost use Rattle.golog_semantics.specs.Journal.{has_end, longest, is_open as is_open_in};
+ghost use Rattle.golog_semantics.specs.Journal.{device_limit, has_end, longest, is_open as is_open_in};
 ghost use Rattle.golog_journal.specs.Boards.{IsBoardList};
 ghost use Rattle.golog_journal.specs.Growing.{program};
 ghost use Rattle.golog_journal.specs.Leading.{IsBehind, SameMind, Watches};
@@ -30,7 +30,7 @@ use std::sync::Wait;
 use std::thread::{Threads, join_mut};
 
 // The party of the lead, after those of the devices.
-const LEAD: u32 = 16;
+const LEAD: u32 = DEVICES as u32;
 
 // Whether the lead has ended.
 fn is_ended(led: Led) -> bool
@@ -85,7 +85,7 @@ fn lead_on<A: Naming, N: AtLock, L: Lead, R: Wait>(
 
 // Which devices are open.
 fn opens_of(journal: &Journal, count: usize) -> [bool; DEVICES]
-    requires few { (count ≤ length journal.now.agent.devices) × (count ≤ 16) }
+    requires few { (count ≤ length journal.now.agent.devices) × (count ≤ device_limit) }
     ensures { (device : ℕ) → device < count
         → slice_index_or result device false ≡ is_open_in device journal.now.entries }
 {
@@ -103,7 +103,7 @@ fn split_lead<A: Naming>(lock: &TurnLock<Shared<A>>, seat: &mut Seat<Shared<A>>)
     ensures lock { IsSeatOf lock.now seat.new × IsSeatOf lock.now result }
     ensures seen { (seen seat.new ≡ seen seat.old) × (seen result ≡ seen seat.old) }
     ensures lead { contains (parties_of result) program ≡ true }
-    ensures devices { (count : ℕ) → count ≤ 16 → HoldsFrom 0 count (parties_of seat.new) }
+    ensures devices { (count : ℕ) → count ≤ device_limit → HoldsFrom 0 count (parties_of seat.new) }
 {
     lock.split(seat, LEAD)
 }
@@ -230,7 +230,7 @@ fn run_locked<
     requires formed { WellFormed (G.agent agent.now) }
     requires agent { A.agent ≡ G.agent agent.now }
     requires lead_agent { (L.mind lead.old).agent ≡ A.agent }
-    requires few { length devices.old ≤ 16 }
+    requires few { length devices.old ≤ device_limit }
     requires lawful { IsBoardList (G.agent agent.now) (seen seat) }
     requires opens { (device : ℕ) → device < length devices.old
         → slice_index_or hall.now.opens device false ≡ is_open_in device (seen seat) }

@@ -7,6 +7,7 @@ use Rattle.std.specs.List.{list_any}
 use Rattle.std.proofs.lemmas.Bool.{eq-eqb, ne_eqb}
 use Rattle.std.proofs.lemmas.List.{length-append}
 use Rattle.std.proofs.lemmas.Option.{slice_get_past, slice_get_within}
+use Rattle.golog_base.proofs.Bools.{and-false}
 use Rattle.golog_tree.specs.declared.agent.Agent.{Agent}
 use Rattle.golog_tree.specs.declared.cond.Cond.{Cond}
 use Rattle.golog_tree.specs.declared.cond.Cond.TheVariants as cond
@@ -73,10 +74,6 @@ before-none agent c answer same = subst (IsRegressed agent [] c) (sym same) (rec
 pub at-some : {A : Type 0} (P : A → Type 0) (o : Option A) (x : A) → IfSome o P → o ≡ Some x → P x
 at-some P o x h e = subst (λ z. IfSome z P) e h
 
-and-none : (a : Bool) → (a && false) ≡ false
-and-none true = refl
-and-none false = refl
-
 -- what is left of a run that is as long, of one that is not, and of one that is over
 left-whole : (p : Prog) (w : Way) (run : Run) (q : Prog) (rest : Run) → length (w ∷ run) ≡ length rest → is_left p (w ∷ run) q rest ≡ is_whole p (w ∷ run) q rest
 left-whole p w run q rest e = ap (λ b. if b then is_whole p (w ∷ run) q rest else is_left w.left run q rest) (eq-eqb (suc (length run)) (length rest) e)
@@ -94,7 +91,7 @@ left-other p run w later q rest is n =
 
 pub left-over : (p : Prog) (run : Run) (q : Prog) (rest : Run) → length run ≡ 0 → (length run ≡ length rest → ⊥) → is_left p run q rest ≡ false
 left-over p [] q [] e n = absurd (n refl)
-left-over p [] q (r ∷ rest) e n = and-none (same_prog p q)
+left-over p [] q (r ∷ rest) e n = and-false (same_prog p q)
 left-over p (w ∷ run) q rest e n = absurd (omega arith)
 
 -- a run is what itself leaves after no way

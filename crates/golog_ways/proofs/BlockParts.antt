@@ -1,5 +1,6 @@
 -- A search block that has not begun is closed as one under way that has nothing left of its run.
 use Rattle.std.proofs.Common.{◌≡◌, ℕ, Bool, true, false, ◌&&◌, List, [], refl, sym, ap, ◌∙◌, subst}
+use Rattle.golog_base.proofs.Bools.{and-true}
 use Rattle.golog_tree.specs.declared.agent.Agent.{Agent}
 use Rattle.golog_tree.specs.declared.prog.Prog.{Prog}
 use Rattle.golog_tree.specs.declared.prog.Way.{Way}
@@ -23,13 +24,9 @@ module _ (agent : Agent) where
       ap (λ (f : A). f at) (fold_out-Prog A A (prog_step agent) (way_step agent) p)
       ∙ ap (λ (k : Layer). prog_step agent (map-Prog Prog Way A A (prog_fits agent) (way_fits agent) k) at) e
 
-  and_true : (b : Bool) → (b && true) ≡ b
-  and_true true = refl
-  and_true false = refl
-
   pub search_begins : (r p : Prog) (depth fuel : ℕ) (rest : List Way) → rest ≡ [] → IsClosed agent r → r ≡ prog.Search depth fuel p → IsClosed agent (prog.Follow depth fuel p rest)
   search_begins r p depth fuel rest none c e =
       let at = at_scope nothing_bound c.in_block in
       let here = fits-by at (prog.Follow depth fuel p []) (Follow depth fuel p []) (prog.outs-Follow depth fuel p []) in
       let there = fits-by at r (Search depth fuel p) (ap out-Prog e ∙ prog.outs-Search depth fuel p) in
-      subst (λ (ws : List Way). IsClosed agent (prog.Follow depth fuel p ws)) (sym none) (record { in_block = c.in_block; fits = here ∙ and_true _ ∙ sym there ∙ c.fits })
+      subst (λ (ws : List Way). IsClosed agent (prog.Follow depth fuel p ws)) (sym none) (record { in_block = c.in_block; fits = here ∙ and-true _ ∙ sym there ∙ c.fits })

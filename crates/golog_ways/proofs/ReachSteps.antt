@@ -2,6 +2,7 @@
 use Rattle.std.proofs.Common.{◌≡◌, ℕ, ◌+◌, ◌-◌, ◌<◌, ◌≤◌, Bool, true, false, ◌&&◌, ◌||◌, List, [], ◌∷◌, ◌++◌, map, refl, sym, ap, ◌∙◌, subst, arith}
 use Rattle.std.specs.Prelude.{Result, Ok, Err, IfOk, not}
 use Rattle.std.specs.List.{list_any, flat_map}
+use Rattle.golog_base.proofs.Bools.{or-false}
 use Rattle.golog_tree.specs.declared.agent.Agent.{Agent}
 use Rattle.golog_tree.specs.declared.cond.Arg.{Arg}
 use Rattle.golog_tree.specs.declared.cond.Cond.{Cond}
@@ -218,16 +219,12 @@ module _ (agent : Agent) (blocks : Blocks) (values : Values) where
           ∙ sym (any-by g m (prog.Seq p q) (Seq p q) (prog.outs-Seq p q));
     }
 
-    or_false : (b : Bool) → (b || false) ≡ b
-    or_false true = refl
-    or_false false = refl
-
     -- where the first part can't end, the second doesn't count
     pub seq_reach_first : (p q : Prog) (t : Truth) (o : Reach) (b : Bool) → ((m : Mode) → holds m t ≡ final agent values m p) → b ≡ holds May t → b ≡ false → Of p o → Of (prog.Seq p q) o
     seq_reach_first p q t o b ends s y h = record {
       steps = λ m.
           h.steps m
-          ∙ sym (any-by g m (prog.Seq p q) (Seq p q) (prog.outs-Seq p q) ∙ ap (λ b. has_move agent blocks values m p || (b && has_move agent blocks values m q)) (none m) ∙ or_false (has_move agent blocks values m p));
+          ∙ sym (any-by g m (prog.Seq p q) (Seq p q) (prog.outs-Seq p q) ∙ ap (λ b. has_move agent blocks values m p || (b && has_move agent blocks values m q)) (none m) ∙ or-false (has_move agent blocks values m p));
     }
       where
         none : (m : Mode) → final agent values m p ≡ false
