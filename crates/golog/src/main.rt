@@ -1,5 +1,13 @@
 //! Runs, checks, replays and asks agent files: `golog run AGENT [DEVICES] [--inline]`, `golog check AGENT`,
 //! `golog replay AGENT JOURNAL`, `golog ask AGENT JOURNAL CONDITION`, `golog demo N`.
+//!
+//! `main` makes `FileFiles` and `OutSink` over the runtime and sixteen script devices, takes the
+//! words without the program's name (`words_of`), calls `golog` on a thread with a stack of 1 GiB
+//! (programs nest as deep as they are long before they are refused), from which the threads of the
+//! devices are made, and ends with its answer. The runtime makes threads for `main` alone, so a
+//! copy of it is handed on as one that does. It has no logic of its own. Words of which one isn't
+//! UTF-8 are handed on as no words, which are refused. Its stored run is `run one.agent --inline`
+//! over `data/one.agent`.
 #![tactic(auto)]
 
 use golog_base::{FileFiles, OutSink};

@@ -1,4 +1,5 @@
-//! What an agent's program does next at what is known, decided once while that stays.
+//! `Decider`: what is known and the program left, with what was decided there and isn't committed
+//! yet, and the watches of the runs under way.
 ghost use Rattle.std.specs.Prelude.{◌≡◌, ◌↔◌, ◌≤◌, IfOk, IfSome, IsTrue, false, true, Some, [], ◌∷◌};
 ghost use Rattle.std.specs.Option.{is_some};
 ghost use Rattle.golog_tree.specs.Nest.{nest};

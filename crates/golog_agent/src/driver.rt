@@ -1,4 +1,4 @@
-//! What drives a program over a board, whatever records its entries.
+//! `Driver`, a core and what records its entries, driven over any board.
 ghost use Rattle.std.specs.Prelude.{◌≡◌, ◌<◌, ◌≤◌, IfSome, IsTrue, true, false, [], ◌∷◌, ◌++◌, length, unwrap_or};
 ghost use Rattle.std.specs.List.{list_any};
 ghost use Rattle.golog_semantics.specs.Journal.{has_end, count, limit, is_counted, longest};

@@ -1,4 +1,4 @@
-//! The command whose result a program waits for.
+//! The command whose result a program waits for, after one more entry.
 ghost use Rattle.std.specs.Prelude.{◌≡◌, length, option_map};
 ghost use Rattle.golog_journal.specs.Quiet.{held_of};
 ghost use Rattle.golog_agent.specs.Keeping.{held_at, held_by, unless_told};

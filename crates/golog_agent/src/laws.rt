@@ -1,3 +1,5 @@
+// A law of leads: where no one else adds entries, a turn of a runner is that of the program in a
+// round.
 ghost use Rattle.golog_agent.specs.Leading.{AddsOneAlone, LeadsAlone};
 
 /// Where no one else adds entries, a turn of a runner is that of the program in a round, or memory or fuel

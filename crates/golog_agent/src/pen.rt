@@ -1,4 +1,4 @@
-//! What a lead needs that writes lines.
+//! `Pen`, what a scribe is made of: memory is taken here, before the sink is lent.
 ghost use Rattle.std.specs.Prelude.{◌≡◌, [], IfOk};
 ghost use Rattle.golog_semantics.specs.WellFormed.{WellFormed};
 

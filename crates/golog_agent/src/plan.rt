@@ -1,4 +1,5 @@
-//! What the program is to do next.
+//! What a decision comes to: a step, an end, or nothing while a device may still post or a result
+//! may still come.
 ghost use Rattle.std.specs.Prelude.{◌≡◌};
 ghost use Rattle.golog_agent.specs.Deciding.{plan_by};
 

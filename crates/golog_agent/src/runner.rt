@@ -1,4 +1,4 @@
-//! A lead that keeps the journal of a program.
+//! `Runner`, a lead whose record keeps the entries and the runs of a program, for a report.
 ghost use Rattle.std.specs.Prelude.{◌≡◌, ◌<◌, ◌≤◌, IfOk, true, [], length};
 ghost use Rattle.golog_semantics.specs.Journal.{has_end, is_open, longest};
 ghost use Rattle.golog_semantics.specs.InlineText.{report_of};

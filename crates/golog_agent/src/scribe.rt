@@ -1,4 +1,5 @@
-//! A lead that writes the line of each entry as the entry is seen.
+//! `Scribe`, a lead whose record writes the line of each entry as the entry is seen, and keeps
+//! none.
 ghost use Rattle.std.specs.Prelude.{◌≡◌, true, []};
 ghost use Rattle.golog_semantics.specs.InlineText.{report_of};
 ghost use Rattle.golog_semantics.specs.Online.{IsOnlineSoFar};

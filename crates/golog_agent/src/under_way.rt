@@ -1,4 +1,5 @@
-//! A program under way: what is counted of its entries, and what it does next.
+//! `Core`, a program under way of which no entry is kept: what is known after them, what is counted
+//! of them, and what it does next.
 ghost use Rattle.std.specs.Prelude.{◌≡◌, ◌<◌, ◌≤◌, IfOk, IfSome, IsTrue, true, false, [], ◌∷◌, ◌++◌, length, unwrap_or};
 ghost use Rattle.golog_tree.specs.Nest.{nest};
 ghost use Rattle.golog_semantics.specs.Blocks.{moves};

@@ -1,3 +1,4 @@
+// `ask`: the truth of a condition by what is known after the entries of a journal.
 ghost use Rattle.std.specs.Prelude.{◌≡◌, [], IfOk, IsTrue};
 ghost use Rattle.golog_semantics.specs.Fits.{cond_fits, nothing_bound};
 ghost use Rattle.golog_semantics.specs.Progress.{values_after};

@@ -1,3 +1,5 @@
+// A condition taken back over entries, the last first, while it has at most 10,000 nodes and an
+// entry before may change what it reads.
 ghost use Rattle.std.specs.Prelude.{◌≡◌, ◌≤◌, [], ◌∷◌, IfOk, drop, false, length};
 ghost use Rattle.golog_semantics.specs.WellFormed.{WellFormed};
 ghost use Rattle.golog_progress.specs.Entries.{EntryFits, EntriesFit};

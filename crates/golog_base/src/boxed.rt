@@ -1,3 +1,5 @@
+// `Boxed`, a value in memory of its own, as the parts of a recursive type stand: an `Arc`, which
+// contracts see as the value. Its owners share it, and none of them changes it.
 ghost use Rattle.std.specs.Prelude.{◌≡◌, IfOk};
 
 use crate::NoMemory;

@@ -1,4 +1,4 @@
-// Numbers as digits.
+// `add_decimal`: the digits of a number, added to a text.
 ghost use Rattle.std.specs.Prelude.{◌≡◌, ◌++◌, OnOk, decimal};
 
 use crate::{Bytes, NoMemory};

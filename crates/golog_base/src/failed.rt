@@ -1,3 +1,4 @@
+// What a call to the outside answers that failed.
 use thiserror::Error;
 
 /// A call to the outside that failed.

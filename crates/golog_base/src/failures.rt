@@ -1,4 +1,4 @@
-// The failures of files and sinks in memory.
+// The calls of files and sinks in memory that fail, by their numbers.
 ghost use Rattle.std.specs.Prelude.{◌≡◌};
 ghost use Rattle.golog_base.specs.Failures.{uncalled, after_call, fails_next};
 

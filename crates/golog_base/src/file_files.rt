@@ -1,4 +1,5 @@
-// Real files.
+// `FileFiles`, real files: they tell nothing of content, and are trusted beyond their count of
+// faults.
 ghost use Rattle.std.specs.Prelude.{◌≡◌, ◌≤◌, None, is_some};
 ghost use Rattle.golog_base.specs.Faults.{Rose};
 

@@ -1,4 +1,5 @@
-// Files that are read by name.
+// `Files`: files that are selected by name and read. They tell proofs what they hold where they
+// can, whether one is selected, and always a count of faults that never falls.
 ghost use Rattle.std.specs.Prelude.{◌≡◌, ◌≢◌, ◌⊎◌, ◌+◌, ◌-◌, ◌<◌, ◌≤◌, ℕ, Bool, true, List, [], Option, None, Some, length, take, drop, OnOk, OnErr, IfOk, IfSome, IsErrOf};
 ghost use Rattle.golog_base.specs.declared.mem_files.HeldFile.{HeldFile};
 ghost use Rattle.golog_base.specs.Faults.{Rose};

@@ -1,3 +1,4 @@
+// `List` and `Bytes`, a list of bytes: a `Vec`, which contracts see as the list of its items.
 ghost use Rattle.std.specs.Prelude.{◌≡◌, ◌↔◌, [], ◌∷◌, ◌++◌, length, slice_get, IfOk, OnOk, OnErr, IsTrue, MatchOption};
 ghost use Rattle.std.specs.Option.{option_copied};
 

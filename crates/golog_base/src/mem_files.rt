@@ -1,4 +1,4 @@
-// Files in memory.
+// `MemFiles`, files in memory: they tell all, and fail at the calls whose numbers they were given.
 ghost use Rattle.std.specs.Prelude.{◌≡◌, ◌≤◌, ◌<◌, ◌+◌, ◌^◌, ◌⊎◌, ◌↔◌, ℕ, [], length, take, min, true, Some, None, IfSome, IfNone, OnOk, OnErr, IfOk, IsErr, IsSome, IsTrue};
 ghost use Rattle.golog_base.specs.Failures.{uncalled, after_call, fails_next};
 ghost use Rattle.golog_base.specs.Files.{bytes_of, HasNone, Opens};

@@ -1,4 +1,4 @@
-// A sink in memory.
+// `MemSink`, a sink in memory: it tells all, and fails at the calls whose numbers it was given.
 ghost use Rattle.std.specs.Prelude.{◌≡◌, ◌≤◌, length, vec_capacity, vec_len};
 
 use crate::failures::Failures;

@@ -1,3 +1,5 @@
+// `NoMemory`: what whatever takes memory answers where memory ran out, in place of failing the
+// process.
 use std::alloc::{AllocError, AllocFailed};
 use thiserror::Error;
 

@@ -1,4 +1,5 @@
-//! Numbers, by their digits.
+//! The tests for numbers, with and without a sign, and what their digits spell, where it is small
+//! enough.
 ghost use Rattle.std.specs.Prelude.{◌≡◌, Some, None, nat_le, if◌then◌else◌};
 ghost use Rattle.std.specs.List.{list_all};
 ghost use Rattle.golog_base.specs.Names.{is_digit};

@@ -1,4 +1,5 @@
-// Standard output.
+// `OutSink`, standard output: it tells nothing of content, and is trusted beyond its count of
+// faults.
 ghost use Rattle.std.specs.Prelude.{◌≡◌, ◌≤◌, None};
 ghost use Rattle.golog_base.specs.Faults.{Rose};
 

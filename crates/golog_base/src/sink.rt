@@ -1,4 +1,5 @@
-// What takes the bytes that are written.
+// `Sink`, what takes the bytes that are written. It tells proofs what it took where it can, and
+// always a count of faults that never falls.
 ghost use Rattle.std.specs.Prelude.{◌≡◌, ℕ, ◌<◌, ◌≤◌, List, Option, length, take, OnOk, OnErr, IfOk};
 ghost use Rattle.golog_base.specs.Faults.{Rose};
 ghost use Rattle.golog_base.specs.Known.{and_then_bytes, AddsPrefix};

@@ -1,4 +1,4 @@
-// A text that contracts see as the list of its bytes.
+// `Text`: a `String`, which contracts see as the list of its bytes.
 ghost use Rattle.std.specs.Prelude.{◌≡◌, ℕ, List, IfOk, string_bytes};
 
 use crate::NoMemory;

@@ -1,3 +1,5 @@
+// `Word`, a name of 1 to 31 bytes that is copied like a number, and the test for names of any
+// length.
 ghost use Rattle.std.specs.Prelude.{◌≡◌};
 ghost use Rattle.std.specs.List.{list_all};
 ghost use Rattle.std.specs.Option.{SomeIff};

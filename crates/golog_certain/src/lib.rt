@@ -1,4 +1,11 @@
 //! What certain means: what is known, certain or settled is so in every world in which all is so that is known.
+//!
+//! `knowledge`: what is certain stays so where more is known. `worlds`: what is certain is so in
+//! each world that completes what is known, for conditions, programs with search blocks, and
+//! journals; that the steps of a world satisfy the axioms of Trans; and that a complete world stays
+//! complete. One proof over a view of programs (as they are, or with runs under way written as
+//! blocks) serves programs with search blocks and without (`WorldSteps`). The laws stand below
+//! golog_known, so that the calls that decide can say what their answers mean in every world.
 #![tactic(auto)]
 
 mod knowledge;

@@ -1,4 +1,5 @@
-//! Laws of what certain means: what is certain is so in each world in which all is so that is known.
+//! Laws of what certain means: what is certain is so in each world in which all is so that is
+//! known, of conditions, programs with search blocks and journals.
 ghost use Rattle.golog_certain.specs.CertainLaws.{AllStepsAreSo, JournalsAreSo};
 ghost use Rattle.golog_certain.specs.CompleteLaws.{WorldsStayComplete};
 ghost use Rattle.golog_certain.specs.SearchLaws.{

@@ -1,4 +1,4 @@
--- The codes of refusals.
+-- The codes of refusals of a draft that aren't for its programs' shape alone: 30, 31 and 34 to 36.
 use Rattle.std.specs.Prelude.{ℕ}
 
 -- a term is not of the sort that its place needs

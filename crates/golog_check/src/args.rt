@@ -1,3 +1,5 @@
+// Words and numbers of a draft in the places of arguments: the sort that each shows, and what it
+// is.
 ghost use Rattle.std.specs.Prelude.{◌≡◌, option_map};
 ghost use Rattle.golog_tree.specs.declared.cond.Arg.TheVariants.{Const};
 ghost use Rattle.golog_draft.specs.DraftPlaces.{arg_place};

@@ -1,3 +1,4 @@
+// A list of what items give, with their least refusal.
 ghost use Rattle.std.specs.Prelude.{[], None, OnOk, IfOk};
 ghost use Rattle.golog_check.specs.Checked.{AddsTo, IsChecked, Lowers};
 

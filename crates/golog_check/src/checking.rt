@@ -1,3 +1,5 @@
+// `check`: what the theory declares, all parts checked to their end, and their least refusal or the
+// agent.
 ghost use Rattle.std.specs.Prelude.{◌≡◌, ◌<◌, [], ◌∷◌, List, length, map, All, IfOk};
 ghost use Rattle.golog_tree.specs.declared.draft.DraftSense.{DraftSense};
 ghost use Rattle.golog_tree.specs.declared.draft.DraftTheory.{DraftTheory};

@@ -1,3 +1,4 @@
+// The conditions of a draft in a scope, and `check_condition`, which checks one over an agent.
 ghost use Rattle.std.specs.Prelude.{◌≡◌, [], map, IfOk};
 ghost use Rattle.golog_draft.specs.Drafts.{AgentCondKeeps};
 ghost use Rattle.golog_draft.specs.DraftOrder.{IsAscending};

@@ -1,3 +1,4 @@
+// The sorts, fluents, actions and devices of a draft, without their places.
 ghost use Rattle.std.specs.Prelude.{◌≡◌, map, IfOk};
 ghost use Rattle.golog_draft.specs.DraftPlaces.{sort_place as spec_sort_place};
 ghost use Rattle.golog_check.specs.DeclaredItems.{sort_item, fluent_item, action_item};

@@ -1,3 +1,5 @@
+// `poss` and `causes` items: preconditions, and effects in view of the variables that their heads
+// bind.
 ghost use Rattle.std.specs.Prelude.{◌≡◌, [], map, IfOk};
 ghost use Rattle.golog_check.specs.Faults.{Answers};
 ghost use Rattle.golog_check.specs.Checked.{IsChecked};

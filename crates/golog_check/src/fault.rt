@@ -1,3 +1,5 @@
+// The codes of refusals that are not for a program's shape alone (30, 31, 34 to 36), and
+// `CheckFault`.
 ghost use Rattle.std.specs.Prelude.{◌≡◌, true, false, MatchResult};
 ghost use Rattle.golog_check.specs.declared.fault.CheckFault.TheVariants.{Refused, Memory};
 

@@ -1,3 +1,5 @@
+// The variables that heads bind: the words of a `poss` or `senses` head, and the arguments of an
+// effect.
 ghost use Rattle.std.specs.Prelude.{◌≡◌, [], ◌∷◌, ◌++◌, IfOk};
 ghost use Rattle.golog_check.specs.Faults.{Answers};
 ghost use Rattle.golog_check.specs.Scope.{scope_on as spec_scope_on, scope_of_vars};

@@ -1,3 +1,5 @@
+// Laws of what is not refused: arguments, terms, conditions and programs fit the agent, and the
+// agent of a draft is well-formed.
 ghost use Rattle.golog_check.specs.AgentLaws.{UnguardedIsReached, AgentsFit};
 ghost use Rattle.golog_check.specs.CheckLaws.{ArgsFit, TermsFit, CondsFit};
 ghost use Rattle.golog_check.specs.ProgramLaws.{ProgsFit};

@@ -1,4 +1,12 @@
 //! Drafts that are checked, and made agents and conditions.
+//!
+//! It tells what a draft's words and numbers mean, of which sorts they are, and whether the whole
+//! is well-formed. What is refused of a program by its shape alone is told by golog_shapes.
+//!
+//! `names`, `scope`, `args`, `terms`, `conditions` and `programs` read the parts of a draft down to
+//! the agent's own types, or to their first refusal. `check` works in one pass over each list of
+//! the draft, and never stops at a refusal: each list is checked to its end, and the least refusal
+//! is kept.
 #![tactic(auto)]
 
 mod args;

@@ -1,3 +1,5 @@
+// `Names`, what is declared where a draft stands, by its numbers: one view that a draft's items and
+// an agent both give.
 ghost use Rattle.std.specs.Prelude.{◌≡◌, ◌≤◌, ◌<◌, length, position, IfSome};
 ghost use Rattle.std.specs.List.{list_any};
 ghost use Rattle.golog_tree.specs.Ground.{item_size};

@@ -1,3 +1,4 @@
+// The size of each sort, and the number of the first ground thing of each fluent and each action.
 ghost use Rattle.std.specs.Prelude.{◌≡◌, ◌≤◌, All, length, map, IfOk};
 ghost use Rattle.golog_tree.specs.Ground.{IsCountable, action_args, firsts_of as spec_firsts_of, fluent_args, ground_count, item_size as spec_item_size, numbered as spec_numbered};
 ghost use Rattle.golog_check.specs.Sums.{AreSmall};

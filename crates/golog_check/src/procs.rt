@@ -1,3 +1,4 @@
+// Procedures, each with its parameters in scope.
 ghost use Rattle.std.specs.Prelude.{◌≡◌, map, IfOk};
 ghost use Rattle.golog_draft.specs.Drafts.{param_words as spec_param_words};
 ghost use Rattle.golog_check.specs.DeclaredItems.{param_sorts as spec_param_sorts};

@@ -1,3 +1,4 @@
+// The programs of a draft in a scope.
 ghost use Rattle.std.specs.Prelude.{map};
 ghost use Rattle.golog_check.specs.Faults.{Answers, Leaves};
 ghost use Rattle.golog_check.specs.Scope.{within};

@@ -1,3 +1,4 @@
+// The variables in scope, the innermost first, and what a word means there.
 ghost use Rattle.std.specs.Prelude.{◌≡◌, ◌++◌, IfOk};
 ghost use Rattle.golog_check.specs.Scope.{variable_no, within, innermost, meaning};
 

@@ -1,3 +1,4 @@
+// `senses` items, with one flag for each action that was sensed.
 ghost use Rattle.std.specs.Prelude.{◌≡◌, ◌++◌, ◌∷◌, [], ◌<◌, length, IfOk, List, All};
 ghost use Rattle.golog_tree.specs.declared.draft.DraftSense.{DraftSense};
 ghost use Rattle.golog_check.specs.Faults.{Answers};

@@ -1,3 +1,4 @@
+// The start value of each ground fluent, in the order of their numbers.
 ghost use Rattle.std.specs.Prelude.{◌≡◌, ◌<◌, ℕ, map, length, slice_index, slice_get, IfOk, MatchOption, IsTrue, ◌↔◌, Some};
 ghost use Rattle.golog_tree.specs.Ground.{AreWithin, IsCountable, sizes, args_at, fluent_args, ground_fluents};
 ghost use Rattle.golog_semantics.specs.Truth.{unknown};

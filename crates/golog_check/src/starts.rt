@@ -1,3 +1,4 @@
+// Start items, resolved: the value of all ground fluents of a fluent, or that of one.
 ghost use Rattle.std.specs.Prelude.{◌≡◌, [], map, IfOk};
 ghost use Rattle.golog_check.specs.Faults.{Answers};
 ghost use Rattle.golog_check.specs.Checked.{IsChecked};

@@ -1,3 +1,5 @@
+// How many constants a sort and how many ground things an item has, and where the running sum
+// passes its limit.
 ghost use Rattle.std.specs.Prelude.{◌≡◌, ◌≤◌, length, map, MatchOption, Ok, Err};
 ghost use Rattle.golog_check.specs.Sums.{size_in as spec_size_in, count_in as spec_count_in, sum_from as spec_sum_from, AreSmall, HaveFewArgs};
 

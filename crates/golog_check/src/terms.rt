@@ -1,3 +1,5 @@
+// The terms of a draft: the sort that each shows, what it is in a scope, and the two sides of
+// comparisons.
 ghost use Rattle.std.specs.Prelude.{◌≡◌};
 ghost use Rattle.golog_check.specs.Faults.{Answers};
 ghost use Rattle.golog_check.specs.Terms.{term_place, term_sort, term_as, term_in, common, is_by_order, sides_in};

@@ -1,3 +1,5 @@
+// `check_text`, the line that counts what an agent has, and `add_count`, which adds a number with
+// what is counted.
 ghost use Rattle.std.specs.Prelude.{◌≡◌, ◌++◌, IfOk, OnOk, decimal};
 ghost use Rattle.golog_semantics.specs.WellFormed.{WellFormed};
 ghost use Rattle.golog_check_text.specs.Counts.{check_text as spec_check_text, counts_line};

@@ -1,3 +1,4 @@
+// Tests of `demo_files`, at each size, and of `add_count`.
 ghost use Rattle.std.specs.Prelude.{◌≤◌};
 ghost use Rattle.golog_semantics.specs.WellFormed.{WellFormed};
 

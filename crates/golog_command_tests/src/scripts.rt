@@ -1,3 +1,4 @@
+// Tests of `scripts_of` and `script_text`.
 ghost use Rattle.std.specs.Prelude.{All, IfOk};
 ghost use Rattle.golog_script.specs.ScriptTexts.{HasTexts};
 

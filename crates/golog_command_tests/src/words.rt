@@ -1,3 +1,4 @@
+// Tests of `order_of`.
 use crate::asserting::same;
 use golog_base::NoMemory;
 use golog_words::{WordsFault, order_of};

@@ -1,4 +1,4 @@
-// The beginning of a run: each device has its script.
+// A run's beginning, `begun_with`: the texts of the scripts, a new journal, the devices that begin.
 ghost use Rattle.std.specs.Prelude.{◌≡◌, ◌≤◌, All, IfOk, OnErr, IsSome, Some, length, find};
 ghost use Rattle.std.specs.Option.{option_copied};
 ghost use Rattle.golog_semantics.specs.WellFormed.{WellFormed};

@@ -1,4 +1,4 @@
-// What the commands come to that look at files alone.
+// What the commands come to that look at files alone: `check`, `ask` and `migrate`.
 ghost use Rattle.std.specs.Prelude.{◌≡◌, IfOk, IsTrue};
 ghost use Rattle.golog_semantics.specs.Fits.{cond_fits, nothing_bound};
 ghost use Rattle.golog_semantics.specs.Reports.{IsReport};

@@ -1,4 +1,4 @@
-// A demo: what its files hold, and what is said of its run.
+// A demo: what its files hold, and the line that counts its run.
 ghost use Rattle.std.specs.Prelude.{◌≡◌, ◌++◌, IfOk, OnOk, Ok, All, true, false, Contains, count_by};
 ghost use Rattle.golog_semantics.specs.declared.journal.Entry.TheVariants.{End};
 ghost use Rattle.golog_semantics.specs.Journal.{has_end};

@@ -1,5 +1,23 @@
 //! What each command of the program comes to: what its inputs hold, the outcomes with their causes, texts and statuses,
 //! and the commands that run no program.
+//!
+//! All is here but a run itself and a replay itself: so it waits neither for golog_agent,
+//! golog_threads nor golog_search.
+//!
+//! The inputs are read in one order, the agent, the devices, the journal and the condition, as far
+//! as a command has them, and what is read first is refused first. A command that runs no program
+//! decides first and writes afterwards: what it comes to is an `Outcome`, whose cause a clause
+//! says, and `report` writes its text. The `Outcome` of a run (`Ran`) stands in contracts alone,
+//! since a run is written while it goes on.
+//!
+//! The definitions are `specs/Inputs`, `specs/Runs`, `specs/Demos`, `specs/Outcome` (`ComesOf` once
+//! for each input, `Comes` for each command), `specs/Writing`, `specs/InWorlds`, `specs/CutShort`
+//! and `specs/Exact`.
+//!
+//! golog_main uses `ready_in`, `agent_in`, `told_in`, `ended`, `checked`, `asked`, `migrated`,
+//! `restart_at`, `head_of`, `verdict_line`, `demo_of`, `demo_outcome`, `begun_with`, `report`,
+//! `report_if`, `report_unready`, `run_status`, `call_status`, `NO_MEMORY`, `WRITE_FAULT` and the
+//! types.
 #![tactic(auto)]
 
 mod beginning;

@@ -1,4 +1,4 @@
-// What a call of the program comes to.
+// `Outcome`, what a call of the program comes to, with its text and its exit status; `Input`.
 ghost use Rattle.std.specs.Prelude.{◌≡◌};
 ghost use Rattle.golog_semantics.specs.Execution.{status_of as answer_status};
 ghost use Rattle.golog_commands.specs.Inputs.{input_name, input_limit, fault_text};

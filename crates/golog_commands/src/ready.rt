@@ -1,4 +1,5 @@
-// What the inputs of a command hold.
+// What each input of a command holds, or what is said in its place: `agent_in`, `understood_in`,
+// `ready_in`, `told_in`, `condition_in`.
 ghost use Rattle.std.specs.Prelude.{◌≡◌, ◌≤◌, ◌++◌, All, IfOk, IfErr, IfSome, IsTrue, IsSomeAnd, OnOk, OnErr, length, option_map};
 ghost use Rattle.golog_semantics.specs.Fits.{cond_fits, nothing_bound};
 ghost use Rattle.golog_semantics.specs.InSorts.{AreInSorts};

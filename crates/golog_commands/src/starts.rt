@@ -1,4 +1,5 @@
-// The values that a run, a replay or a question begins from, where a journal gives them.
+// The values that a run, a replay or a question starts from where a journal gives them, and the
+// head that tells them.
 ghost use Rattle.std.specs.Prelude.{◌≡◌, IfOk, IfErr, IfSome, OnOk, option_map, unwrap_or};
 ghost use Rattle.golog_semantics.specs.InSorts.{AreInSorts};
 ghost use Rattle.golog_semantics.specs.Reports.{IsReport};

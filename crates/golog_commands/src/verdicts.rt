@@ -1,4 +1,4 @@
-// The line of a replay.
+// The line that tells what a replay finds.
 ghost use Rattle.std.specs.Prelude.{◌≡◌, ◌++◌, IfOk, OnOk};
 ghost use Rattle.golog_semantics.specs.Verdicts.{why_text};
 ghost use Rattle.golog_semantics.specs.declared.journal.Verdict.TheVariants.{Online, Not};

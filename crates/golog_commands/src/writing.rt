@@ -1,4 +1,4 @@
-// What a call writes of what it comes to, and its exit status.
+// The report of an outcome, and the exit status of a run and of a call.
 ghost use Rattle.std.specs.Prelude.{◌≡◌, true, false, IfOk, IfSome, IsSome, OnErr};
 ghost use Rattle.golog_semantics.specs.Execution.{status_of as answer_status};
 ghost use Rattle.golog_commands.specs.Outcome.{Reports, outcome_status, outcome_text};

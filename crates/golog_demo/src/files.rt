@@ -1,3 +1,5 @@
+// `demo_files`: a lift of 1 to 200 floors with a button pushed on each, and the scripts of its
+// devices.
 ghost use Rattle.std.specs.Prelude.{◌≡◌, ◌≤◌, ◌++◌, IfOk, OnOk};
 ghost use Rattle.golog_demo.specs.Demo.{demo_agent as spec_demo_agent, demo_devices as spec_demo_devices, push_text, pushes};
 

@@ -1,4 +1,4 @@
-//! The first call of each device.
+//! `begin_all`, the first call of each device.
 ghost use Rattle.std.specs.Prelude.{◌≡◌, ◌≤◌, ◌<◌, ℕ, true, length, All, IsSome, OnOk, OnErr, []};
 ghost use Rattle.golog_semantics.specs.WellFormed.{WellFormed};
 ghost use Rattle.golog_semantics.specs.Journal.{device_limit, is_open};

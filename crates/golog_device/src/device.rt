@@ -1,4 +1,5 @@
-//! Devices, and what they answer.
+//! `Device`, the trait of devices, with its optional meanings and two truths, and its answers
+//! `Begun`, `Served` and `Idle`; boxed devices are devices.
 ghost use Rattle.std.specs.Prelude.{◌≡◌, ◌≤◌, Bool, true, length};
 ghost use Rattle.golog_semantics.specs.Dealt.{Meaning, Service};
 ghost use Rattle.golog_device.specs.Devices.{Begins, still_fresh, Serves, Idles};

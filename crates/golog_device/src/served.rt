@@ -1,4 +1,5 @@
-// The texts that a device served.
+// The texts served, in room that is reserved: their bytes one behind another, and for each its
+// length and whether an answer was asked for.
 ghost use Rattle.std.specs.Prelude.{◌≡◌, ◌≤◌, ◌+◌, vec_len, vec_capacity};
 ghost use Rattle.golog_device.specs.Kept.{marked};
 

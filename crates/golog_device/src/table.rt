@@ -1,4 +1,4 @@
-// A device that answers by a table.
+// `TableDevice`, which answers by a table, for tests of what wild devices do.
 ghost use Rattle.std.specs.Prelude.{◌≡◌, ◌<◌, ◌≤◌, ◌+◌, [], false, vec_len, IfOk};
 ghost use Rattle.golog_device.specs.Logs.{SERVED_ROOM, is_over, is_cut, kept_by, room_of, bytes_room, told_by, given_by};
 

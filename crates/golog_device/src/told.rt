@@ -1,4 +1,4 @@
-// What a device told.
+// What a device told, up to and with its first Close, in room that is reserved.
 ghost use Rattle.std.specs.Prelude.{◌≡◌, ◌≤◌, ◌<◌, ◌+◌, [], Some, IfOk, false};
 ghost use Rattle.golog_device.specs.Devices.{is_told_close, told_then, told_after, tells};
 ghost use Rattle.golog_device.specs.Kept.{item_of, is_closed};

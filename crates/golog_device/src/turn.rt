@@ -1,4 +1,4 @@
-//! One turn of an open device.
+//! `one_turn`, one turn of an open device, and what it answers, `Turned`.
 ghost use Rattle.std.specs.Prelude.{◌≡◌, ◌≢◌, ◌↔◌, ◌<◌, ◌≤◌, ◌+◌, ℕ, true, false, Some, None, length, option_map, option_and_then, slice_get};
 ghost use Rattle.golog_tree.specs.Ground.{ground_count, action_args};
 ghost use Rattle.golog_semantics.specs.WellFormed.{WellFormed};

@@ -1,4 +1,5 @@
-// A value of which there are two.
+// A value twice, one to hand out and one to keep: a device that takes no memory later gives its
+// texts away and still tells them. Contracts see the value.
 ghost use Rattle.std.specs.Prelude.{◌≡◌, IfOk, reverse};
 
 use crate::{Idle, Served};

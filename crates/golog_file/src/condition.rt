@@ -1,3 +1,4 @@
+// `read_condition`: a condition over a theory and its agent, from its bytes.
 ghost use Rattle.std.specs.Prelude.{◌≡◌, IfOk, IsTrue, Ok};
 ghost use Rattle.golog_form.specs.Places.{IsInOrder};
 ghost use Rattle.golog_draft.specs.DraftOrder.{IsAscending};

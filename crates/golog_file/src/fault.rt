@@ -1,3 +1,4 @@
+// Why bytes were not read: `AgentFault` and `CondFault`, made of the refusals of the stages.
 ghost use Rattle.std.specs.Prelude.{◌≡◌};
 ghost use Rattle.golog_file.specs.declared.fault.AgentFault.TheVariants.{Refused, Memory};
 ghost use Rattle.golog_file.specs.Faults.{fault_of_form, fault_of_theory, fault_of_check, cond_fault_of_form, cond_fault_of_theory, cond_fault_of_check};

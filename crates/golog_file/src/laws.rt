@@ -1,3 +1,5 @@
+// Laws of bytes: they spell one agent at most, and are not refused where they do; the same of
+// conditions. A condition read over a file's theory keeps the rules over its agent.
 ghost use Rattle.golog_file.specs.Laws.{ConditionsStayKept, OneAgentIsSpelled, OneCondIsSpelled, RangesOfAgentsFit, ReadConditionsStayKept, SignatureStays, SpelledCondIsUnrefused, SpelledIsUnrefused};
 
 /// Bytes that spell an agent are not refused.

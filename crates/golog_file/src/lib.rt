@@ -1,4 +1,8 @@
 //! The agent that the bytes of a file spell, and the condition that bytes spell over it, or their first refusal.
+//!
+//! The layers above use `read_agent` with `AgentFault`; `read_theory_and_agent`, which gives an
+//! `Understood`, and over it `read_condition` with `CondFault`; for proofs `specs/Spelled` (bytes
+//! to agent; the first refusal), `specs/Conditions` (the same of a condition) and the laws.
 #![tactic(auto)]
 
 mod condition;

@@ -1,3 +1,5 @@
+// `read_agent`, which goes through the stages from bytes to an agent, and `read_theory_and_agent`,
+// which hands out the theory too.
 ghost use Rattle.std.specs.Prelude.{◌≡◌, IfOk, Ok};
 ghost use Rattle.golog_form.specs.declared.form.Form.{Form};
 ghost use Rattle.golog_form.specs.Places.{IsInOrder};

@@ -1,4 +1,5 @@
-//! How a search looks one step further.
+//! `Deepening`, how a search looks one step further: whose steps are looked at, in which mode, and
+//! for how many states there is room.
 use golog_semantics::Mode;
 use golog_tree::Agent;
 use std::alloc::Global;

@@ -1,3 +1,4 @@
+// `find` and `search_block`: the fuel of a search, and what the search comes to.
 ghost use Rattle.std.specs.Prelude.{◌≡◌, ◌+◌, ◌<◌, [], ◌∷◌, IfOk, IsTrue, MatchOption, false, not, true};
 ghost use Rattle.golog_semantics.specs.BlockFree.{has_block};
 ghost use Rattle.golog_semantics.specs.ProgFits.{fits};

@@ -1,3 +1,4 @@
+// `Found`, what the search of a block comes to: a run, none, or want of fuel.
 use golog_base::List;
 use golog_tree::Way;
 

@@ -1,3 +1,5 @@
+// `Level`, the distinct states that are so many steps away, and the next level, as far as there is
+// room for it.
 ghost use Rattle.std.specs.Prelude.{◌≡◌, ◌<◌, [], IfOk, IsTrue, OnOk, false, fold, length};
 ghost use Rattle.golog_memo.specs.Numbered.{AreOnce};
 ghost use Rattle.golog_semantics.specs.Reports.{fits_label};

@@ -1,3 +1,5 @@
+// `Numbered`, a state with the step that led there, the number of the program left and the place of
+// the state before; where a search begins, and where a step leads.
 ghost use Rattle.std.specs.Prelude.{◌≡◌, IfOk, IsTrue, OnOk, Some, slice_get};
 ghost use Rattle.golog_memo.specs.Numbered.{AreOnce};
 ghost use Rattle.golog_semantics.specs.Reports.{fits_label};

@@ -1,3 +1,5 @@
+// `Search`, what a search has seen: how it goes one step further, the first end of its last level,
+// and the run that leads there.
 ghost use Rattle.std.specs.Prelude.{◌≡◌, ◌<◌, [], ◌∷◌, ◌++◌, ◌||◌, All, IfOk, OnOk, false, length, map, not, reverse};
 ghost use Rattle.std.specs.List.{position_from};
 ghost use Rattle.golog_semantics.specs.Ways.{is_empty};

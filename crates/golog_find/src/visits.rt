@@ -1,3 +1,5 @@
+// Which programs a search has visited, and what is kept of those visited again: their steps with
+// their conditions, what each leaves by its number, and the condition of the end.
 ghost use Rattle.std.specs.Prelude.{◌≡◌, ◌<◌, All, IfOk, IsTrue, List as AnyList, MatchOption, OnOk, Some, false, true, length, map};
 ghost use Rattle.golog_memo.specs.Numbered.{AreOnce};
 ghost use Rattle.golog_semantics.specs.Fits.{cond_fits, nothing_bound};

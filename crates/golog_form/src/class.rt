@@ -1,3 +1,4 @@
+// The classes of bytes: what a byte that stands outside comments is.
 ghost use Rattle.std.specs.Prelude.{◌≡◌};
 ghost use Rattle.golog_form.specs.Tokens.{class};
 

@@ -1,3 +1,4 @@
+// `FormFault`: why bytes were not read as a form.
 ghost use Rattle.std.specs.Prelude.{◌≡◌};
 ghost use Rattle.golog_form.specs.declared.fault.FormFault.TheVariants.{Memory};
 

@@ -1,3 +1,4 @@
+// `Form`, an atom or a list of forms, with its places in the text, and its parts.
 ghost use Rattle.std.specs.Prelude.{◌≡◌, Some, None, MatchOption};
 ghost use Rattle.golog_form.specs.Shape.{place_of, atom_of, items_of};
 

@@ -1,3 +1,4 @@
+// The tokens of a text, one after another: `(`, `)`, an atom, a byte of no class.
 ghost use Rattle.std.specs.Prelude.{◌≡◌, ◌≤◌, ◌<◌, ◌+◌, ◌^◌, ◌++◌, length, take, drop, true, false, IfOk, MatchOption, [], ◌∷◌};
 ghost use Rattle.golog_form.specs.Tokens.{tokens_from, run, IsNext, starts_token};
 

@@ -1,3 +1,4 @@
+// From tokens to a form: the lists that are open, at most 128, stand on a stack of their own.
 ghost use Rattle.std.specs.Prelude.{◌≡◌, ◌∷◌, [], ◌+◌, ◌≤◌, ◌<◌, ◌^◌, length, None, OnOk, IfOk, MatchOption};
 ghost use Rattle.golog_form.specs.Tokens.{tokens, place, end_of};
 ghost use Rattle.golog_form.specs.Gives.{Gives};

@@ -1,3 +1,5 @@
+// `print_form`: the text of a form, with one space between items. It reads back to the form, places
+// aside.
 ghost use Rattle.std.specs.Prelude.{◌≡◌, ◌++◌, IfOk, OnOk, IsTrue};
 ghost use Rattle.golog_form.specs.Printing.{text_of, spaced_texts, atoms_fit, ReadsBack};
 

@@ -1,3 +1,5 @@
+// `read_form`: the limit of 1,048,576 bytes is tested first, and then the form is read that the
+// bytes spell, or its first refusal.
 ghost use Rattle.std.specs.Prelude.{◌≤◌, length, IfOk, IsTrue, Ok};
 ghost use Rattle.golog_base.specs.Files.{file_limit};
 ghost use Rattle.golog_form.specs.Printing.{atoms_fit};

@@ -1,3 +1,4 @@
+// `Token`, what stands between separators and comments, with its place.
 ghost use Rattle.std.specs.Prelude.{◌≡◌, ◌+◌, ◌<◌, ◌^◌};
 ghost use Rattle.golog_form.specs.Tokens.{place, end_of};
 

@@ -1,3 +1,5 @@
+// What a program begins with: whether a search block stands at its front, and whether it may be
+// skipped.
 ghost use Rattle.std.specs.Prelude.{◌≡◌, false, true, ◌&&◌, ◌||◌};
 ghost use Rattle.golog_semantics.specs.Guarded.{IsGuarded, front};
 ghost use Rattle.golog_semantics.specs.WellFormed.{WellFormed};

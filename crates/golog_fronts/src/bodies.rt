@@ -1,3 +1,4 @@
+// The body of a procedure, with the arguments of a call put in.
 ghost use Rattle.std.specs.Prelude.{◌≡◌, ◌≤◌, IfOk, length};
 ghost use Rattle.golog_semantics.specs.Program.{body_of as body_with, put_arg as with_value, put_args as with_args, put_one as with_one};
 

@@ -1,3 +1,4 @@
+// Conditions put together: that both hold, that one does, that one doesn't, and by cases.
 ghost use Rattle.std.specs.Prelude.{◌≡◌, [], ◌∷◌, IfOk};
 
 use golog_base::{Boxed, List, NoMemory, both};

@@ -1,3 +1,4 @@
+// What a step leaves, put at its place beside another program.
 ghost use Rattle.std.specs.Prelude.{◌≡◌, IfOk};
 ghost use Rattle.golog_fronts.specs.Context.{placed};
 

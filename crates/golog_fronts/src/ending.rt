@@ -1,3 +1,4 @@
+// `end_cond`: the condition under which a program may end.
 ghost use Rattle.std.specs.Prelude.{◌≡◌, IfOk, IsTrue};
 ghost use Rattle.golog_semantics.specs.Fits.{cond_fits, nothing_bound};
 ghost use Rattle.golog_semantics.specs.Fronts.{IsEnd};

@@ -1,3 +1,4 @@
+// `Front`, a step with the condition under which it may be taken, and lists of fronts changed.
 ghost use Rattle.std.specs.Prelude.{◌≡◌, [], ◌∷◌, ◌++◌, map, IfOk};
 ghost use Rattle.golog_fronts.specs.Context.{placed};
 ghost use Rattle.golog_fronts.specs.FrontLists.{front_in, front_where as with_guard, none_open as none_of_these};

@@ -1,4 +1,4 @@
-//! Where a walk over programs stands.
+//! `Fit`, an agent whose programs are walked over: the walks are its methods.
 ghost use Rattle.golog_fronts.specs.Closed.{IsFit};
 
 use golog_tree::Agent;

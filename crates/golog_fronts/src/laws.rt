@@ -1,3 +1,5 @@
+// Laws of fronts: those of a well-formed agent can be found, and where `has_front_block` finds no
+// search block none is reached without a step.
 ghost use Rattle.golog_fronts.specs.Closed.{WellFormedIsFit};
 ghost use Rattle.golog_fronts.specs.FrontBlock.{NoneIsReached};
 

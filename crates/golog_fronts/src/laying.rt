@@ -1,3 +1,4 @@
+// The fronts of one construct, from those of its parts.
 ghost use Rattle.std.specs.Prelude.{◌≡◌, [], ◌∷◌, ◌++◌, ◌≤◌, length, map, IfOk};
 ghost use Rattle.golog_tree.specs.Tidy.{tidy_seq as seq_of, tidy_conc as conc_of, tidy_prio as prio_of};
 ghost use Rattle.golog_fronts.specs.Closed.{IsFit, IsClosed};

@@ -1,3 +1,4 @@
+// `fronts`: the steps of a program with their conditions, in order.
 ghost use Rattle.std.specs.Prelude.{◌≡◌, false, All, IfOk, IsTrue};
 ghost use Rattle.golog_semantics.specs.Fronts.{AreFronts};
 ghost use Rattle.golog_semantics.specs.WellFormed.{WellFormed};

@@ -1,3 +1,4 @@
+// The text of a ground action, and the ground action of a text.
 ghost use Rattle.std.specs.Prelude.{◌≡◌, ◌<◌, position, nat_eq};
 ghost use Rattle.std.specs.Cmp.Lexicographic.{pointwise};
 ghost use Rattle.golog_tree.specs.Ground.{IsCountable, ground_count, action_args};

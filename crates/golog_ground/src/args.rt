@@ -1,3 +1,4 @@
+// Arguments in brackets, written and read: constants of given sorts, with commas between them.
 ghost use Rattle.std.specs.Prelude.{◌≡◌, ◌<◌, ◌≤◌, ◌+◌, ◌*◌, [], ◌∷◌, ◌++◌, length, take, drop, position};
 ghost use Rattle.std.specs.List.{position_or_len};
 ghost use Rattle.golog_tree.specs.Ground.{AreWithin, sizes};

@@ -1,3 +1,4 @@
+// The text of a constant of a sort, and the constant of a text; the place of a name among names.
 ghost use Rattle.std.specs.Prelude.{◌≡◌, ℕ, pos, ◌<◌, ◌≤◌, ◌+◌, ◌+ℤ◌, ◌++◌, length, position, bytes_eq};
 ghost use Rattle.std.specs.Fmt.{signed_decimal};
 ghost use Rattle.golog_tree.specs.Ground.{item_size, sort_size};

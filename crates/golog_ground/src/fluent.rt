@@ -1,3 +1,4 @@
+// The text of a ground fluent.
 ghost use Rattle.std.specs.Prelude.{◌≡◌, ◌<◌};
 ghost use Rattle.golog_tree.specs.Ground.{IsCountable, ground_count, fluent_args};
 ghost use Rattle.golog_semantics.specs.Text.{fluent_text as spec_fluent_text};

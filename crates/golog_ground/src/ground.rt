@@ -1,3 +1,4 @@
+// The text of a ground thing: a name, with its arguments in brackets where it has some.
 ghost use Rattle.std.specs.Prelude.{◌≡◌, ◌≤◌, ◌++◌, length};
 ghost use Rattle.golog_tree.specs.Ground.{AreWithin, sizes};
 ghost use Rattle.golog_semantics.specs.Text.{args_text};

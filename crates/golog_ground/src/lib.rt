@@ -1,5 +1,9 @@
 //! Texts of ground actions, ground fluents and constants, and the way back from those of actions and constants: each
 //! has one text.
+//!
+//! `action_text`, `fluent_text` and `constant_text` write into an `ActionText`, which holds at most
+//! 128 bytes in itself; `read_action` and `read_constant` give the number back. None of them takes
+//! memory.
 #![tactic(auto)]
 
 mod action;

@@ -1,3 +1,5 @@
+// Decimal numbers of 32 bits, read by the standard parser and compared with their own text, so that
+// each has one.
 ghost use Rattle.golog_ground.specs.Texts.{IsTheOne, WritesNumber};
 
 use itoa::Buffer;

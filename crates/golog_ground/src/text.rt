@@ -1,3 +1,5 @@
+// `ActionText`: room for 128 bytes held in itself. A name of 31 bytes, three arguments of 31 each
+// behind a bracket or a comma, and a closing bracket are 128.
 ghost use Rattle.std.specs.Prelude.{◌≡◌, ◌+◌, ◌≤◌, [], ◌++◌, length};
 
 use std::marker::Model;

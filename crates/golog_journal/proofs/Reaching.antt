@@ -1,4 +1,4 @@
--- The entries that were gone through for the commands of a device.
+-- The entries that were gone through for the commands of a device tell the command of a number.
 use Rattle.std.proofs.Common.{◌≡◌, ℕ, ◌+◌, ◌-◌, ◌≤◌, ◌<◌, Option, Some, None, List, [], ◌∷◌, ◌++◌, length, length-append, take, drop, set, get_or, sym, ap, ◌∙◌, subst, arith, ◌⊎◌, inl, inr, get_or-set_same, get_or-set_other, length-set}
 use Rattle.std.specs.Prelude.{if◌then◌else◌, is_some, IfSome, option_map, slice_get}
 use Rattle.std.specs.Option.{option_or, option_to_list}

@@ -1,4 +1,5 @@
-//! What devices and the program share their entries through.
+//! `Board`, the trait of a journal that may be shared, and its answers `Next`, `Posted`, `Commit`,
+//! `Batch`; `LIMIT`.
 ghost use Rattle.std.specs.Prelude.{◌≡◌, ◌≤◌, ℕ, true, length};
 ghost use Rattle.golog_journal.specs.Taken.{IsReady};
 ghost use Rattle.golog_journal.specs.Posting.{MayPost, PostIs};

@@ -1,4 +1,4 @@
-//! What is counted of a journal's entries.
+//! `Counts`, what is counted of a journal's entries without the entries.
 ghost use Rattle.std.specs.Prelude.{◌≡◌, ◌<◌, ◌≤◌, [], length, Some, None, IfOk};
 ghost use Rattle.golog_semantics.specs.declared.journal.Entry.TheVariants.{Do};
 ghost use Rattle.golog_semantics.specs.Journal.{poster_of as posted_by, device_of, has_end as has_ended, is_open as is_open_in, is_full as is_full_in, is_quiet as is_quiet_in, lacks_results as lack_results_in, may_be_answered as may_be_answered_in, longest};

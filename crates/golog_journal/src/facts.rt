@@ -1,4 +1,5 @@
-//! What a journal keeps of its agent.
+//! What is kept of a ground action: its device, who may post it, the fluent that its result tells,
+//! how many values that has, whether the program goes on only after the result; `DEVICES`.
 ghost use Rattle.std.specs.Prelude.{◌≡◌, ◌<◌, IfOk, false, nat_lt};
 ghost use Rattle.std.specs.Option.{option_map_or};
 ghost use Rattle.golog_tree.specs.Ground.{sort_size as size_of_sort};

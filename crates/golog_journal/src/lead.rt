@@ -1,4 +1,4 @@
-//! What drives a program over a board.
+//! `Lead`, the trait of what drives a program over a board, and may write its copy out.
 ghost use Rattle.std.specs.Prelude.{◌≡◌, ◌↔◌, ◌≤◌, IsTrue, true, false, length};
 ghost use Rattle.golog_semantics.specs.Journal.{Journal, has_end, is_quiet, longest};
 ghost use Rattle.golog_journal.specs.Boards.{IsBoardList};

@@ -1,4 +1,4 @@
-//! The entries of a journal, in room that was reserved for them.
+//! The entries of a journal in room that was reserved for them, and which of their results stand.
 ghost use Rattle.std.specs.Prelude.{◌≡◌, ◌≤◌, ◌<◌, ◌||◌, ℕ, [], ◌∷◌, ◌++◌, length, drop, true, false, IfOk, slice_index_or};
 ghost use Rattle.std.specs.List.{list_any};
 ghost use Rattle.golog_semantics.specs.Journal.{is_result_of, longest};

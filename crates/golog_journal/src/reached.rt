@@ -1,4 +1,5 @@
-//! How far the entries were gone through for the commands of each device.
+//! How far the entries were gone through for the commands of each device, how many stood there and
+//! the last of them; and further, up to the command of a number.
 ghost use Rattle.std.specs.Prelude.{◌≡◌, ◌≤◌, ◌<◌, ◌+◌, length, if◌then◌else◌, is_some, nat_le, option_map, IfOk, All};
 ghost use Rattle.std.specs.Option.{option_or};
 ghost use Rattle.golog_semantics.specs.Journal.{command_at, longest};

@@ -1,4 +1,4 @@
-//! The facts of each ground action, from the agent.
+//! The facts of each ground action, made once, from the agent.
 ghost use Rattle.std.specs.Prelude.{◌≡◌, ◌<◌, ◌≤◌, ◌==◌, ℕ, IfOk, IsTrue, IfSome, All, false, true, not, length, map, find, option_map, slice_get, slice_index_or};
 ghost use Rattle.std.specs.List.{list_any};
 ghost use Rattle.std.specs.Option.{option_map_or, option_copied};

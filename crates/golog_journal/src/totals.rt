@@ -1,4 +1,4 @@
-//! How many entries there are.
+//! How many entries there are, how many of them are counted, and whether the end stands.
 ghost use Rattle.std.specs.Prelude.{◌≡◌, ◌≤◌, ◌<◌, [], ◌∷◌, ◌++◌, length};
 ghost use Rattle.golog_semantics.specs.Journal.{is_counted as counts, is_end as ends, count as count_of, has_end as has_ended, longest};
 

@@ -1,4 +1,5 @@
-//! A list of entries that is not kept.
+//! The entries so far for clauses alone, so that what is counted is told by the list of what is
+//! kept: a chain of snapshots, which takes no memory.
 ghost use Rattle.std.specs.Prelude.{◌≡◌, [], ◌∷◌, ◌++◌};
 
 use golog_semantics::Entry;

@@ -1,3 +1,4 @@
+// The two public calls, `value` and `term`, which also say what their answers mean in each world.
 ghost use Rattle.std.specs.Prelude.{◌≡◌, length};
 ghost use Rattle.golog_tree.specs.Ground.{IsCountable, ground_fluents};
 ghost use Rattle.golog_semantics.specs.Truth.{truth_of, value_of};

@@ -1,3 +1,4 @@
+// `Env`, the values of the 32 variables.
 ghost use Rattle.std.specs.Prelude.{◌≡◌, ◌<◌, ◌≤◌, [], map, take, length, slice_set};
 ghost use Rattle.golog_semantics.specs.Truth.{env_of, arg_value as value_of_arg};
 

@@ -1,3 +1,4 @@
+// The value of a fluent at arguments, found by the number of the ground fluent.
 ghost use Rattle.std.specs.Prelude.{◌≡◌, length, map};
 ghost use Rattle.golog_tree.specs.Ground.{IsCountable, ground_fluents};
 ghost use Rattle.golog_semantics.specs.Truth.{fluent_value, arg_value};

@@ -1,3 +1,4 @@
+// The strong Kleene tables, and the comparisons of values that may be unknown.
 ghost use Rattle.std.specs.Prelude.{◌≡◌, ◌==◌, ◌&&◌, nat_lt, nat_le};
 ghost use Rattle.golog_semantics.specs.Truth.{truth as truth_of_bool, both as both_of, either as either_of, not_of, is_known, chosen as chosen_of, comparison_of};
 

@@ -1,3 +1,4 @@
+// `+` and `-` of a value, which stop at a sort's ends.
 ghost use Rattle.std.specs.Prelude.{◌≡◌, ◌+◌, ◌-◌, ◌≤◌, min};
 ghost use Rattle.golog_semantics.specs.Truth.{value_shifted};
 

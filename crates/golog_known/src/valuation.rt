@@ -1,3 +1,4 @@
+// The recursion over conditions and terms that gives their truths and values.
 ghost use Rattle.std.specs.Prelude.{◌≡◌, length};
 ghost use Rattle.golog_tree.specs.Ground.{IsCountable, ground_fluents};
 ghost use Rattle.golog_semantics.specs.Truth.{truth_of, value_of};

@@ -1,4 +1,9 @@
 //! Laws and worked examples of the definitions, which nothing stands on.
+//!
+//! Those of the definitions stand here that no proof above cites. Like those of golog_semantics
+//! they are the contracts of public functions with empty bodies. No crate stands on it, so that a
+//! law or an example more proves this crate alone. A law goes to golog_semantics only when a proof
+//! of a crate above is to cite it.
 #![tactic(auto)]
 
 mod examples;

@@ -1,4 +1,4 @@
-//! Laws of programs and of the runs under way in them.
+//! Laws of programs: constants put in, tidy programs, and the runs under way in them.
 ghost use Rattle.golog_laws.specs.ProgLaws.{ConstantsPutIn, PlainlyWritten, WellFormedHasNoRuns};
 ghost use Rattle.golog_laws.specs.Tidied.{LeftsAreTidy};
 ghost use Rattle.golog_laws.specs.Within.{NoNearNoCertain, RunsStayWithin};

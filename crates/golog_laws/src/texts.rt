@@ -1,4 +1,4 @@
-//! Laws of reports and their texts.
+//! Laws of reports and their texts: a report is known by its text.
 ghost use Rattle.golog_laws.specs.TextLaws.{OneReportIsSpelled, ResultsOfReportsFit, TextTellsReports};
 
 /// Two reports that have the same text are the same, where the devices, the actions and the constants of each sort have

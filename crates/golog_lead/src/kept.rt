@@ -1,4 +1,4 @@
-//! The entries of a program under way, kept with the runs that they begin.
+//! `Kept`, a record that keeps the entries and the runs that they begin.
 ghost use Rattle.std.specs.Prelude.{◌≡◌, ◌≤◌, [], ◌∷◌, ◌++◌, length, None, IfOk};
 ghost use Rattle.golog_semantics.specs.Journal.{longest};
 

@@ -1,4 +1,5 @@
-//! The lines of a program's entries, each written once and in order.
+//! `Printed`, a record that writes the line of each entry to a sink, once and in order, and keeps
+//! none.
 ghost use Rattle.std.specs.Prelude.{◌≡◌};
 
 use crate::{Record, UnderWay};

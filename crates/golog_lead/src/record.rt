@@ -1,4 +1,5 @@
-//! What records the entries of a program under way.
+//! `Record`, the trait of what records the entries of a program under way one by one, with the runs
+//! that they begin.
 ghost use Rattle.std.specs.Prelude.{◌≡◌, ◌<◌, Option, [], ◌∷◌, ◌++◌, IsTrue};
 ghost use Rattle.golog_semantics.specs.Journal.{Journal, count, limit};
 ghost use Rattle.golog_tree.specs.declared.agent.Agent.{Agent};

@@ -1,4 +1,5 @@
-//! A lead whose turns are those of rounds.
+//! `RoundLead`, the trait of a lead whose turn is known where no one else adds entries: what its
+//! copy keeps, what a turn alone makes of a list, and with which answers it may end early.
 ghost use Rattle.std.specs.Prelude.{◌≡◌, ◌<◌, ◌≤◌, ◌⊎◌, true, length};
 ghost use Rattle.golog_tree.specs.declared.agent.Agent.{Agent};
 ghost use Rattle.golog_semantics.specs.declared.journal.Answer.{Answer};

@@ -1,4 +1,4 @@
-//! A run without threads.
+//! `run_inline`: the rounds in which each open device has a turn, and then the lead.
 ghost use Rattle.std.specs.Prelude.{◌≡◌, ◌≤◌, ◌<◌, None, true, false, length, slice_get};
 ghost use Rattle.golog_semantics.specs.Journal.{is_open, longest};
 ghost use Rattle.golog_semantics.specs.Online.{is_whole};

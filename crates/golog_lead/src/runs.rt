@@ -1,4 +1,4 @@
-//! The runs of a journal, in room that was reserved for them.
+//! `Runs`, the runs that the steps of a journal begin, in room that was reserved for them.
 ghost use Rattle.std.specs.Prelude.{◌≡◌, ◌<◌, [], ◌∷◌, ◌++◌, length, IfOk, IsSome};
 ghost use Rattle.golog_semantics.specs.Journal.{limit};
 ghost use Rattle.golog_semantics.specs.InlineText.{placed_run};

@@ -1,4 +1,4 @@
-//! A program under way, as what records its entries sees it.
+//! `UnderWay`, the trait of a program under way as its record sees it.
 ghost use Rattle.std.specs.Prelude.{◌≡◌, ◌≤◌, length};
 ghost use Rattle.golog_semantics.specs.Journal.{longest};
 ghost use Rattle.golog_semantics.specs.Progress.{values_after};

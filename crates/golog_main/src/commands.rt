@@ -1,4 +1,4 @@
-// What each command writes.
+// What each order does and writes: `served`, and for a run `over_rounds` and `over_threads`.
 ghost use Rattle.std.specs.Prelude.{◌≡◌, ◌≤◌, true, false, Some, IfOk, OnErr, length, option_map};
 ghost use Rattle.golog_semantics.specs.Journal.{device_limit};
 ghost use Rattle.golog_device.specs.Slots.{standings, FreshBelow};

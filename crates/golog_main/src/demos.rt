@@ -1,4 +1,4 @@
-// The demo: a run of the lift of a size.
+// The run of a demo, `demonstrated`: a lift of the size that the words say.
 ghost use Rattle.std.specs.Prelude.{◌≡◌, ◌≤◌, IfOk, Ok, All, length};
 ghost use Rattle.golog_semantics.specs.WellFormed.{WellFormed};
 ghost use Rattle.golog_semantics.specs.Journal.{device_limit};

@@ -1,4 +1,4 @@
-// The devices of the program.
+// `script_devices`: sixteen devices that follow scripts.
 ghost use Rattle.std.specs.Prelude.{◌≡◌, IfOk, length};
 ghost use Rattle.golog_semantics.specs.Journal.{device_limit};
 ghost use Rattle.golog_device.specs.Slots.{standings, FreshBelow};

@@ -1,4 +1,4 @@
-// What a replay comes to.
+// A replay, `replayed`, and what it comes to.
 ghost use Rattle.std.specs.Prelude.{IfOk};
 ghost use Rattle.golog_semantics.specs.Reports.{IsReport};
 ghost use Rattle.golog_semantics.specs.WellFormed.{WellFormed};

@@ -1,3 +1,5 @@
+// Laws of calls: each status comes where its cause is, what a failed write cuts short begins
+// online, replays and chains of runs are online, and what runs without search blocks don't end for.
 ghost use Rattle.golog_commands.specs.Exact.{StatusesAreExact};
 ghost use Rattle.golog_commands.specs.CutShort.{CutShortBeginsOnline};
 ghost use Rattle.golog_main.specs.Chains.{ChainsReplay};

@@ -1,4 +1,15 @@
 //! The top call: does what the words of a command say, and answers the exit status.
+//!
+//! `golog(rt, alloc, words, files, out, devices)` does what the words say over any `Files`, any
+//! `Sink` and any 16 devices or more, of which the first 16 are fresh, and answers the exit status.
+//! The devices of a `run` have threads of this runtime, or with `--inline` their turns in rounds;
+//! `serve_inline` serves every order but a run over threads, without a runtime, so it is proved to
+//! return.
+//!
+//! A run is written line by line while it goes on, by a scribe. Its end and that of the other
+//! commands are one clause (`IsReported`): the outcome's text was written whole with the outcome's
+//! status, or a write failed and a prefix of it was written. So a fault of the sink takes
+//! precedence over every outcome, and nothing is written twice.
 #![tactic(auto)]
 
 mod commands;

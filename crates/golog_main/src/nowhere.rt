@@ -1,4 +1,4 @@
-// A sink for what is not to be written.
+// A sink that takes all and tells nothing, for a run whose head couldn't be written.
 use golog_base::{Failed, Sink};
 
 // Takes all that is written, and tells nothing of it.

@@ -1,4 +1,5 @@
-// A run of an agent whose devices follow scripts, or are handed in.
+// A run, `run_in_rounds` or `run_on_threads`: its beginning, then the rounds or threads with a
+// scribe as lead. For a demo, `reported_in_rounds`: the report of one with a runner as lead.
 ghost use Rattle.std.specs.Prelude.{◌≡◌, ◌≤◌, true, false, All, IfOk, IfSome, OnOk, OnErr, [], length};
 ghost use Rattle.golog_base.specs.Faults.{Rose};
 ghost use Rattle.golog_base.specs.Known.{AddsPrefix, and_then_bytes};

@@ -1,4 +1,4 @@
-// The top call.
+// The top call, and which order the words give.
 ghost use Rattle.std.specs.Prelude.{◌≡◌, ◌<◌, ◌≤◌, map, string_bytes, false, Some, IsSome, IfOk, OnErr, length};
 ghost use Rattle.golog_semantics.specs.Journal.{device_limit};
 ghost use Rattle.golog_device.specs.Slots.{standings, FreshBelow};

@@ -1,4 +1,4 @@
-// The words of a program's call.
+// `words_of`: the words of a program's call after the program's name.
 use std::alloc::AllocError;
 use std::env;
 use std::env::Env;

@@ -1,4 +1,5 @@
-//! The code of a program: a number that stands for it where a map looks for it.
+//! The code of a program, by which a map looks for it: a walk over constructs, numbers and
+//! arguments.
 ghost use Rattle.std.specs.Prelude.{◌≡◌};
 ghost use Rattle.golog_memo.specs.Codes.{mixed as spec_mixed, pair_code as spec_pair_code, arg_code as spec_arg_code, args_code as spec_args_code, term_code as spec_term_code, cond_code as spec_cond_code, conds_code as spec_conds_code, prog_code as spec_prog_code};
 

@@ -1,3 +1,4 @@
+// A program as the key of a map.
 ghost use Rattle.std.specs.Prelude.{◌≡◌, IfOk};
 
 use crate::code::prog_code;

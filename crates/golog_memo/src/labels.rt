@@ -1,3 +1,4 @@
+// Whether two steps do the same.
 ghost use Rattle.std.specs.Prelude.{◌≡◌};
 ghost use Rattle.golog_semantics.specs.Same.{same_label};
 

@@ -1,3 +1,5 @@
+// `Nodes`, programs by numbers, each once: kept in a list, and as the keys by which their numbers
+// are found.
 ghost use Rattle.std.specs.Prelude.{◌≡◌, ◌<◌, ◌++◌, ◌∷◌, [], IfOk, OnOk, OnErr, Some, length, slice_get};
 ghost use Rattle.golog_memo.specs.Numbered.{AreOnce, IsAddedTo, number_in, same};
 ghost use Rattle.std.specs.HashMap.{IsUnchanged, Updates};

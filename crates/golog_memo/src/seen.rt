@@ -1,3 +1,4 @@
+// `Seen`, the pairs of a program's number and a state that were seen.
 ghost use Rattle.std.specs.Prelude.{◌≡◌, ℕ, List, false, not, ◌||◌, ◌&&◌, ◌==◌, IfOk, OnOk, OnErr};
 ghost use Rattle.golog_semantics.specs.Same.{same_values};
 ghost use Rattle.golog_memo.specs.SeenPairs.{is_seen};

@@ -1,4 +1,4 @@
-// The texts of conditions, added to a text.
+// The texts of arguments, terms and conditions, added to a text.
 ghost use Rattle.std.specs.Prelude.{◌≡◌, [], ◌∷◌, ◌++◌, OnOk, codes, map};
 ghost use Rattle.std.specs.List.{flat_map};
 ghost use Rattle.golog_print.specs.Printing.{in_list, sign_text, variable_text, arg_text, args_texts, binder_text, fluent_text, term_text, cond_text};

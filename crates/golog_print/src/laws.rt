@@ -1,4 +1,4 @@
-// What is so of each agent, for callers that want to show it.
+// A law of each agent, `ranges_fit`: the ends of its sorts of whole numbers are in 32 bits.
 ghost use Rattle.golog_semantics.specs.ReportLaws.{RangesFit};
 
 use golog_tree::{Agent, SortItem};

@@ -1,4 +1,5 @@
-// The names of an agent's things, by their numbers, and the names of variables.
+// The names of an agent's things by their numbers, constants, numbers, and the stem of variables'
+// names.
 ghost use Rattle.std.specs.Prelude.{◌≡◌, ◌++◌, IfOk, OnOk, nat_eq};
 ghost use Rattle.std.specs.Fmt.{signed_decimal};
 ghost use Rattle.std.specs.List.{list_any, starts_with};

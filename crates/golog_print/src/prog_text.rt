@@ -1,3 +1,4 @@
+// `print_prog`: the text of a program.
 ghost use Rattle.std.specs.Prelude.{◌≡◌, [], ◌∷◌, ◌++◌, OnOk, IfOk, codes, decimal};
 ghost use Rattle.golog_print.specs.Printing.{in_list, args_texts, binder_text, cond_text, prog_text, text_of_prog};
 ghost use Rattle.golog_print.specs.ReadBack.{IsPrintable, ReadsBack};

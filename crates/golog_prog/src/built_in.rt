@@ -1,3 +1,5 @@
+// The numbers of what is built in.
+
 /// The number of the fluent `interrupts_running` among the fluents, where it is built in.
 pub const INTERRUPTS_RUNNING: u32 = 0;
 

@@ -1,3 +1,4 @@
+// `(act ACTION ARGS)` and `(call PROC ARGS)`: what they name, with as many arguments as it has.
 ghost use Rattle.std.specs.Prelude.{◌≡◌};
 ghost use Rattle.golog_theory.specs.Reading.{Answers};
 ghost use Rattle.golog_prog.specs.Callees.{action_named, proc_named, named};

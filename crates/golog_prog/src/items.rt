@@ -1,3 +1,5 @@
+// `program_of`: the `proc` and `main` items, one function each, which adds what it read to what was
+// read so far.
 ghost use Rattle.std.specs.Prelude.{◌≡◌, [], IfOk};
 ghost use Rattle.std.specs.List.{list_any};
 ghost use Rattle.golog_theory.specs.Reading.{Answers, Leaves, IsFirstRow, each};

@@ -1,3 +1,4 @@
+// The words that a program in a list begins with.
 ghost use Rattle.std.specs.Prelude.{◌≡◌};
 ghost use Rattle.golog_prog.specs.Keywords.{keyword_of, later_keyword};
 

@@ -1,3 +1,5 @@
+// The procedures that a file declares, by the shape of its items, with the numbers of their names:
+// what any program may call.
 ghost use Rattle.std.specs.Prelude.{◌≡◌, ℕ, List, IfOk, position};
 ghost use Rattle.golog_theory.specs.Names.{same};
 ghost use Rattle.golog_prog.specs.Procedures.{declared_by, declared_in};

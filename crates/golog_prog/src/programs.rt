@@ -1,3 +1,4 @@
+// The constructs of programs, one function each, by recursion over forms.
 ghost use Rattle.golog_tree.specs.declared.draft_prog.DraftProg.TheVariants.{Nil};
 ghost use Rattle.golog_theory.specs.Reading.{Answers, gives};
 ghost use Rattle.golog_prog.specs.Constructs.{test_of, progs_of, several_of, pick_of, one_of, guarded_of, guard_of, if_of, search_of, interrupt_of, interrupts_of};

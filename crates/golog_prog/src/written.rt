@@ -1,3 +1,4 @@
+// What the interrupt forms stand for, written out.
 ghost use Rattle.std.specs.Prelude.{◌≡◌, false, [], ◌∷◌, IfOk};
 ghost use Rattle.golog_tree.specs.declared.draft_cond.DraftCond.TheVariants.{Truth};
 ghost use Rattle.golog_tree.specs.declared.draft_prog.DraftProg.TheVariants.{Act, Test};

@@ -1,3 +1,4 @@
+// The values of the variables of a cause's head, and the head matched with an action's arguments.
 ghost use Rattle.std.specs.Prelude.{◌≡◌, ◌+◌, ◌<◌, ◌≤◌, [], ◌∷◌, ◌++◌, length};
 ghost use Rattle.golog_semantics.specs.Truth.{arg_value};
 ghost use Rattle.golog_semantics.specs.Values.{matched_values};

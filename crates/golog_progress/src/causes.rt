@@ -1,3 +1,4 @@
+// What the causes of an action make of the values, the last of them first.
 ghost use Rattle.std.specs.Prelude.{◌≡◌, ℕ, ◌+◌, ◌*◌, ◌<◌, ◌≤◌, [], ◌∷◌, ◌++◌, Some, IsTrue, length, slice_index, take};
 ghost use Rattle.std.specs.List.{list_all};
 ghost use Rattle.golog_tree.specs.Ground.{AreWithin, action_args, args_at, ground_fluents, product, sizes};

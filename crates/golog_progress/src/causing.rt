@@ -1,4 +1,4 @@
-//! A cause whose effect is taken from values.
+//! A cause, with the values that its effect is taken from.
 ghost use Rattle.std.specs.Prelude.{◌≡◌, length};
 ghost use Rattle.golog_tree.specs.Ground.{IsCountable, ground_fluents};
 

@@ -1,3 +1,4 @@
+// `restart`: other start values for an agent.
 ghost use Rattle.std.specs.Prelude.{◌≡◌, MatchResult};
 ghost use Rattle.golog_semantics.specs.InSorts.{AreInSorts};
 ghost use Rattle.golog_semantics.specs.Restart.{restarted};

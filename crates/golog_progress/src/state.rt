@@ -1,3 +1,5 @@
+// `State`, what is known of each ground fluent, and what entries make of it: one byte each, and a
+// second buffer reserved at its making.
 ghost use Rattle.std.specs.Prelude.{◌≡◌, ◌<◌, [], IfOk, IsTrue, fold, length, slice_set};
 ghost use Rattle.golog_tree.specs.declared.agent.Agent.{Agent as AnyAgent};
 ghost use Rattle.golog_tree.specs.Ground.{ground_actions};

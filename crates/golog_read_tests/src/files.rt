@@ -1,3 +1,4 @@
+// Tests of `read_all` over files in memory, also where a call fails, and over real ones.
 use crate::asserting::same;
 use golog_base::{
     Bytes, FileFiles, Files, HeldFile, List, MemFiles, NoMemory, ReadFault, Text, read_all,

@@ -1,3 +1,4 @@
+// Tests of what `read_form` gives, and of `print_form`.
 ghost use Rattle.std.specs.Prelude.{IsTrue};
 ghost use Rattle.golog_form.specs.Printing.{atoms_fit};
 

@@ -1,5 +1,7 @@
 //! Tests of the readers: theories, conditions and programs, and what they refuse; and of the files, the sinks and the
 //! names below them.
+//!
+//! What they refuse stands in the cases of golog_cases.
 #![tactic(auto)]
 
 #[cfg(test)]

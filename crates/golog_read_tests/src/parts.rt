@@ -1,3 +1,4 @@
+// Tests of what a theory and a condition hold that were read.
 use crate::asserting::same;
 use crate::reading::{condition_in, theory_in};
 use golog_base::Word;

@@ -1,3 +1,4 @@
+// A test of what a program holds that was read: interrupts are written out.
 use crate::asserting::same;
 use crate::reading::program_in;
 use golog_tree::{DraftCond, DraftProg};

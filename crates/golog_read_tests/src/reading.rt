@@ -1,3 +1,4 @@
+// Theories, programs and conditions that texts spell, for the tests.
 use golog_form::{Form, read_form};
 use golog_prog::program_of;
 use golog_theory::{TheoryFault, condition_of, theory_of};

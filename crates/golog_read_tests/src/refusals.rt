@@ -1,3 +1,4 @@
+// A test of `lesser` and `least_of`.
 use crate::asserting::same;
 use golog_rows::{Refusal, least_of, lesser};
 

@@ -1,3 +1,5 @@
+// Tests of `write_all` over sinks in memory, also where a call fails, and over standard output, and
+// of `put_reserved`.
 use crate::asserting::same;
 use golog_base::{Failed, List, MemSink, NoMemory, OutSink, put_reserved, write_all};
 use std::alloc::Global;

@@ -1,3 +1,5 @@
+// Tests of names, alone and in records and in types that hold themselves, of lists, texts and
+// boxes, and of `add_decimal`.
 use crate::asserting::same;
 use golog_base::{Boxed, Bytes, List, NoMemory, Text, Word, add_decimal, both, is_name};
 use std::alloc::Global;

@@ -1,4 +1,9 @@
 //! Laws of what `check` refuses, which nothing stands on.
+//!
+//! The `specs/` here say what the parts of a draft say. These tell nothing of refusals: a draft
+//! says an agent or it doesn't. The laws are the contracts of functions with empty bodies: a draft
+//! that is refused says no well-formed agent, and any other says one alone, which `check` gives. No
+//! crate stands on it.
 #![tactic(auto)]
 
 ghost use Rattle.golog_refusals.specs.RefusalLaws.{CondsAreSaid, GivenIsSaid, RefusedSaysNone, SaidIsGiven};

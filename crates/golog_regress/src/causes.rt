@@ -1,3 +1,5 @@
+// What the causes of an action make of a fluent at given arguments, as a term over the values
+// before it.
 ghost use Rattle.std.specs.Prelude.{◌≡◌, [], ◌++◌, IfOk, Some};
 ghost use Rattle.golog_regress.specs.Causes.{matching as spec_matching, guarded as spec_guarded, is_plainly_true as spec_is_plainly_true, choice as spec_choice, layer as spec_layer, layered as spec_layered, sorts_of as spec_sorts_of, chain as spec_chain};
 ghost use Rattle.golog_regress.specs.Images.{cond_image, term_image};

@@ -1,3 +1,4 @@
+// An action that happened, with the causes that say what it changed.
 use crate::happened::Happened;
 use golog_tree::{Agent, CauseItem};
 

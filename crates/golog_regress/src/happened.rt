@@ -1,3 +1,4 @@
+// An action that happened, by the sorts of its arguments and the arguments.
 use golog_base::List;
 use golog_tree::Arg;
 

@@ -1,3 +1,5 @@
+// The head of a cause matched with given arguments: the images of its variables, and the tests
+// under which it is what was given.
 ghost use Rattle.std.specs.Prelude.{◌≡◌, [], ◌∷◌, ◌++◌, IfOk, OnOk, length};
 ghost use Rattle.golog_regress.specs.Causes.{is_next as spec_is_next, tested as spec_tested, matching as spec_matching};
 

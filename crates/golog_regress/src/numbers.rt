@@ -1,3 +1,4 @@
+// Variables by their numbers: the first that is free, and the images of arguments.
 ghost use Rattle.std.specs.Prelude.{◌≡◌, not};
 ghost use Rattle.std.specs.List.{list_any, range_with_len};
 ghost use Rattle.golog_regress.specs.Images.{image as spec_image, is_var as spec_is_var, first_free, fresh as spec_fresh};

@@ -1,3 +1,5 @@
+// `regress` and `regress_all`: a condition taken back over one event, and over a list of events,
+// the last first.
 ghost use Rattle.std.specs.Prelude.{◌≡◌, [], ◌∷◌, All, IfOk, IsTrue, ◌<◌, length, map, slice_get};
 ghost use Rattle.golog_tree.specs.Ground.{ground_actions};
 ghost use Rattle.golog_semantics.specs.Reports.{is_value};

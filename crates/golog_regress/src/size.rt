@@ -1,3 +1,4 @@
+// `nodes`: how many nodes a condition has.
 ghost use Rattle.std.specs.Prelude.{◌≡◌, ◌^◌, ◌-◌, ◌+◌, min, map, sum};
 ghost use Rattle.golog_regress.specs.Size.{nodes as spec_nodes, term_nodes as spec_term_nodes};
 

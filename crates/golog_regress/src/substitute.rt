@@ -1,3 +1,5 @@
+// Terms and conditions with the images of their variables put in; binders are renamed away from
+// these.
 ghost use Rattle.std.specs.Prelude.{◌≡◌, [], ◌∷◌, ◌++◌, map, IfOk};
 ghost use Rattle.golog_regress.specs.Images.{image as spec_image, fresh as spec_fresh, cond_image, term_image};
 

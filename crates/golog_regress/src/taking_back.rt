@@ -1,3 +1,4 @@
+// Terms and conditions whose fluents become what the causes of an action make of them.
 ghost use Rattle.std.specs.Prelude.{◌≡◌, map, IfOk};
 ghost use Rattle.golog_regress.specs.Causes.{chain as spec_chain};
 ghost use Rattle.golog_regress.specs.Regressed.{is_true as spec_is_true, cond_back as spec_cond_back, term_back as spec_term_back};

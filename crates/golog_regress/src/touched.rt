@@ -1,3 +1,4 @@
+// `touches`: whether an event may change what a condition reads.
 ghost use Rattle.std.specs.Prelude.{◌≡◌, [], ◌∷◌, ◌<◌, false, map, IsTrue, length};
 ghost use Rattle.std.specs.List.{list_any};
 ghost use Rattle.golog_tree.specs.Ground.{ground_actions};

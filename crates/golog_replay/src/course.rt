@@ -1,4 +1,5 @@
-//! The course of a journal: one entry after another is judged and taken, and nothing is gone through again.
+//! What the entries so far come to: what stands, the values and the program left; what is found of
+//! the next entry, and how it is taken in.
 
 ghost use Rattle.std.specs.Prelude.{◌≡◌, ◌<◌, [], ◌∷◌, ◌++◌, length, IfOk, IsTrue, MatchOption, None, Some, true, false, if◌then◌else◌, unwrap_or};
 ghost use Rattle.std.specs.Option.{option_copied};

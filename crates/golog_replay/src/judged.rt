@@ -1,3 +1,4 @@
+// `Judged`, what is found of an entry: the rule that it breaks, or the program that it leaves.
 use golog_semantics::{Move, Why};
 use golog_tree::Prog;
 

@@ -1,4 +1,4 @@
-//! Laws of what is replayed.
+//! Laws of replays: what is found online is an online execution, and the other way round.
 ghost use Rattle.golog_replay.specs.Laws.{OnlineIsAnOnlineRun, RunsReplayOnline};
 
 /// A report that was read from bytes is online exactly where it is an online execution and the bytes are its

@@ -1,3 +1,4 @@
+// `Lines`, the lines of the bytes, one after another.
 ghost use Rattle.std.specs.Prelude.{◌≡◌, ◌==◌, [], ◌∷◌, MatchOption, drop, position};
 ghost use Rattle.golog_semantics.specs.Verdicts.{lines_in};
 

@@ -1,3 +1,4 @@
+// The next entry of a report at its place, with the entries before it and the runs from there on.
 use golog_semantics::{Entry, PlacedRun};
 
 /// The next entry of a report at its place: the entries before it, and the runs from there on.

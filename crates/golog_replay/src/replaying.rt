@@ -1,3 +1,4 @@
+// `replay`, which takes one entry after another, with the line of each beside its text.
 ghost use Rattle.std.specs.Prelude.{◌≡◌, ◌<◌, ◌≤◌, [], ◌∷◌, ◌++◌, length, None, Some, IfOk, IsTrue, slice_get, drop};
 ghost use Rattle.golog_semantics.specs.declared.journal.Report.{Report as AnyReport};
 ghost use Rattle.golog_semantics.specs.Online.{first_fault, same_line};

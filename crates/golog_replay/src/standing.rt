@@ -1,4 +1,5 @@
-//! What is kept of the entries of a journal, and the rules that speak of nothing else.
+//! What is kept of the entries so far, so that no rule goes through them again: each device, the
+//! one command whose result the program waits for, the answer of the end.
 ghost use Rattle.std.specs.Prelude.{◌≡◌, ◌==◌, ◌<◌, ◌≤◌, ◌+◌, ℕ, [], ◌∷◌, ◌++◌, length, true, false, IfOk, IsTrue, MatchOption, Contains, Some, option_and_then, take, replicate};
 ghost use Rattle.std.specs.List.{list_any};
 ghost use Rattle.std.specs.Option.{option_map_or};

@@ -1,3 +1,5 @@
+// What is kept of a device: how many commands it was sent and its entries tell of, whether it is
+// open, and the first of its commands whose result is to come.
 ghost use Rattle.std.specs.Prelude.{◌≡◌, ◌<◌, ◌+◌, ◌&&◌, not, false, is_some, max, length, slice_index_or, slice_set};
 ghost use Rattle.std.specs.List.{list_all, list_any};
 ghost use Rattle.std.specs.Option.{option_map_or};

@@ -1,4 +1,4 @@
--- The codes of refusals.
+-- The codes of refusals of a journal's text, 50 to 54.
 use Rattle.std.specs.Prelude.{ℕ}
 
 -- the line has no body of the table, names and numbers left open, or lacks its line feed

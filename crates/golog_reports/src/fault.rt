@@ -1,3 +1,4 @@
+// `TextFault`, the refusals of a text, with their codes 50 to 54.
 ghost use Rattle.golog_reports.specs.declared.fault.TextFault.TheVariants.{Refused, Memory};
 ghost use Rattle.std.specs.Prelude.{◌≡◌, ◌+◌, ◌≤◌, true, false, MatchResult, option_map};
 ghost use Rattle.golog_rows.specs.Answers.{IfRefused};

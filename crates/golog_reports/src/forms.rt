@@ -1,4 +1,4 @@
-// The forms of the words of a line.
+// The parts of a line between marks, in words of their forms.
 ghost use Rattle.std.specs.Prelude.{◌≡◌, ◌≤◌, ◌==◌, ◌∷◌, true, false, length, position};
 ghost use Rattle.std.specs.List.{list_all};
 ghost use Rattle.std.specs.Option.{option_map_or};

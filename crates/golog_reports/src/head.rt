@@ -1,4 +1,5 @@
-// The head of a journal's text: the values that the journal starts from.
+// The values that a head says, and what stands behind it; refusals behind it are moved by its
+// lines.
 ghost use Rattle.std.specs.Prelude.{◌≡◌, ◌<◌, ◌≤◌, [], length, option_map};
 ghost use Rattle.golog_tree.specs.Ground.{fluent_args, ground_count};
 ghost use Rattle.golog_semantics.specs.Values.{ground_fluents};

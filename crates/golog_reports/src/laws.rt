@@ -1,4 +1,4 @@
-//! Laws of journals that are read.
+//! Laws of journals that are read: reading undoes writing.
 ghost use Rattle.golog_reports.specs.Laws.{JournalIsRead, LinesSayTheirTexts, MigratedReadsBack, ReadIsSpelled, ReadOrRefused, ReportsAreRead, WrittenReadsBack};
 
 /// A report that a text says has a text of its own.

@@ -1,4 +1,7 @@
 //! The report that the text of a journal says, or its first refusal.
+//!
+//! `read_journal(alloc, agent, bytes)` gives it, or a code with its line. A run writes journals and
+//! reads none, so the runner doesn't wait for it.
 #![tactic(auto)]
 
 mod fault;

@@ -1,4 +1,4 @@
-// What a line says of an agent's things.
+// What a line says of an agent's things, with their numbers in place of names.
 ghost use Rattle.std.specs.Prelude.{◌≡◌, [], IfOk, IsTrue, drop, option_map, true};
 ghost use Rattle.std.specs.Option.{option_map_or};
 ghost use Rattle.golog_semantics.specs.WellFormed.{WellFormed};

@@ -1,4 +1,4 @@
-// Numbers, by their digits.
+// The numbers that a line may have, by their digits.
 ghost use Rattle.std.specs.Prelude.{◌≡◌, Some, IsTrue};
 ghost use Rattle.golog_base.specs.Numbers.{amount};
 ghost use Rattle.golog_reports.specs.Reads.{is_small};

@@ -1,4 +1,4 @@
-// The report that the text of a journal says.
+// `read_journal`, line after line: the place of each, and what the entries so far say.
 ghost use Rattle.std.specs.Prelude.{◌≡◌, ◌<◌, ◌≤◌, [], true, length, is_some, IfOk, IsTrue, OnOk};
 ghost use Rattle.std.specs.Option.{option_map_or};
 ghost use Rattle.golog_tree.specs.Ground.{fluent_args, ground_count};

@@ -1,4 +1,4 @@
-// What a line of a journal says, with names and numbers left open.
+// What a line of a journal says in words, whatever the agent: names and numbers are left open.
 ghost use Rattle.std.specs.Prelude.{◌≡◌, true, bytes_eq, find, option_map};
 ghost use Rattle.std.specs.Option.{option_map_or};
 ghost use Rattle.golog_base.specs.Names.{is_name as spec_is_name};

@@ -1,3 +1,4 @@
+// `Refusal`, and the lesser of refusals that are gathered one after another.
 ghost use Rattle.std.specs.Prelude.{◌≡◌, ◌++◌, ◌∷◌, [], List, Some, IsTrue, IsFalse};
 ghost use Rattle.golog_rows.specs.Order.{IsNoLater};
 ghost use Rattle.golog_rows.specs.Least.{CodeAt, IsLeastOf};

@@ -1,3 +1,4 @@
+// Tests of devices that misbehave beside a good one, over threads: nothing of the good one is lost.
 use crate::actors::{Actors, Part};
 use crate::asserting::same;
 use crate::calls::{Call, RUN_ON_THREADS, Setting, file_of};

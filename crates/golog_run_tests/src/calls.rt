@@ -1,3 +1,5 @@
+// The calls of the program that the tests make, over files and sinks in memory, and what is
+// asserted of them.
 ghost use Rattle.std.specs.Prelude.{◌≤◌, length};
 ghost use Rattle.golog_device.specs.Slots.{standings, FreshBelow};
 

@@ -1,3 +1,5 @@
+// Tests of a read or a write that fails in a command that runs no program, and of conditions after
+// a journal of 4,000 entries.
 use crate::calls::{ONE, REPLAY, RUN_FROM, Setting, says};
 use golog_base::NoMemory;
 use std::alloc::Global;

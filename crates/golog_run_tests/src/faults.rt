@@ -1,3 +1,4 @@
+// Tests of runs in which each read and each write fails in turn.
 use crate::asserting::same;
 use crate::calls::{Call, ONE, RUN_FROM, Setting, called, says};
 use golog_base::NoMemory;

@@ -1,4 +1,6 @@
 //! Tests of the top call: its words, files in memory, what is written and the exit status.
+//!
+//! Here stands what a case of golog_cases can't say.
 #![tactic(auto)]
 
 #[cfg(test)]

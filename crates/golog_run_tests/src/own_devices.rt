@@ -1,3 +1,4 @@
+// Tests of runs over devices of the tests' own.
 use crate::asserting::same;
 use crate::calls::{Call, Setting, called_by, file_of, has_said};
 use crate::slots::{Maker, called_with, sixteen};

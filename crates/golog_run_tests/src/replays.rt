@@ -1,3 +1,5 @@
+// A test of a clock that posts 10,000 times during a search, whose journal is replayed, and again
+// with two steps exchanged.
 use crate::asserting::same;
 use crate::calls::{Call, RUN_ON_THREADS, Setting, called, called_on_threads, file_of, joined};
 use golog_base::{Bytes, NoMemory, both};

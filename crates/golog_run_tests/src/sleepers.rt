@@ -1,3 +1,5 @@
+// A test of fifty runs over devices that sleep in each call, as chance has it: each journal is
+// replayed.
 use crate::asserting::same;
 use crate::calls::{Call, RUN_ON_THREADS, Setting, called};
 use crate::slots::{Maker, threaded_with};

@@ -1,3 +1,4 @@
+// Tests of devices that misbehave, by tables, and of one that posts until the journal is full.
 ghost use Rattle.std.specs.Prelude.{◌≡◌, true, IfOk};
 ghost use Rattle.golog_device.specs.Tables.{is_fresh};
 

@@ -1,3 +1,5 @@
+// Tests of runs over threads: devices that wait for each other, and one that posts while the
+// program steps.
 use crate::actors::{Actors, Part};
 use crate::asserting::same;
 use crate::calls::{Call, NO_FILE, Setting};

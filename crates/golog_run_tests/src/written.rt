@@ -1,4 +1,5 @@
-//! Journals that are written while the program runs: whoever follows one sees each line when its entry is seen.
+//! Tests of journals that are written while the program runs: a device sees how many lines of a
+//! call are written in each round, and one on a thread of its own posts once two are.
 use crate::actors::{Actor, Actors, Part};
 use crate::asserting::same;
 use crate::calls::{NO_FILE, Setting, served_to, threaded_to};

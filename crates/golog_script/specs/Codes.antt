@@ -1,4 +1,4 @@
--- The codes of refusals.
+-- The codes of refusals of a devices file, 40 to 44.
 use Rattle.std.specs.Prelude.{ℕ}
 
 -- the bytes are no JSON

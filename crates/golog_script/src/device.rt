@@ -1,4 +1,5 @@
-// A device that follows its script.
+// `ScriptDevice`, which follows its script. It keeps the texts in lists with the last in front, so
+// that the next is taken by `pop`.
 ghost use Rattle.std.specs.Prelude.{◌≡◌, ◌<◌, ◌+◌, false, vec_len};
 ghost use Rattle.golog_device.specs.Devices.{idle_of, tells};
 ghost use Rattle.golog_device.specs.Kept.{item_of};

@@ -1,3 +1,4 @@
+// `ScriptFault`, the refusals of a devices file, with their codes 40 to 44.
 ghost use Rattle.std.specs.Prelude.{◌≡◌, true, false, MatchResult};
 ghost use Rattle.golog_script.specs.declared.fault.ScriptFault.TheVariants.{Refused, Memory};
 

@@ -1,4 +1,4 @@
-// The script that a text spells.
+// The two lists that the text of one script spells, for `begin`.
 ghost use Rattle.std.specs.Prelude.{◌≡◌, IfOk, option_map, option_and_then};
 ghost use Rattle.serde_json.specs.Find.{get};
 ghost use Rattle.serde_json.specs.View.{view};

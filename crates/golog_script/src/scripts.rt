@@ -1,4 +1,4 @@
-// The scripts of a devices file.
+// `Script`, and `scripts_of`: the elements of a devices file, one after another.
 ghost use Rattle.std.specs.Prelude.{◌≡◌, ◌<◌, ◌≤◌, [], All, IsUtf8, length, find, OnOk, IfOk};
 ghost use Rattle.std.specs.List.{list_any};
 ghost use Rattle.std.specs.Option.{option_copied};

@@ -1,4 +1,4 @@
-// Strings and arrays of strings in a value.
+// Strings and arrays of strings in a JSON value.
 ghost use Rattle.std.specs.Prelude.{◌≡◌, ◌++◌, ◌∷◌, [], All, IsUtf8, IfSome, OnOk, IfOk, option_map, option_and_then};
 ghost use Rattle.serde_json.specs.Find.{get};
 ghost use Rattle.serde_json.specs.View.{view, items_view};

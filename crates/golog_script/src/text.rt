@@ -1,4 +1,4 @@
-// The text of a script.
+// `script_text`: the text of a script.
 ghost use Rattle.std.specs.Prelude.{◌≡◌, ◌++◌, ◌∷◌, [], All, IsUtf8, IfOk, OnOk, Some, map};
 ghost use Rattle.serde_json.specs.Data.{string};
 ghost use Rattle.serde_json.specs.View.{view};

@@ -1,3 +1,5 @@
+// The steps of a search block: whether its kept run goes through, its first certain step, and in
+// which modes it has one.
 ghost use Rattle.std.specs.Prelude.{◌≡◌, ◌≤◌, ◌&&◌, ◌||◌, false, true, IfErr, IfOk, IsTrue, Some, length, nat_le};
 ghost use Rattle.std.specs.List.{list_all};
 ghost use Rattle.golog_tree.specs.declared.prog.Prog.TheVariants as prog;

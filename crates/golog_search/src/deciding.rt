@@ -1,3 +1,5 @@
+// `decide` and its halves, `decide_unbounded` and `heavy`: whether the program may end, its first
+// certain step, and else why it is blocked.
 ghost use Rattle.std.specs.Prelude.{◌≡◌, ◌≤◌, ◌&&◌, false, true, if◌then◌else◌, IfOk, IsTrue, nat_lt, not};
 ghost use Rattle.std.specs.Option.{is_some};
 ghost use Rattle.golog_tree.specs.Nest.{nest};

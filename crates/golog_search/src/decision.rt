@@ -1,3 +1,5 @@
+// `Decision`, what a program does next, and `Blocked`, why it does nothing, with the answer of
+// that.
 ghost use Rattle.std.specs.Prelude.{◌≡◌};
 ghost use Rattle.golog_search.specs.Laws.{blocked_answer};
 

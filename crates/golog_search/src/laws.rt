@@ -1,3 +1,5 @@
+// Laws of decisions: what is decided is the answer of the definitions, and the steps of programs
+// without search blocks.
 ghost use Rattle.golog_search.specs.Laws.{BlocklessLeft, BlocklessSteps, DecidedIsAnswered};
 
 /// A step of a program without search blocks begins no run, and leaves a program without search blocks.

@@ -1,3 +1,4 @@
+// What is told of the steps of a search block.
 use golog_semantics::Move;
 
 /// The first certain step of a search block.

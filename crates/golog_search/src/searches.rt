@@ -1,3 +1,4 @@
+// `Searches`, which tells golog_ways the steps of search blocks.
 use crate::block_steps::{block_of, first_of_block, reach_of_block};
 use crate::reach::FirstStep;
 use crate::told::Told;

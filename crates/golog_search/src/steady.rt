@@ -1,3 +1,4 @@
+// Whether no step of a program can leave one that nests deeper, told by its front.
 ghost use Rattle.std.specs.Prelude.{◌≡◌};
 ghost use Rattle.golog_search.specs.Steady.{steady as steady_of};
 

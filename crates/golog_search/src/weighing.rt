@@ -1,3 +1,5 @@
+// Whether some search block at the front of a program weighs: it may keep the program from an
+// answer.
 ghost use Rattle.std.specs.Prelude.{◌≡◌, ◌||◌, IfOk, IsTrue, not, true};
 ghost use Rattle.std.specs.List.{list_any};
 ghost use Rattle.golog_semantics.specs.BlockFree.{has_block};

@@ -1,4 +1,4 @@
--- Laws of the definitions.
+-- Laws of the test of equal programs, and of the faults of a journal that grows.
 use Rattle.std.specs.Prelude.{None, ◌≡◌, IsTrue, List, [], ◌∷◌, ◌++◌, Option}
 use Rattle.std.specs.Option.{option_or}
 use Rattle.golog_tree.specs.declared.agent.Agent.{Agent}

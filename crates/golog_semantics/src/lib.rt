@@ -1,4 +1,14 @@
 //! What conditions, programs and journals mean.
+//!
+//! Beside the definitions (docs/SEMANTICS.md) it has the plain types that these definitions speak
+//! of (`Mode`, `Entry`, `Reason`, `Answer`, `Item`, `Report`, `PlacedRun`, `Why`, `Verdict`,
+//! `Move`, `Block`), and the laws of them whose proofs the crates above cite. golog_progress,
+//! golog_journal, golog_ways, golog_find, golog_search and golog_replay export again those of the
+//! types that their calls take or give. It has no code that runs: a law is carried by a public
+//! function with an empty body whose contract is the law, so that the gate (`rt ci`) asks for its
+//! proof. Above golog_tree, what a program or a journal means is defined in this crate alone. The
+//! `specs/` of another crate defines what is a matter of that crate: what bytes spell, what its
+//! calls do, what its types mean in contracts.
 #![tactic(auto)]
 
 mod journal;

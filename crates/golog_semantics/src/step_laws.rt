@@ -1,3 +1,5 @@
+// Laws of Final and of the steps of programs: how they unfold, how the modes are ordered, and that
+// what a step leaves stays inside the agent.
 ghost use Rattle.golog_semantics.specs.FitLaws.{LeftStays, StepsStay, WellFormedFits};
 ghost use Rattle.golog_semantics.specs.ModeLaws.{BlocklessSteps, EndsOrdered, NearStepsArePossible, NoPossibleNoNear, PlainStepsOrdered};
 ghost use Rattle.golog_semantics.specs.StepLaws.{FinalSettles, FinalUnfolds, GuardedByReach, MovesSettle, MovesUnfold, StepsUnfold};

@@ -1,4 +1,4 @@
--- The codes of refusals of a program by its shape.
+-- The codes of refusals of a program by its shape: 32, 33, 37 and 38.
 use Rattle.std.specs.Prelude.{ℕ}
 
 -- a procedure reaches itself without a step

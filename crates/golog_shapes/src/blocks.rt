@@ -1,3 +1,4 @@
+// Search blocks: which procedures have one, and the codes 33 and 37.
 ghost use Rattle.std.specs.Prelude.{◌≡◌, List, ◌++◌, map, IfOk};
 ghost use Rattle.std.specs.List.{list_any};
 ghost use Rattle.golog_tree.specs.Ground.{to_count};

@@ -1,3 +1,5 @@
+// The codes of refusals for the shape of programs.
+
 /// A procedure reaches itself without a step.
 pub const UNGUARDED: u8 = 32;
 

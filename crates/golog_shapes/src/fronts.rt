@@ -1,3 +1,5 @@
+// Whether a program may be final without a step, and what it calls without one; which procedures
+// may be skipped.
 ghost use Rattle.std.specs.Prelude.{◌≡◌, map, IfOk};
 ghost use Rattle.golog_shapes.specs.Told.{nesting, nesting_by, nestings_in};
 ghost use Rattle.golog_shapes.specs.Fronts.{IsFront, skip_at, in_row, chosen, beside, draft_fore};

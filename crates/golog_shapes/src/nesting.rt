@@ -1,3 +1,5 @@
+// How deep the program of a draft nests, up to a limit; whether that of `main` nests too deep,
+// tested before it is built.
 ghost use Rattle.std.specs.Prelude.{◌≡◌, ◌≤◌, nat_le, not, min, map};
 ghost use Rattle.golog_shapes.specs.DraftNest.{parts_nest, draft_nest};
 ghost use Rattle.golog_shapes.specs.Limits.{MAIN_NEST as spec_main_nest};

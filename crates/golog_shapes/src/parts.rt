@@ -1,3 +1,4 @@
+// Parts as one program, nested to the right.
 ghost use Rattle.std.specs.Prelude.{◌≡◌, [], ◌∷◌, ◌++◌, IfOk};
 ghost use Rattle.golog_shapes.specs.Nested.{nested};
 

@@ -1,3 +1,5 @@
+// Which procedures reach which without a step, and how deep they nest with what they call: the
+// codes 32 and 38.
 ghost use Rattle.std.specs.Prelude.{◌≡◌, ◌==◌, ◌++◌, nat_lt, not, ◌&&◌, ◌||◌, List, map, length, replicate, slice_index, IfOk};
 ghost use Rattle.golog_semantics.specs.FrontCalls.{greatest};
 ghost use Rattle.golog_rows.specs.Least.{CodeAt, IsLeastOf};

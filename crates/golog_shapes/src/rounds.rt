@@ -1,3 +1,4 @@
+// What is said of procedures round by round, until a round changes nothing.
 ghost use Rattle.std.specs.Prelude.{◌≡◌, false, replicate, IfOk};
 ghost use Rattle.golog_shapes.specs.Settled.{rounds_of};
 

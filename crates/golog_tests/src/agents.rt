@@ -1,3 +1,4 @@
+// The agent files of the tests, and the ground action of a text by its number.
 ghost use Rattle.std.specs.Prelude.{◌<◌, IfSome, length};
 ghost use Rattle.golog_tree.specs.Ground.{ground_actions};
 ghost use Rattle.golog_semantics.specs.WellFormed.{WellFormed};

@@ -1,3 +1,4 @@
+// Whether an agent has a search block.
 ghost use Rattle.std.specs.Prelude.{◌≡◌};
 ghost use Rattle.std.specs.List.{list_any};
 ghost use Rattle.golog_tree.specs.declared.agent.ProcItem.{ProcItem};

@@ -1,3 +1,4 @@
+// A test of `has_front_block`.
 ghost use Rattle.golog_semantics.specs.WellFormed.{WellFormed};
 
 use crate::agents::BELL;

@@ -1,3 +1,4 @@
+// A test of `check_condition`.
 ghost use Rattle.golog_semantics.specs.WellFormed.{WellFormed};
 
 use crate::agents::LAMP;

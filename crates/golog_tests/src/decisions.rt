@@ -1,3 +1,4 @@
+// Tests of `decide` and its halves, `decide_unbounded` and `heavy`.
 ghost use Rattle.golog_semantics.specs.InSorts.{AreInSorts};
 ghost use Rattle.golog_semantics.specs.WellFormed.{WellFormed};
 

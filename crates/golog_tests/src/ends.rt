@@ -1,3 +1,4 @@
+// A test of `end_cond`.
 ghost use Rattle.golog_semantics.specs.WellFormed.{WellFormed};
 
 use crate::agents::{BELL, is_first_fluent};

@@ -1,3 +1,4 @@
+// A test of `fronts`.
 ghost use Rattle.std.specs.Prelude.{◌≡◌, false};
 ghost use Rattle.golog_semantics.specs.WellFormed.{WellFormed};
 ghost use Rattle.golog_fronts.specs.FrontBlock.{has_front_block as block_in_front};

@@ -1,3 +1,4 @@
+// A test of `read_journal` and `write_journal`.
 ghost use Rattle.golog_semantics.specs.Reports.{IsReport};
 ghost use Rattle.golog_semantics.specs.WellFormed.{WellFormed};
 

@@ -1,3 +1,4 @@
+// A test of files at a limit of the check, and above it.
 use crate::asserting::same;
 use golog_base::NoMemory;
 use golog_file::{AgentFault, read_agent};

@@ -1,3 +1,4 @@
+// A test of `Line`.
 ghost use Rattle.std.specs.Prelude.{◌≡◌, ◌≤◌, IfSome, length, option_copied, false};
 ghost use Rattle.golog_semantics.specs.Reports.{IsReport};
 ghost use Rattle.golog_semantics.specs.InSorts.{AreInSorts};

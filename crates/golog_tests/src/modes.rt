@@ -1,3 +1,4 @@
+// Tests of `any`, `is_final`, `holds` and `flip`.
 ghost use Rattle.golog_semantics.specs.WellFormed.{WellFormed};
 
 use crate::agents::BELL;

@@ -1,3 +1,4 @@
+// Tests of `Nodes` and `Seen`.
 ghost use Rattle.golog_semantics.specs.WellFormed.{WellFormed};
 
 use crate::agents::LAMP;

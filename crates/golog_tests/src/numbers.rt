@@ -1,3 +1,4 @@
+// Tests of `action_of`, `action_no`, `fluent_of`, `fluent_no`, `fluent_text` and `args_count`.
 ghost use Rattle.std.specs.Prelude.{◌<◌, length};
 ghost use Rattle.golog_tree.specs.Ground.{action_args, ground_count};
 ghost use Rattle.golog_semantics.specs.WellFormed.{WellFormed};

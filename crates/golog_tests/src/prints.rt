@@ -1,3 +1,4 @@
+// A test of `print_prog`.
 use crate::agents::{BELL, LIFT};
 use crate::asserting::same;
 use golog_base::NoMemory;

@@ -1,3 +1,4 @@
+// A test of `copy_cond` and `put_cond`.
 use crate::asserting::same;
 use golog_base::{List, NoMemory};
 use golog_tree::{Arg, Cond, copy_cond, put_cond};

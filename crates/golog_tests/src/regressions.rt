@@ -1,3 +1,4 @@
+// A test of `regress`, `regress_all` and `nodes`.
 ghost use Rattle.std.specs.Prelude.{◌<◌, All, length};
 ghost use Rattle.golog_tree.specs.Ground.{ground_actions};
 ghost use Rattle.golog_semantics.specs.WellFormed.{WellFormed};

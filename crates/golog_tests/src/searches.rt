@@ -1,3 +1,4 @@
+// A test of `find`.
 ghost use Rattle.std.specs.Prelude.{◌≡◌, IfOk};
 ghost use Rattle.golog_semantics.specs.WellFormed.{WellFormed};
 ghost use Rattle.golog_tests.specs.Blockless.{IsBlockless};

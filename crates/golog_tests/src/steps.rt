@@ -1,3 +1,4 @@
+// Tests of `first`, `is_certain` and `is_same_label`.
 ghost use Rattle.golog_semantics.specs.InSorts.{AreInSorts};
 ghost use Rattle.golog_semantics.specs.WellFormed.{WellFormed};
 ghost use Rattle.golog_tests.specs.Blockless.{IsBlockless};

@@ -1,3 +1,4 @@
+// Tests of `read_action`, `action_text`, `read_constant`, `constant_text` and `place_of_name`.
 ghost use Rattle.golog_semantics.specs.WellFormed.{WellFormed};
 
 use crate::agents::LIFT;

@@ -1,3 +1,4 @@
+// Tests of `copy_prog`, `put_arg`, `tidy_seq` and its like, and `nest`.
 use crate::asserting::same;
 use golog_base::{Boxed, List, NoMemory, Word};
 use golog_progress::State;

@@ -1,3 +1,5 @@
+// Tests of `value` and `term`, of conditions that `read_condition` reads and of their sides, and of
+// `Env::with`; one agent has all tables.
 ghost use Rattle.std.specs.Prelude.{◌≡◌, IsTrue, length};
 ghost use Rattle.golog_tree.specs.Ground.{IsCountable, ground_fluents};
 ghost use Rattle.golog_semantics.specs.Fits.{cond_fits, nothing_bound};

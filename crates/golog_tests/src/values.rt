@@ -1,3 +1,5 @@
+// A test of `start`, `State::of`, `copy`, `set`, `after_do`, `after_sense`, `roll`, `advance` and
+// `restart`.
 ghost use Rattle.std.specs.Prelude.{◌<◌, length};
 ghost use Rattle.golog_tree.specs.Ground.{ground_actions};
 ghost use Rattle.golog_semantics.specs.WellFormed.{WellFormed};

@@ -1,3 +1,4 @@
+// A test of `Watch`, and of `Watches` beside `Walk`.
 ghost use Rattle.std.specs.Prelude.{◌≡◌};
 ghost use Rattle.golog_semantics.specs.InSorts.{AreInSorts};
 ghost use Rattle.golog_semantics.specs.WellFormed.{WellFormed};

@@ -1,3 +1,4 @@
+// A test of programs whose steps differ from world to world.
 ghost use Rattle.golog_semantics.specs.InSorts.{AreInSorts};
 ghost use Rattle.golog_semantics.specs.WellFormed.{WellFormed};
 

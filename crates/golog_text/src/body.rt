@@ -1,4 +1,5 @@
-// What the line of an entry says.
+// What a line says, by the kind of the entry: a command with its device, a device with a word, a
+// result with the value known before.
 ghost use Rattle.std.specs.Prelude.{◌≡◌, ◌<◌, ◌≤◌, ◌+◌, ◌++◌, length, IfSome, IsTrue, OnOk, codes, decimal, option_copied, slice_index};
 ghost use Rattle.golog_tree.specs.Ground.{IsCountable, action_args, ground_count};
 ghost use Rattle.golog_semantics.specs.Journal.{device_of as spec_device_of};

@@ -1,4 +1,5 @@
-// The head of a journal's text: the values that the journal starts from.
+// The head of a text: its first line, a line for each ground fluent with the value that the journal
+// starts from, and its last one.
 ghost use Rattle.std.specs.Prelude.{◌≡◌, ◌<◌, [], ◌++◌, length, IfOk, OnOk};
 ghost use Rattle.golog_tree.specs.Ground.{IsCountable, fluent_args, ground_count};
 ghost use Rattle.golog_semantics.specs.InSorts.{AreInSorts, IsOf};

@@ -1,3 +1,5 @@
+// `write_journal`, which walks the entries with their places, the values before each and the runs
+// from there on, and adds one line after another.
 ghost use Rattle.std.specs.Prelude.{◌≡◌, ◌<◌, [], ◌++◌, IfOk, OnOk};
 ghost use Rattle.std.specs.Option.{option_map_or};
 ghost use Rattle.golog_semantics.specs.Progress.{values_after};

@@ -1,4 +1,5 @@
-// Room for a line of a report.
+// `Line`, 16,384 bytes of room, filled with the line of an entry by its place, the values before it
+// and the run that it begins.
 ghost use Rattle.std.specs.Prelude.{◌≡◌, ◌<◌, ◌≤◌, ◌+◌, [], ◌++◌, length, IfOk, IfSome, OnOk, OnErr, option_copied};
 ghost use Rattle.golog_semantics.specs.InSorts.{AreInSorts};
 ghost use Rattle.golog_semantics.specs.WellFormed.{WellFormed};

@@ -1,4 +1,5 @@
-// The things of an agent, whose texts are added to a line.
+// Numbers, actions, devices and values of an agent, added to a line; the sort of a ground fluent
+// and the device of a ground action.
 ghost use Rattle.std.specs.Prelude.{◌≡◌, ◌<◌, ◌++◌, decimal, length, IsTrue, IfSome, OnOk};
 ghost use Rattle.golog_tree.specs.Ground.{IsCountable, ground_count, action_args, fluent_args};
 ghost use Rattle.golog_semantics.specs.Journal.{device_of as spec_device_of};

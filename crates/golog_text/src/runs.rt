@@ -1,4 +1,5 @@
-// The runs of a report, which stand in the order of their places.
+// The runs of a report, in the order of their places: the run that begins at a place, its labels,
+// and the runs behind a place.
 ghost use Rattle.std.specs.Prelude.{◌≡◌, ◌<◌, ◌*◌, ◌++◌, length, IfSome, IsTrue, OnOk, codes, filter, nat_lt, option_copied};
 ghost use Rattle.std.specs.List.{join_by};
 ghost use Rattle.golog_tree.specs.Ground.{IsCountable};

@@ -1,4 +1,5 @@
--- What holds of the value of a part, where the part is read.
+-- What holds of the value of a part, where it has one: by the same combinators as golog_rows'
+-- `Chain`.
 use Rattle.std.proofs.Common.{◌≡◌, ℕ, ◌+◌, length, Bool, true, false, List, [], ◌∷◌, ◌++◌, Option, Some, None, Result, Ok, Err, refl, sym, ap, subst, arith}
 use Rattle.std.proofs.lemmas.List.{length_push}
 use Rattle.std.specs.Prelude.{if◌then◌else◌}

@@ -1,4 +1,4 @@
--- The codes of refusals.
+-- The codes of refusals of theories, conditions and programs, 20 to 26.
 use Rattle.std.specs.Prelude.{ℕ}
 
 -- a form has not a shape of the grammar for its place

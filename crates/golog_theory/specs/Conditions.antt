@@ -1,4 +1,4 @@
--- Conditions, within so many variables.
+-- The conditions that forms spell, within so many variables.
 use Rattle.std.specs.Prelude.{ℕ, ◌+◌, nat_le, not, true, false, if◌then◌else◌, List, [], ◌∷◌, map, Option, Some, None, codes}
 use Rattle.golog_base.specs.Names.{is_name}
 use Rattle.golog_form.specs.declared.form.Form.{Form}

@@ -1,4 +1,4 @@
--- Terms.
+-- The terms that forms spell, within so many variables.
 use Rattle.std.specs.Prelude.{ℕ, ℤ, neg_ℤ, ◌||◌, not, if◌then◌else◌, List, [], ◌∷◌, map, codes}
 use Rattle.golog_form.specs.declared.form.Form.{Form}
 use Rattle.golog_form.specs.Shape.{place_of}

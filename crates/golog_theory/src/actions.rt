@@ -1,3 +1,4 @@
+// The items `device`, `action` and `exo`.
 ghost use Rattle.std.specs.Prelude.{◌≡◌, []};
 ghost use Rattle.golog_theory.specs.Reading.{Answers, each};
 ghost use Rattle.golog_theory.specs.Actions.{device_item, device_of, action_of, action_item, exo_item};

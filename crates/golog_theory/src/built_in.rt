@@ -1,3 +1,5 @@
+// What is built in: the sort `bool`, the fluent `interrupts_running`, and the actions
+// `start_interrupts` and `stop_interrupts` with their effects.
 ghost use Rattle.std.specs.Prelude.{◌≡◌, [], ◌∷◌, IfOk};
 ghost use Rattle.golog_base.specs.Names.{IsWord};
 ghost use Rattle.golog_draft.specs.Drafts.{draft_bool, draft_own_action, draft_sets_running};

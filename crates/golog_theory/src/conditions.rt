@@ -1,3 +1,4 @@
+// Conditions, by recursion over forms.
 ghost use Rattle.std.specs.Prelude.{◌≡◌};
 ghost use Rattle.golog_theory.specs.Reading.{Answers};
 ghost use Rattle.golog_theory.specs.Conditions.{truth_of, fluent_cond, sides_of, not_of, conds_of, binder_of, bound_of, keyword_cond, cond_of, cond_parts};

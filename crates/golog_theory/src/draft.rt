@@ -1,3 +1,5 @@
+// `Draft`, a theory that is being read, with what is looked up while it is; `Entry`, what an item
+// adds to it.
 ghost use Rattle.std.specs.Prelude.{◌≡◌, ◌||◌, IfOk, OnOk};
 ghost use Rattle.std.specs.BTreeSet.{contains};
 ghost use Rattle.golog_theory.specs.Draft.{IsDraft, IsDraftOf};

@@ -1,3 +1,4 @@
+// The items `poss`, `causes` and `senses`.
 ghost use Rattle.std.specs.Prelude.{◌≡◌, IfOk, OnOk};
 ghost use Rattle.golog_theory.specs.Reading.{Answers};
 ghost use Rattle.golog_theory.specs.Conditions.{cond_of};

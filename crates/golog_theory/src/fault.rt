@@ -1,3 +1,4 @@
+// The codes of the readers of theories and programs (20 to 26), and `TheoryFault`.
 ghost use Rattle.std.specs.Prelude.{◌≡◌, true, false, MatchResult};
 ghost use Rattle.golog_theory.specs.declared.fault.TheoryFault.TheVariants.{Refused, Memory};
 

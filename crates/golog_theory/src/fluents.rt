@@ -1,3 +1,4 @@
+// The items `fluent` and `start`.
 ghost use Rattle.std.specs.Prelude.{◌≡◌, []};
 ghost use Rattle.golog_theory.specs.Reading.{Answers, each, row};
 ghost use Rattle.golog_theory.specs.Draft.{IsDraft};

@@ -1,3 +1,5 @@
+// What is named, with as many arguments as it has (`Callee`), and `(FLUENT ARGS)`, `(ACTION ARGS)`
+// and `(ACTION VARS)`.
 ghost use Rattle.std.specs.Prelude.{◌≡◌, []};
 ghost use Rattle.golog_theory.specs.Reading.{Answers, each};
 ghost use Rattle.golog_theory.specs.Heads.{head_word, head_place, arguments, args_of, fluent_named, action_named, allowed_action, declared_with, called, fluent_called, action_called, var_of, schema_of};

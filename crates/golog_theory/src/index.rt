@@ -1,3 +1,5 @@
+// `Index`, where the names of a theory stand in it; `Numbers`, those of items that have names
+// (`Named`).
 ghost use Rattle.std.specs.Prelude.{◌≡◌, ℕ, List, None, OnOk, IfOk};
 ghost use Rattle.std.specs.List.{list_any};
 ghost use Rattle.golog_theory.specs.Names.{same, lists, sort_name};

@@ -1,3 +1,5 @@
+// A theory with its index, whole or as far as it is declared before a place, which contracts see as
+// that theory, and what it declares under a name.
 ghost use Rattle.std.specs.Prelude.{◌≡◌};
 ghost use Rattle.std.specs.Option.{option_copied};
 ghost use Rattle.golog_theory.specs.Names.{is_constant, is_taken, sort_no, device_no, fluent_no, action_no, fluent_arity, action_arity, is_posted, is_of_program, allows};

@@ -1,3 +1,4 @@
+// `theory_of` and `condition_of`; what each item spells is added to the theory.
 ghost use Rattle.std.specs.Prelude.{◌≡◌, OnOk, IfOk, MatchResult, Err};
 ghost use Rattle.golog_theory.specs.declared.fault.TheoryFault.TheVariants.{Memory};
 ghost use Rattle.golog_draft.specs.Drafts.{TheoryKeeps, CondKeeps};

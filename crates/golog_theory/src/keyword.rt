@@ -1,3 +1,4 @@
+// The words that items and conditions begin with.
 ghost use Rattle.std.specs.Prelude.{◌≡◌};
 ghost use Rattle.golog_theory.specs.Keywords.{cond_keyword, item_keyword};
 

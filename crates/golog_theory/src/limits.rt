@@ -1,3 +1,5 @@
+// The limits on a theory, each a named constant.
+
 /// The most sorts, `bool` among them.
 pub const SORTS: usize = 64;
 

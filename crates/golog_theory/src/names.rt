@@ -1,3 +1,4 @@
+// The reserved words, and which actions may stand in a place.
 ghost use Rattle.std.specs.Prelude.{◌≡◌};
 ghost use Rattle.std.specs.List.{list_any};
 ghost use Rattle.golog_semantics.specs.BuiltIn.{is_keyword};

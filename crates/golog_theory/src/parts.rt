@@ -1,3 +1,4 @@
+// The parts of a form; names, numbers, sorts and arguments.
 ghost use Rattle.std.specs.Prelude.{◌≡◌, [], ◌∷◌, MatchResult, MatchOption, IsTrue};
 ghost use Rattle.golog_base.specs.Names.{is_name};
 ghost use Rattle.golog_theory.specs.Reading.{Answers};

@@ -1,3 +1,4 @@
+// What begins at a place of the file, and the first items of a list that do so before a place.
 ghost use Rattle.std.specs.Prelude.{◌≡◌, ℕ, nat_lt, take_while};
 ghost use Rattle.golog_draft.specs.DraftPlaces.{sort_place};
 

@@ -1,3 +1,4 @@
+// The item `sort`.
 ghost use Rattle.std.specs.Prelude.{◌≡◌, [], ◌∷◌};
 ghost use Rattle.golog_theory.specs.Reading.{Answers, each};
 ghost use Rattle.golog_theory.specs.Sorts.{bound, is_above, is_too_wide, range_of, is_taken_beside, constant_of, listed_of, sort_item};

@@ -1,3 +1,4 @@
+// Ground fluents that have a start value of their own, by their constants as they are written.
 ghost use Rattle.std.specs.Prelude.{◌≡◌, IfOk};
 ghost use Rattle.golog_theory.specs.Started.{IsWritten, AreWritten, IsGroundOf};
 

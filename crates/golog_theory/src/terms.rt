@@ -1,3 +1,4 @@
+// Terms, by recursion over forms.
 ghost use Rattle.std.specs.Prelude.{◌≡◌, ◌≤ℤ◌, pos, IfOk};
 ghost use Rattle.golog_theory.specs.Reading.{Answers};
 ghost use Rattle.golog_theory.specs.Terms.{step_of, plus_of, minus_of, fluent_term, atom_term, term_list, term_of, term_parts};

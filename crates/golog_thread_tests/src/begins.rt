@@ -1,4 +1,4 @@
-//! The first calls of two devices at a journal without an entry.
+//! Tests of `begin_all` over devices that begin, refuse or lack memory.
 ghost use Rattle.std.specs.Prelude.{◌≡◌, ◌≤◌, IfOk, Some, length, true};
 ghost use Rattle.golog_semantics.specs.WellFormed.{WellFormed};
 ghost use Rattle.golog_device.specs.Scripts.{script_spelled};

@@ -1,4 +1,5 @@
-//! The journal of a panel, which posts `push`, and of a lift, which answers `look`.
+//! Tests of a journal: what is posted and committed to it, and in which order; `has_more` and
+//! `sense_for`; of `Counts` and its facts; which results a program waits for.
 ghost use Rattle.std.specs.Prelude.{◌≡◌, ◌≢◌, ◌<◌, ◌≤◌, ◌+◌, [], ◌∷◌, false, length, IfSome};
 ghost use Rattle.golog_semantics.specs.Journal.{has_end};
 ghost use Rattle.golog_semantics.specs.WellFormed.{WellFormed};

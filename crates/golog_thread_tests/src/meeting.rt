@@ -1,4 +1,5 @@
-//! Two devices and a lead, each of which waits for the two others.
+//! A test of two devices and a lead, each of which waits for the two others: the lead copies what
+//! they have posted, and a decision made before that is moved.
 ghost use Rattle.std.specs.Prelude.{◌≡◌, ◌<◌, false, true, length};
 ghost use Rattle.golog_semantics.specs.Journal.{has_end};
 ghost use Rattle.golog_semantics.specs.WellFormed.{WellFormed};

@@ -1,4 +1,5 @@
-//! Devices that post many actions beside a program that steps all the time.
+//! A test of two devices that post 2,000 actions each beside a program that steps all the time: all
+//! stand there, in order.
 ghost use Rattle.golog_semantics.specs.WellFormed.{WellFormed};
 
 use crate::asserting::same;

@@ -1,4 +1,4 @@
-//! Runs over threads from an empty journal.
+//! Runs over threads with a runner as lead, from an empty journal, over devices of the tests' own.
 ghost use Rattle.std.specs.Prelude.{◌≡◌, [], IfSome};
 ghost use Rattle.golog_semantics.specs.WellFormed.{WellFormed};
 

@@ -1,4 +1,5 @@
-//! Turns of one device at a journal to which no one else adds.
+//! Tests of `one_turn` and `next_command` over one device: before the program, behind its command
+//! and behind its end.
 ghost use Rattle.std.specs.Prelude.{◌≡◌, ◌≢◌, ◌<◌, [], length, true, false};
 ghost use Rattle.golog_semantics.specs.WellFormed.{WellFormed};
 ghost use Rattle.golog_journal.specs.Taken.{IsReady};

@@ -1,4 +1,5 @@
-//! Journals that are written as they grow: whoever follows one sees each line when its entry is seen.
+//! A test of `run_inline` with a scribe: a device sees how many lines are written in each round,
+//! and nothing is written after a write that failed.
 ghost use Rattle.golog_semantics.specs.WellFormed.{WellFormed};
 
 use crate::asserting::same;

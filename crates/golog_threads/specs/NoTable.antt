@@ -1,4 +1,4 @@
--- No table.
+-- The table that is none: it has no words and no slots.
 use Rattle.std.specs.Prelude.{[]}
 use Rattle.atomic_table.specs.Seated.{TableId}
 

@@ -1,4 +1,4 @@
-//! A seat at the lock of a journal, as a board.
+//! `SeatBoard`, a seat at the lock of a journal as a board: each call is one act.
 ghost use Rattle.std.specs.Prelude.{◌≡◌};
 ghost use Rattle.golog_turn.specs.Seats.{IsSeatOf, HoldsParty};
 ghost use Rattle.atomic_table.specs.Seated.{table_id_coded};

@@ -1,4 +1,5 @@
-//! A thread for each device, with a seat of its own.
+//! A thread for each device with a seat of its own, which is split off before and joined after;
+//! `serve` gives a device its turns until it is closed.
 ghost use Rattle.std.specs.Prelude.{◌≡◌, ◌≢◌, ◌+◌, true, false, length};
 ghost use Rattle.std.specs.Thread.{IsSync, IsSend};
 ghost use Rattle.golog_semantics.specs.WellFormed.{WellFormed};

@@ -1,4 +1,5 @@
-//! What the drivers and the lead share beside the lock.
+//! `Hall`, what threads share beside the lock: which devices were open at first, and the bells by
+//! which those that wait are woken.
 use golog_journal::{Commit, DEVICES, Entry};
 use golog_tree::Agent;
 use std::array;

@@ -1,4 +1,4 @@
-//! The calls of a board, as ops of the object that lies in a lock.
+//! `Op` and `Reply`, the calls of a board as ops of the object that lies in a lock.
 use golog_journal::{Batch, Commit, Entry, Item, Next, Posted};
 
 /// A call of a board, with what it is given.

@@ -1,4 +1,5 @@
-//! A run over threads: the devices beside each other, and the lead on the caller's thread.
+//! A run over threads: the devices beside each other, and the lead on the caller's thread, where
+//! the large stack is; then the lead gathers.
 ghost use Rattle.std.specs.Prelude.{◌≡◌, ◌≤◌, ◌<◌, ℕ, true, false, IsTrue, length, OnOk, OnErr, slice_index_or};
 ghost use Rattle.std.specs.Thread.{IsSync, IsSend};
 ghost use Rattle.golog_semantics.specs.WellFormed.{WellFormed};

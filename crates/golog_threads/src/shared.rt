@@ -1,4 +1,4 @@
-//! A journal that lies in a turn lock.
+//! `Shared`, a journal as the object in a turn lock.
 ghost use Rattle.std.specs.Prelude.{◌≡◌};
 ghost use Rattle.golog_journal.specs.Boards.{IsBoardList};
 ghost use Rattle.std.specs.Coded.{codes};

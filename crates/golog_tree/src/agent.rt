@@ -1,3 +1,4 @@
+// `Agent`, a checked agent, and its items.
 use crate::cond::{Arg, Cond, Term};
 use crate::prog::Prog;
 use golog_base::{List, Word};

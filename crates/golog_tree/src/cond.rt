@@ -1,3 +1,4 @@
+// Conditions and terms as they are checked, their arguments, and truth values.
 use golog_base::{Boxed, List};
 
 /// A truth value of the strong Kleene logic.

@@ -1,3 +1,4 @@
+// A theory and a program as they were read, each item with its place.
 use crate::draft_cond::{DraftArg, DraftCond, DraftTerm, Place};
 use crate::draft_prog::DraftProg;
 use golog_base::{List, Word};

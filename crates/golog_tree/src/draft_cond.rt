@@ -1,3 +1,4 @@
+// Conditions, terms and arguments as they were read, with a place at each node.
 use golog_base::{Boxed, List, Word};
 
 /// A byte place in a file, counted from 0.

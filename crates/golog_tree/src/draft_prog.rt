@@ -1,3 +1,4 @@
+// Programs as they were read, with a place at each node.
 use crate::draft_cond::{DraftArg, DraftCond, Place};
 use golog_base::{Boxed, List, Word};
 

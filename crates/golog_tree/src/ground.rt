@@ -1,3 +1,5 @@
+// The numbers of ground fluents and ground actions, both ways, and how many constants (`item_size`)
+// and lists of arguments (`args_count`) there are.
 ghost use Rattle.std.specs.Prelude.{◌≡◌, ◌<◌, ◌≤◌, ◌-◌, ◌^◌, ◌++◌, All, length, map, replicate, slice_get, Some};
 ghost use Rattle.golog_tree.specs.Ground.{IsCountable, AreWithin, item_size as spec_item_size, sort_size as spec_sort_size, product, sizes, place_of as spec_place_of, fluent_args, action_args, args_at, args_of, number_of as spec_number_of, fluent_no as spec_fluent_no, action_no as spec_action_no, ground_fluents, ground_actions, ground_count, firsts_of};
 ghost use Rattle.golog_tree.specs.Numbered.{IsGround};

@@ -1,3 +1,4 @@
+// Two parts of a program joined by a construct that `Join` names, as they are.
 ghost use Rattle.std.specs.Prelude.{◌≡◌, IfOk};
 ghost use Rattle.golog_tree.specs.Joined.{IsJoined, joined};
 

@@ -1,4 +1,11 @@
 //! Agents, conditions and programs, as they are read and as they are checked, and small calls on them.
+//!
+//! `put_arg` puts a constant in for a variable; `copy_prog` gives an equal program, which shares
+//! the parts that stand in `Boxed`; `tidy_seq`, `tidy_conc` and `tidy_prio` join two programs
+//! without an empty part, and `join_two` as they are; `fluent_no`, `action_no`, `fluent_of` and
+//! `action_of` number ground fluents and actions, both ways. Parts of a recursive type stand in
+//! `Boxed`, which a contract sees as the value, so that a copy is equal to its source by a plain
+//! equation.
 #![tactic(auto)]
 
 mod agent;

@@ -1,3 +1,4 @@
+// `nest`: how deep a program nests.
 ghost use Rattle.std.specs.Prelude.{◌≡◌, ◌^◌, ◌-◌, ◌+◌, min};
 ghost use Rattle.golog_tree.specs.Nest.{nest as nest_of};
 

@@ -1,3 +1,4 @@
+// Programs as they are checked, labels, and ways: a step with the program left.
 use crate::cond::{Arg, Cond};
 use golog_base::{Boxed, List};
 

@@ -1,3 +1,4 @@
+// Whether programs and steps are equal, by the derived `==`.
 ghost use Rattle.std.specs.Prelude.{◌≡◌, ◌↔◌, IsTrue};
 
 use crate::prog::{Prog, Way};

@@ -1,3 +1,5 @@
+// Programs and conditions with a constant put in for a variable. Where nothing is put in they are
+// equal, and parts that stand in `Boxed` are shared.
 ghost use Rattle.std.specs.Prelude.{◌≡◌, map, IfOk, Some, None};
 ghost use Rattle.golog_tree.specs.Made.{IsMade, IsMadeOfTwo, IsMadeOfThree};
 ghost use Rattle.golog_tree.specs.Substitute.{arg_put, within as spec_within, term_put, cond_put, prog_put, way_put};

@@ -1,4 +1,5 @@
-//! The lock and its seats.
+//! `TurnLock`, words that count tickets, turns and entries and a slot with the object; `Seat`, what
+//! its holder has seen of the history, and the parties whose entries it alone adds.
 ghost use Rattle.std.specs.Prelude.{◌≡◌, ◌<◌, ◌≤◌, List, [], ◌∷◌, ◌++◌, length, true};
 ghost use Rattle.golog_turn.specs.Parties.{contains, without, GoesOn};
 ghost use Rattle.golog_turn.specs.Acts.{Grows};

@@ -1,4 +1,5 @@
-//! What lies in the lock.
+//! `Object`, the trait of what lies in a lock: it stands for a list of entries that only grows, by
+//! one at most at each op.
 ghost use Rattle.std.specs.Prelude.{◌≡◌, ℕ, ◌%◌, ◌^◌, List, length};
 ghost use Rattle.golog_turn.specs.Acts.{Grows};
 

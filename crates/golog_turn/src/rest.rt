@@ -1,4 +1,5 @@
-//! A seat that goes from one thread to another by a shared reference.
+//! `Rest`, a seat that rests between threads: closures reach a seat by it, since they borrow what
+//! they share.
 ghost use Rattle.std.specs.Prelude.{◌≡◌};
 ghost use Rattle.golog_turn.specs.Turns.{IsIdleView};
 

@@ -1,4 +1,5 @@
-//! What a seat knows, and the rule of the lock's words and views.
+//! `View`, what a seat knows, and `TurnRule`, which holds of the lock's words and views between any
+//! two steps.
 ghost use Rattle.std.specs.Prelude.{◌≡◌, ℕ, List};
 
 use crate::object::Object;

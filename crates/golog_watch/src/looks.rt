@@ -1,3 +1,4 @@
+// Whether the steps of a program are few enough to be listed.
 ghost use Rattle.std.specs.Prelude.{◌≡◌, ◌≤◌, ◌-◌, ◌*◌};
 ghost use Rattle.golog_semantics.specs.WellFormed.{WellFormed};
 

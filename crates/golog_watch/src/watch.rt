@@ -1,3 +1,5 @@
+// `Watch`, a run with the conditions that tell whether it goes through, and whether what is left of
+// it does.
 ghost use Rattle.std.specs.Prelude.{◌≡◌, IfOk, IfSome, IsOk, IsTrue, length, not, slice_get};
 ghost use Rattle.golog_semantics.specs.BlockFree.{has_block};
 ghost use Rattle.golog_semantics.specs.Blocks.{goes_through as leads_to_final};

@@ -1,3 +1,5 @@
+// `Watches`, the watches of the runs that were asked for last, at most 16, the one used last
+// standing last: a `Keep`.
 ghost use Rattle.std.specs.Prelude.{◌≡◌, ◌<◌, [], ◌∷◌, ◌++◌, IfOk, IsTrue, OnErr, OnOk, length, not};
 ghost use Rattle.std.specs.List.{position};
 ghost use Rattle.golog_tree.specs.declared.agent.Agent.{Agent as AnyAgent};

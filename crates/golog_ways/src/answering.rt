@@ -1,3 +1,4 @@
+// `Blocks`, the trait of who tells the steps of search blocks, and `Stop`, why these stay unknown.
 ghost use Rattle.std.specs.Prelude.{◌≡◌};
 
 use crate::following::Following;

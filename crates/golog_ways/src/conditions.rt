@@ -1,3 +1,4 @@
+// The truth of a condition and of a precondition, at the values known.
 ghost use Rattle.std.specs.Prelude.{◌≡◌, [], IsTrue, map};
 ghost use Rattle.golog_semantics.specs.Fits.{cond_fits, nothing_bound};
 ghost use Rattle.golog_semantics.specs.Truth.{truth_of, env_of, arg_value};

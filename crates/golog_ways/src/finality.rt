@@ -1,3 +1,5 @@
+// `ends_of`: how sure it is that a program may end, as one truth. True is certain, false not
+// possible, unknown possible and not certain.
 ghost use Rattle.std.specs.Prelude.{◌≡◌, not, ◌&&◌, ◌||◌, IfOk};
 ghost use Rattle.golog_semantics.specs.Modes.{holds as holds_in};
 ghost use Rattle.golog_semantics.specs.Search.{final};

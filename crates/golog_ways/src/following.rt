@@ -1,4 +1,4 @@
-//! The search blocks that a walk over programs comes to.
+//! A search block, as a walk over programs comes to it.
 use golog_tree::{Prog, Way};
 
 /// A search block that follows the rest of a run. One that has not begun follows nothing.

@@ -1,3 +1,4 @@
+// `goes_through`, which steps a run again; the state after a step, and copies of steps.
 ghost use Rattle.std.specs.Prelude.{◌≡◌, ◌&&◌, IfOk, IsTrue};
 ghost use Rattle.std.specs.List.{list_any};
 ghost use Rattle.golog_semantics.specs.declared.Mode.TheVariants.{Must};

@@ -1,4 +1,4 @@
-//! Where a walk over programs stands.
+//! Where a walk over programs stands, with what is so of it: the walks are methods of its types.
 ghost use Rattle.std.specs.Prelude.{◌≡◌, length};
 ghost use Rattle.golog_tree.specs.Ground.{ground_fluents};
 ghost use Rattle.golog_fronts.specs.Closed.{IsFit};

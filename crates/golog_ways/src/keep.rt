@@ -1,3 +1,5 @@
+// `Keep`, the trait of who tells whether runs go through and may keep what was learned of them, and
+// `Walk`, which keeps nothing.
 use crate::going::goes_through;
 use golog_base::NoMemory;
 use golog_progress::State;

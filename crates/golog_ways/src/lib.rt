@@ -1,4 +1,39 @@
 //! When a program may end, and its steps.
+//!
+//! `first(alloc, agent, prog, state)` is the first certain step, `any(alloc, agent, mode, prog,
+//! state)` whether there is a step, `is_final(alloc, agent, mode, prog, state)` whether the program
+//! may end; the steps of search blocks are not among those of `first` and `any`, which answer for
+//! all steps where no block stands at the front; what `first` leaves is closed, so that it can be
+//! asked again; `holds` and `flip` speak of modes.
+//!
+//! Each of the three walks stands once, and serves all three modes. How sure an end is, is put
+//! together by the strong Kleene tables of golog_known: true is what is certain, false what isn't
+//! possible, unknown what is possible and not certain. A step has a fourth case: with search blocks
+//! it may be possible and not near. No walk goes on where its answer is settled: a program that may
+//! not be skipped can't end, whatever its conditions; behind a part that certainly ends or steps,
+//! no other is asked; and the lower part of a `prio` isn't asked where the higher has a step in
+//! Near.
+//!
+//! `first_move` goes to the first part first and, where that has no certain step, asks whether it
+//! may end or step; nothing is listed. It and `reach_of` stop for want of fuel only where a block
+//! at the front wants more: in Must, or in Near where it stands in the higher part of a `prio`
+//! (`first_move`), or anywhere (`reach_of`). What a step leaves copies the parts beside the path to
+//! what stepped, and of a `pick` or a call the body.
+//!
+//! The recursions end as those of golog_fronts do. Its calls are exported here too.
+//!
+//! Programs without search blocks can be followed step by step (`IsSearched`, specs/Searched).
+//! `ways_of` of `listing` has their steps in a state and a mode, from the fronts; `going` has
+//! `goes_through`, which steps a run again, `state_after` and copies of steps. `keep` has the trait
+//! `Keep`: who tells whether runs go through and may keep what was learned of them, as long as all
+//! calls are with one agent, which its ghost member `serves` says. `Walk` keeps nothing and steps
+//! each run again.
+//!
+//! The layers above use `first_move` and `reach_of` (golog_search) and `is_final` (golog_search,
+//! golog_find), with programs that `IsClosed` (golog_fronts, specs/Closed); `ways_of` and
+//! `state_after` (golog_find); `goes_through` and `Keep` (golog_search, golog_watch). `first`,
+//! `any`, `flip` and `has_front_block` are for whoever searches no block: of the other crates the
+//! tests alone call them.
 #![tactic(auto)]
 
 mod answering;

@@ -1,3 +1,4 @@
+// `ways_of`: the steps of a program in a state and a mode, from its fronts.
 ghost use Rattle.std.specs.Prelude.{◌≡◌, ◌∷◌, ◌++◌, [], IfOk, IsTrue, OnOk};
 ghost use Rattle.golog_semantics.specs.Fits.{cond_fits, nothing_bound};
 ghost use Rattle.golog_semantics.specs.Fronts.{open_ways as ways_opened};

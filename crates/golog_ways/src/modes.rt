@@ -1,3 +1,4 @@
+// Which truths hold in which mode, and the mode in which the higher part of a `prio` is asked.
 ghost use Rattle.std.specs.Prelude.{◌≡◌};
 ghost use Rattle.golog_semantics.specs.Modes.{holds as holds_in, flip as flipped};
 

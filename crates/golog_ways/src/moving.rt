@@ -1,3 +1,5 @@
+// `first_move`, the first certain step of a program: the first part is asked first, and nothing is
+// listed.
 ghost use Rattle.std.specs.Prelude.{◌≡◌, false, IfOk, IfErr, length};
 ghost use Rattle.golog_tree.specs.Ground.{ground_fluents};
 ghost use Rattle.golog_fronts.specs.Closed.{IsFit, IsClosed};

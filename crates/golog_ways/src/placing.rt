@@ -1,3 +1,4 @@
+// What a step leaves, put at its place beside another program.
 ghost use Rattle.std.specs.Prelude.{◌≡◌, IfOk, IfErr};
 ghost use Rattle.golog_tree.specs.Tidy.{tidy_seq, tidy_conc, tidy_prio};
 ghost use Rattle.golog_fronts.specs.Context.{placed};

@@ -1,3 +1,4 @@
+// The calls over a `State`: `is_final`, `first` and `any`.
 ghost use Rattle.std.specs.Prelude.{◌≡◌, IfOk, IfSome, IsTrue, false, not};
 ghost use Rattle.golog_semantics.specs.Blocks.{ways};
 ghost use Rattle.golog_semantics.specs.ProgFits.{fits};

@@ -1,3 +1,4 @@
+// `Reach`, in which modes a program has a step, and how those of parts are put together.
 ghost use Rattle.std.specs.Prelude.{◌≡◌, not, ◌&&◌, ◌||◌, false, true};
 ghost use Rattle.golog_semantics.specs.declared.Mode.{Mode};
 ghost use Rattle.golog_semantics.specs.Modes.{holds as holds_by, flip};

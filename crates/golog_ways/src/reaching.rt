@@ -1,3 +1,4 @@
+// `reach_of`: in which modes a program has a step, part by part.
 ghost use Rattle.std.specs.Prelude.{◌≡◌, true, IfOk, IfErr, length};
 ghost use Rattle.golog_tree.specs.Ground.{ground_fluents};
 ghost use Rattle.golog_fronts.specs.Closed.{IsFit, IsClosed};

@@ -1,3 +1,4 @@
+// The step of an action or of a test.
 ghost use Rattle.golog_semantics.specs.Ways.{Blocks};
 ghost use Rattle.golog_fronts.specs.Closed.{IsClosed};
 ghost use Rattle.golog_ways.specs.FirstMove.{IsFirst};

@@ -1,3 +1,4 @@
+// `NoBlocks`, for which no search block has a step, and the steps of programs by it.
 ghost use Rattle.std.specs.Prelude.{◌≡◌, false, IfOk, length};
 ghost use Rattle.std.specs.Option.{option_map};
 ghost use Rattle.golog_tree.specs.Ground.{ground_fluents};

@@ -1,4 +1,4 @@
--- What follows where conditions hold.
+-- What follows where both of two conditions hold, or one doesn't.
 use Rattle.std.proofs.Common.{◌≡◌, refl, sym, Bool, true, false, not, Option, None, true≢false}
 use Rattle.std.specs.Prelude.{◌&&◌, if◌then◌else◌}
 

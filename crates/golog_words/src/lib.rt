@@ -1,4 +1,9 @@
 //! The words of a command: which order they give, or that they give none.
+//!
+//! `order_of` first tests the words, without memory, and refuses what is no command; what is one is
+//! read with the kit's `clap`, by a `Command` for each first word, which stands where a program's
+//! name does. The layer above uses of its contracts `command_in`, `command_of` and `Answers`. In
+//! proofs a row is what `clap` holds for an argument.
 #![tactic(auto)]
 
 mod command;

@@ -1,3 +1,4 @@
+// `Order`, what the words of a command ask for, and `WordsFault`.
 use thiserror::Error;
 
 /// What the words of a command ask for. Its texts are the words themselves, lent.

@@ -1,3 +1,5 @@
+// `order_of`: the words are tested without memory, then read by a `Command` of `clap`, and made an
+// order.
 ghost use Rattle.std.specs.Prelude.{◌≡◌, Some, IsSome, IfOk, drop, map, string_bytes};
 ghost use Rattle.golog_words.specs.Answers.{Answers, command_of};
 ghost use Rattle.golog_words.specs.Commands.{run_in, check_in, replay_in, ask_in, migrate_in, demo_in, command_in};

@@ -1,3 +1,4 @@
+// The size of a demo, which its word spells.
 ghost use Rattle.std.specs.Prelude.{◌≡◌};
 ghost use Rattle.golog_words.specs.Commands.{size_in};
 
