@@ -1,3 +1,3 @@
 pub mod Codes
 pub mod Numbered
-pub mod SeenPairs
+pub mod Placed

@@ -1,0 +1,4 @@
+pub mod Parts
+pub mod Joins
+pub mod Made
+pub mod Agreeing
