@@ -7,6 +7,8 @@ pub mod Holding
 pub mod InWorlds
 pub mod Lackings
 pub mod MoveSteps
+pub mod OpenSteps
+pub mod Opened
 pub mod PlainSteps
 pub mod ReachSteps
 pub mod SearchedWays

@@ -3,6 +3,7 @@ pub mod FirstMove
 pub mod Following
 pub mod InWorlds
 pub mod Lacking
+pub mod Open
 pub mod Reach
 pub mod Searched
 pub mod Walks

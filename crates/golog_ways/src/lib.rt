@@ -27,7 +27,9 @@
 //! `goes_through`, which steps a run again, `state_after` and copies of steps. `keep` has the trait
 //! `Keep`: who tells whether runs go through and may keep what was learned of them, as long as all
 //! calls are with one agent, which its ghost member `serves` says. `Walk` keeps nothing and steps
-//! each run again.
+//! each run again. `expand` has the trait `Expand`: who lists the steps of many programs, each in its
+//! state (`Node`), and asks the checks of many kept steps (`NumberedFront`, `Asked`). `Plain` does one
+//! after another.
 //!
 //! The layers above use `first_move` and `reach_of` (golog_search) and `is_final` (golog_search,
 //! golog_find), with programs that `IsClosed` (golog_fronts, specs/Closed); `ways_of` and
@@ -38,6 +40,7 @@
 
 mod answering;
 mod conditions;
+mod expand;
 mod finality;
 mod following;
 mod going;
@@ -54,6 +57,7 @@ mod single;
 mod without;
 
 pub use answering::{Blocks, Stop};
+pub use expand::{Asked, Expand, Node, NumberedFront, Plain, open_in_turn, ways_in_turn};
 pub use following::Following;
 pub use going::{copy_way, copy_ways, goes_through, is_certain, state_after};
 pub use golog_fronts::{
