@@ -1,6 +1,8 @@
 pub mod LevelsStay
 pub mod LevelParts
 pub mod Numbering
+pub mod RowStates
+pub mod Standing
 pub mod RunsTo
 pub mod Seen
 pub mod FirstRuns
@@ -12,3 +14,6 @@ pub mod StoredSearch
 pub mod FoundInWorlds
 pub mod Visiting
 pub mod VisitPlaces
+pub mod Kept
+pub mod OpenFronts
+pub mod Batching

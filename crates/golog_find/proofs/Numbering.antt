@@ -1,14 +1,13 @@
 -- States by numbers, and the states that they stand for.
 use Rattle.std.proofs.Common.{◌≡◌, ℕ, zero, suc, ◌+◌, ◌<◌, ◌==◌, ◌&&◌, ◌||◌, Bool, true, false, if◌then◌else◌, List, [], ◌∷◌, ◌++◌, length, drop, map, Option, Some, inl, inr, refl, sym, ap, ◌∙◌, subst, get_or, arith}
-use Rattle.std.specs.Prelude.{◌↔◌, All, IsTrue, fold, not, slice_get, unwrap_or}
+use Rattle.std.specs.Prelude.{◌↔◌, All, IsTrue, fold, slice_get, unwrap_or}
 use Rattle.std.specs.Cmp.{both_ways}
 use Rattle.std.specs.List.{list_any, position_from}
 use Rattle.std.specs.Option.{option_map}
 use Rattle.std.proofs.lemmas.Bool.{eqb-true, eq-eqb}
-use Rattle.std.proofs.lemmas.List.{drop_more, length_push}
+use Rattle.std.proofs.lemmas.List.{drop_more, length-map, length_push}
 use Rattle.std.proofs.lemmas.List.Elements.{All-cons, All-get_or, All-head, All-nil, All-push, All-tail, All-weaker}
 use Rattle.std.proofs.lemmas.Option.{slice_get-get_or, slice_get-map, slice_get_read, slice_get_within}
-use Rattle.golog_base.proofs.Bools.{or-false, or-true}
 use Rattle.golog_tree.specs.declared.agent.Agent.{Agent}
 use Rattle.golog_tree.specs.declared.prog.Label.{Label}
 use Rattle.golog_tree.specs.declared.prog.Label.TheVariants.{Quiet}
@@ -17,25 +16,22 @@ use Rattle.golog_tree.specs.declared.prog.Prog.TheVariants.{Nil}
 use Rattle.golog_tree.specs.declared.prog.Way.{Way}
 use Rattle.golog_semantics.specs.declared.Mode.{Mode}
 use Rattle.golog_semantics.specs.Blocks.{same_state}
+use Rattle.golog_semantics.specs.InSorts.{AreInSorts}
 use Rattle.golog_semantics.specs.Same.{same_prog, same_values}
-use Rattle.golog_semantics.specs.Search.{is_followed, plain_ways}
+use Rattle.golog_semantics.specs.Search.{final, is_followed, plain_ways}
 use Rattle.golog_semantics.specs.Truth.{Values}
 use Rattle.golog_semantics.specs.Values.{after}
 use Rattle.golog_semantics.specs.Ways.{is_empty}
 use Rattle.golog_semantics.proofs.ByParts.{OfEach}
 use Rattle.golog_semantics.proofs.GroundNumbers.{slice_get-left, some-same}
-use Rattle.golog_semantics.proofs.Levels.{same_values-eq}
 use Rattle.golog_semantics.proofs.SameLaws.{same_prog-eq, same_prog-same}
-use Rattle.golog_semantics.proofs.Tests.{and_cases}
 use Rattle.golog_ways.specs.Searched.{IsSearched}
 use Rattle.golog_memo.specs.Numbered.{AreOnce, IsAddedTo}
-use Rattle.golog_memo.specs.SeenPairs.{is_seen}
-use Rattle.golog_memo.specs.declared.seen.Seen.{Seen}
 use Rattle.golog_find.specs.declared.level.Level.{Level as AnyLevel}
 use Rattle.golog_find.specs.declared.numbered.Numbered.{Numbered}
-use Rattle.golog_find.specs.Levels.{AreSearched, Level, Looked, Reached, is_there, reached_by, start_of, state_of, stored_steps, with_state, with_stored, with_way}
-use Rattle.golog_find.specs.Numbers.{GoesOn, HaveNumbers, IsLevel, Sees, all_meant, is_pair, level_of, meant, with_numbered}
-use Rattle.golog_find.proofs.LevelParts.{any-append, map-append}
+use Rattle.golog_find.specs.Levels.{AreSearched, Level, Looked, Reached, is_stored, is_there, reached_by, start_of, state_of, stored_steps, with_state, with_stored, with_way}
+use Rattle.golog_find.specs.Numbers.{GoesOn, HaveNumbers, IsLevel, Sees, all_meant, is_pair, led, level_of, meant, with_numbered}
+use Rattle.golog_find.proofs.LevelParts.{map-append}
 
 pub goes_on-same : (progs : List Prog) → GoesOn progs progs
 goes_on-same progs = record { longer = omega arith; same = λ i l. refl }
@@ -144,30 +140,6 @@ module _ (progs more : List Prog) (states : List Numbered) (cut : Bool) (n : Num
   pub with_numbered-is : level_with cut (all_meant more (with_numbered states n)) ≡ with_state (level_with cut (all_meant progs states)) (meant more n)
   with_numbered-is = with-either (list_any (is_pair n.left n.state) states) (is_there (all_meant progs states) (state_of (meant more n))) same-there
 
-module _ (old new : Seen) (states : List Numbered) (n : Numbered) (h : Sees old states)
-    (updates : (prog : ℕ) (values : Values) → is_seen new prog values ≡ (is_seen old prog values || (prog == n.left && same_values values n.state))) where
-  -- a new pair is behind the others
-  pub sees-more : Sees new (states ++ n ∷ [])
-  sees-more = record {
-    pairs = λ prog values.
-        updates prog values
-        ∙ ap (λ b. b || is_pair prog values n) (h.pairs prog values)
-        ∙ ap (λ b. list_any (is_pair prog values) states || b) (sym (or-false (is_pair prog values n)))
-        ∙ sym (any-append (is_pair prog values) states (n ∷ []));
-  }
-
-  -- a pair that was there changes nothing
-  pub sees-still : is_seen old n.left n.state ≡ true → Sees new states
-  sees-still known = record { pairs = λ prog values. updates prog values ∙ again prog values (is_pair prog values n) refl ∙ h.pairs prog values }
-    where
-      again : (prog : ℕ) (values : Values) → (b : Bool) → is_pair prog values n ≡ b → (is_seen old prog values || b) ≡ is_seen old prog values
-      again prog values false e = or-false (is_seen old prog values)
-      again prog values true e =
-          let k = and_cases (prog == n.left) (same_values values n.state) e in
-          let one = eqb-true prog n.left k.0 in
-          let other = same_values-eq values n.state k.1 in
-          or-true (is_seen old prog values) ∙ sym ((λ i. is_seen old (one i) (other i)) ∙ known)
-
 -- what is so of each that is mapped is so of the one at a place
 pub at-mapped : {A B : Type 0} (P : B → Type 0) (f : A → B) (xs : List A) (i : ℕ) (d : A) → i < length xs → All P (map f xs) → P (f (get_or xs i d))
 at-mapped P f [] i d l h = absurd (omega arith)
@@ -240,41 +212,20 @@ pub before-numbers : (progs more : List Prog) (before : List (List Numbered)) (l
 before-numbers progs more before last h k l =
     All-push (HaveNumbers more) before last (All-weaker (HaveNumbers progs) (HaveNumbers more) (λ states s. numbers-stay progs more states h s) before k) (numbers-stay progs more last h l)
 
-not-true : (b : Bool) → true ≡ not b → b ≡ false
-not-true true e = absurd (cc)
-not-true false e = refl
-
-not-false : (b : Bool) → false ≡ not b → b ≡ true
-not-false true e = refl
-not-false false e = absurd (cc)
-
--- what is kept where a pair is new, and where it was there
-pub with-new : (seen : Seen) (states : List Numbered) (n : Numbered) → Sees seen states → true ≡ not (is_seen seen n.left n.state) → states ++ n ∷ [] ≡ with_numbered states n
-with-new seen states n h e =
-    let none : list_any (is_pair n.left n.state) states ≡ false = sym (h.pairs n.left n.state) ∙ not-true (is_seen seen n.left n.state) e in
-    ap (λ (b : Bool). if b then states else states ++ n ∷ []) (sym none)
-
-pub with-known : (seen : Seen) (states : List Numbered) (n : Numbered) → Sees seen states → false ≡ not (is_seen seen n.left n.state) → states ≡ with_numbered states n
-with-known seen states n h e =
-    let some : list_any (is_pair n.left n.state) states ≡ true = sym (h.pairs n.left n.state) ∙ not-false (is_seen seen n.left n.state) e in
-    ap (λ (b : Bool). if b then states else states ++ n ∷ []) (sym some)
-
-pub sees-known : (seen : Seen) (n : Numbered) → false ≡ not (is_seen seen n.left n.state) → is_seen seen n.left n.state ≡ true
-sees-known seen n e = not-false (is_seen seen n.left n.state) e
-
 -- a level with the state that a way leads to
-module _ (old more : List Prog) (level next : AnyLevel) (n : Numbered) (w : Way) (h : GoesOn old more) (k : IsLevel old level) (named : slice_get more n.left ≡ Some w.left)
+module _ (agent : Agent) (old more : List Prog) (level next : AnyLevel) (n : Numbered) (w : Way) (h : GoesOn old more) (k : IsLevel agent old level) (named : slice_get more n.left ≡ Some w.left)
     (states : next.states ≡ with_numbered level.states n) where
-  pub added-level : AreOnce more → Sees next.seen next.states → IsLevel more next
-  added-level once seen = record {
+  pub added-level : AreOnce more → Sees next.seen next.states → AreInSorts agent next.next.state → IsLevel agent more next
+  added-level once seen sorts = record {
     once = once;
     numbers = subst (HaveNumbers more) (sym states) (numbers-with more level.states n (numbers-stay old more level.states h k.numbers) (slice_get_within more n.left w.left named));
     seen = seen;
+    next = sorts;
   }
 
-  pub added-is : (agent : Agent) (from : ℕ) (values : Values) → is_followed w ≡ true → AreOnce more → meant more n ≡ reached_by agent from values w → next.cut ≡ level.cut
+  pub added-is : (from : ℕ) (values : Values) → is_followed w ≡ true → AreOnce more → meant more n ≡ reached_by agent from values w → next.cut ≡ level.cut
       → level_of more next ≡ with_way agent from values (level_of old level) w
-  added-is agent from values followed once means cut =
+  added-is from values followed once means cut =
       (λ i. level_with (cut i) (all_meant more (states i)))
       ∙ with_numbered-is old more level.states level.cut n w.left h once k.numbers named
       ∙ ap (with_state (level_of old level)) means
@@ -293,10 +244,30 @@ pub start-meant : (progs : List Prog) (left : ℕ) (p : Prog) (state values : Va
 start-meant progs left p state values named same =
     ap (λ (o : Option Prog). stepped 0 Quiet state (unwrap_or o Nil)) named ∙ ap (start_of p) same
 
-pub led-meant : (progs : List Prog) (agent : Agent) (from left : ℕ) (state values : Values) (w : Way) → slice_get progs left ≡ Some w.left → state ≡ after agent values w.label
-    → meant progs (record { label = w.label; left = left; state = state; from = from }) ≡ reached_by agent from values w
-led-meant progs agent from left state values w named same =
-    ap (λ (o : Option Prog). stepped from w.label state (unwrap_or o Nil)) named ∙ ap (λ (v : Values). stepped from w.label v w.left) same
+pub led-meant : (progs : List Prog) (agent : Agent) (from left : ℕ) (values : Values) (w : Way) → slice_get progs left ≡ Some w.left
+    → meant progs (led agent from values w.label left) ≡ reached_by agent from values w
+led-meant progs agent from left values w named = ap (λ (o : Option Prog). stepped from w.label (after agent values w.label) (unwrap_or o Nil)) named
+
+-- with the number of what is left
+abbrev pub numbered_as : ℕ → Numbered → Numbered
+numbered_as left n = record { label = n.label; left = left; state = n.state; from = n.from }
+
+pub led-numbered : (progs : List Prog) (agent : Agent) (from left before : ℕ) (values : Values) (w : Way) (n : Numbered) → n ≡ led agent from values w.label before → slice_get progs left ≡ Some w.left
+    → meant progs (numbered_as left n) ≡ reached_by agent from values w
+led-numbered progs agent from left before values w n e named = ap (λ (m : Numbered). meant progs (numbered_as left m)) e ∙ led-meant progs agent from left values w named
+
+-- whether it is to be stored
+pub wanted-is : (agent : Agent) (m : Mode) (room : Option ℕ) (progs : List Prog) (states : List Numbered) (from before : ℕ) (values : Values) (label : Label) (p q : Prog) (n : Numbered) (b : Bool)
+    → n ≡ led agent from values label before → q ≡ p → b ≡ is_stored room (length states) (final agent n.state m p)
+    → is_stored room (length (all_meant progs states)) (final agent (after agent values label) m q) ≡ b
+wanted-is agent m room progs states from before values label p q n b e same h =
+    (λ i. is_stored room (length-map states (meant progs) i) (final agent (sym e i).state m (same i))) ∙ sym h
+
+-- the state that stands at a place
+pub at-place : {A : Type 0} (xs : List A) (i : ℕ) (x : A) → slice_get xs i ≡ Some x → x ≡ get_or xs i x
+at-place [] i x e = absurd (cc)
+at-place (y ∷ xs) zero x e = sym (some-same y x e)
+at-place (y ∷ xs) (suc i) x e = at-place xs i x e
 
 -- what a search with these states stands for
 abbrev looked_with : List Prog → List (List Numbered) → List Numbered → Looked
@@ -319,10 +290,6 @@ pub meant-empty : (progs : List Prog) (states : List Numbered) (b : Bool) → Is
 meant-empty progs [] b h = h.1 refl
 meant-empty progs (n ∷ states) true h = let e : n ∷ states ≡ [] = h.0 refl in absurd (cc)
 meant-empty progs (n ∷ states) false h = refl
-
--- what is seen where nothing was
-pub sees-none : (seen : Seen) → ((prog : ℕ) (values : Values) → is_seen seen prog values ≡ false) → Sees seen []
-sees-none seen h = record { pairs = h }
 
 -- a step that is not followed is cut off
 pub cut-is : (agent : Agent) (from : ℕ) (values : Values) (l : Level) (w : Way) → is_followed w ≡ false → level_with true l.states ≡ with_way agent from values l w

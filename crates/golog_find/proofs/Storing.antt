@@ -238,6 +238,9 @@ module _ (agent : Agent) (m : Mode) where
     pub stored-more : wanted ≡ true → with_way agent from values l w ≡ with_stored agent m room from values l w
     stored-more e = sym (stored-by true (ap (λ (b : Bool). not (is_followed w) || b) e ∙ or-true (not (is_followed w))))
 
+    pub stored-less : is_followed w ≡ true → wanted ≡ false → l ≡ with_stored agent m room from values l w
+    stored-less e k = sym (stored-by false (ap (λ (b : Bool). not b || wanted) e ∙ k))
+
   -- the first end stands at this place
   pub record IsPlaced (from : ℕ) (states : List Reached) (place : ℕ) : Type 0 where
     pub index : ℕ

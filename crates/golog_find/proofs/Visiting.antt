@@ -1,31 +1,27 @@
 -- What is kept of programs stays so while more programs have numbers.
-use Rattle.std.proofs.Common.{◌≡◌, ℕ, ◌<◌, Bool, true, List, [], ◌∷◌, ◌++◌, ◌+◌, false, if◌then◌else◌, length, drop, map, take, Option, refl, sym, ap, ◌∙◌, subst, get_or, arith}
-use Rattle.std.specs.Prelude.{All, filter, fold, unwrap_or}
-use Rattle.std.proofs.lemmas.List.{drop_more, take_more}
+use Rattle.std.proofs.Common.{◌≡◌, ℕ, zero, suc, ◌<◌, true, List, [], ◌∷◌, ◌++◌, ◌+◌, length, take, Option, refl, sym, ap, ◌∙◌, subst, get_or, arith}
+use Rattle.std.specs.Prelude.{All, unwrap_or}
+use Rattle.std.proofs.lemmas.List.{take_more}
 use Rattle.std.proofs.lemmas.List.Elements.{All-cons, All-get_or, All-head, All-nil, All-push, All-tail, All-weaker}
 use Rattle.golog_tree.specs.declared.agent.Agent.{Agent}
 use Rattle.golog_tree.specs.declared.prog.Prog.{Prog}
 use Rattle.golog_tree.specs.declared.prog.Prog.TheVariants.{Nil}
-use Rattle.golog_tree.specs.declared.prog.Way.{Way}
-use Rattle.golog_semantics.specs.declared.Mode.{Mode}
 use Rattle.golog_semantics.specs.Fits.{cond_fits, nothing_bound}
-use Rattle.golog_semantics.specs.Fronts.{AreFronts, Guarded, IsEnd, open_ways}
+use Rattle.golog_semantics.specs.Fronts.{AreFronts, Guarded}
+use Rattle.golog_semantics.specs.Reports.{fits_label}
 use Rattle.golog_semantics.specs.Search.{is_followed}
-use Rattle.golog_semantics.specs.Truth.{Values}
-use Rattle.golog_semantics.specs.Ways.{is_so}
-use Rattle.golog_semantics.proofs.ByParts.{OfEach}
 use Rattle.golog_semantics.proofs.Tests.{and_cases}
 use Rattle.golog_fronts.specs.declared.front_lists.Front.{Front}
 use Rattle.golog_fronts.specs.FrontLists.{are_closed, guarded, guarded_of}
 use Rattle.golog_fronts.specs.Lefts.{LeavesClosed}
 use Rattle.golog_memo.specs.Numbered.{AreOnce}
 use Rattle.golog_find.specs.declared.level.Level.{Level as AnyLevel}
-use Rattle.golog_find.specs.declared.visits.NumberedFront.{NumberedFront}
+use Rattle.golog_ways.specs.declared.expand.NumberedFront.{NumberedFront}
+use Rattle.golog_ways.specs.Open.{AreChecked}
 use Rattle.golog_find.specs.declared.visits.Opened.{Opened}
 use Rattle.golog_find.specs.declared.visits.Visits.{Visits}
-use Rattle.golog_find.specs.Levels.{Level}
 use Rattle.golog_find.specs.Numbers.{GoesOn, IsLevel, level_of}
-use Rattle.golog_find.specs.Visits.{AreFrontsOf, AreKept, AreOpenedFronts, IsFrontOf, IsNumberedFront, IsOfAgent, IsOpened, meant_front, meant_fronts, prog_at}
+use Rattle.golog_find.specs.Visits.{AreFrontsOf, AreKept, AreOpenedFronts, IsEndCheck, IsFrontOf, IsNumberedFront, IsOfAgent, IsOpened, meant_front, meant_fronts, prog_at}
 use Rattle.golog_find.proofs.LevelParts.{map-append}
 use Rattle.golog_find.proofs.Numbering.{all_meant-stay, at-mapped, level_with, numbers-stay}
 
@@ -53,7 +49,7 @@ module _ (progs more : List Prog) (h : GoesOn progs more) where
   pub all_numbered-stay : (fs : List NumberedFront) → All (IsNumberedFront progs) fs → All (IsNumberedFront more) fs
   all_numbered-stay fs k = All-weaker (IsNumberedFront progs) (IsNumberedFront more) numbered-stays fs k
 
-  prog-stays : (number : ℕ) → number < length progs → prog_at progs number ≡ prog_at more number
+  pub prog-stays : (number : ℕ) → number < length progs → prog_at progs number ≡ prog_at more number
   prog-stays number l = ap (λ (q : Option Prog). unwrap_or q Nil) (sym (h.same number l))
 
   pub opened-stays : (agent : Agent) (o : Opened) → IsOpened agent progs o → IsOpened agent more o
@@ -68,23 +64,23 @@ module _ (progs more : List Prog) (h : GoesOn progs more) where
           numbered = all_numbered-stay o.fronts k.fronts.numbered;
           agents = subst (All (IsOfAgent agent)) (sym same) k.fronts.agents;
           fronts = subst (λ (gs : List Guarded). AreFronts agent (prog_at more o.prog) gs) (sym same) (subst (λ (p : Prog). AreFronts agent p (meant_fronts progs o.fronts)) prog k.fronts.fronts);
+          checked = k.fronts.checked;
         };
-        end = subst (λ (p : Prog). IsEnd agent p o.end) prog k.end;
-        closed = k.closed;
+        end = subst (λ (p : Prog). IsEndCheck agent p o.end) prog k.end;
       }
 
   pub all_opened-stay : (agent : Agent) (os : List Opened) → All (IsOpened agent progs) os → All (IsOpened agent more) os
   all_opened-stay agent os k = All-weaker (IsOpened agent progs) (IsOpened agent more) (opened-stays agent) os k
 
   pub kept-stays : (agent : Agent) (visits : Visits) → AreKept agent progs visits → AreKept agent more visits
-  kept-stays agent visits k = record { opened = all_opened-stay agent visits.opened k.opened; placed = k.placed }
+  kept-stays agent visits k = record { opened = all_opened-stay agent visits.opened k.opened; placed = k.placed; effects = k.effects }
 
   -- a level by the programs that have numbers now
-  pub level-stays : (level : AnyLevel) → AreOnce more → IsLevel progs level → IsLevel more level
-  level-stays level once k = record { once = once; numbers = numbers-stay progs more level.states h k.numbers; seen = k.seen }
+  pub level-stays : (agent : Agent) (level : AnyLevel) → AreOnce more → IsLevel agent progs level → IsLevel agent more level
+  level-stays agent level once k = record { once = once; numbers = numbers-stay progs more level.states h k.numbers; seen = k.seen; next = k.next }
 
-  pub level_of-stays : (level : AnyLevel) → IsLevel progs level → level_of more level ≡ level_of progs level
-  level_of-stays level k = ap (level_with level.cut) (all_meant-stay progs more level.states h k.numbers)
+  pub level_of-stays : (agent : Agent) (level : AnyLevel) → IsLevel agent progs level → level_of more level ≡ level_of progs level
+  level_of-stays agent level k = ap (level_with level.cut) (all_meant-stay progs more level.states h k.numbers)
 
   -- one more front
   pub fronts-more : (gs : List Guarded) (g : Guarded) (ns : List NumberedFront) (n : NumberedFront) → AreFrontsOf progs gs ns → IsFrontOf more g n → AreFrontsOf more (gs ++ g ∷ []) (ns ++ n ∷ [])
@@ -103,54 +99,6 @@ module _ (progs more : List Prog) (h : GoesOn progs more) where
 pub guarded-next : (fs : List Front) (i : ℕ) (f : Front) → i < length fs → f ≡ get_or fs i f → guarded (take (i + 1) fs) ≡ guarded (take i fs) ++ guarded_of f ∷ []
 guarded-next fs i f l e =
     ap guarded (take_more fs i f l) ∙ map-append guarded_of (take i fs) (get_or fs i f ∷ []) ∙ ap (λ (g : Front). guarded (take i fs) ++ guarded_of g ∷ []) (sym e)
-
--- the front at a place: it is the next step where it is open
-module _ (progs : List Prog) (agent : Agent) (values : Values) (m : Mode) (F : Level → Way → Level) (a : Level) where
-  abbrev rest-of : List NumberedFront → Level → Level
-  rest-of ns b = fold F b (open_ways agent values m (meant_fronts progs ns))
-
-  front-first : (n : NumberedFront) (ns : List NumberedFront) (b : Bool) → is_so agent values m n.cond ≡ b
-      → rest-of (n ∷ ns) a ≡ (if b then rest-of ns (F a (meant_front progs n).way) else rest-of ns a)
-  front-first n ns b e =
-      ap (λ (c : Bool). fold F a (map (λ (g : Guarded). g.way) (if c then meant_front progs n ∷ filter (λ (g : Guarded). is_so agent values m g.cond) (meant_fronts progs ns)
-      else filter (λ (g : Guarded). is_so agent values m g.cond) (meant_fronts progs ns)))) e
-      ∙ go b
-    where
-      go : (c : Bool) → fold F a (map (λ (g : Guarded). g.way) (if c then meant_front progs n ∷ filter (λ (g : Guarded). is_so agent values m g.cond) (meant_fronts progs ns)
-          else filter (λ (g : Guarded). is_so agent values m g.cond) (meant_fronts progs ns)))
-          ≡ (if c then rest-of ns (F a (meant_front progs n).way) else rest-of ns a)
-      go true = refl
-      go false = refl
-
-  pub front-at : (ns : List NumberedFront) (i : ℕ) (n : NumberedFront) → i < length ns → n ≡ get_or ns i n → (b : Bool) → is_so agent values m n.cond ≡ b
-      → rest-of (drop i ns) a ≡ (if b then rest-of (drop (i + 1) ns) (F a (meant_front progs n).way) else rest-of (drop (i + 1) ns) a)
-  front-at ns i n l e b is =
-      ap (λ (xs : List NumberedFront). rest-of xs a) (drop_more ns i n l ∙ ap (λ (x : NumberedFront). x ∷ drop (i + 1) ns) (sym e))
-      ∙ front-first n (drop (i + 1) ns) b is
-
--- the front at a place, and the ways of those behind it
-module _ (progs : List Prog) (agent : Agent) (values : Values) (m : Mode) (P : Way → Type 0) where
-  abbrev pub AllOpen : List NumberedFront → Type 0
-  AllOpen ns = OfEach P (open_ways agent values m (meant_fronts progs ns))
-
-  abbrev pub OpenFirst : Bool → NumberedFront → List NumberedFront → Type 0
-  OpenFirst true n ns = P (meant_front progs n).way × AllOpen ns
-  OpenFirst false n ns = AllOpen ns
-
-  first-open : (n : NumberedFront) (ns : List NumberedFront) (b : Bool) → is_so agent values m n.cond ≡ b → AllOpen (n ∷ ns) → OpenFirst b n ns
-  first-open n ns b e h =
-      go b (subst (λ (c : Bool). OfEach P (map (λ (g : Guarded). g.way) (if c then meant_front progs n ∷ filter (λ (g : Guarded). is_so agent values m g.cond) (meant_fronts progs ns)
-      else filter (λ (g : Guarded). is_so agent values m g.cond) (meant_fronts progs ns)))) e h)
-    where
-      go : (c : Bool) → OfEach P (map (λ (g : Guarded). g.way) (if c then meant_front progs n ∷ filter (λ (g : Guarded). is_so agent values m g.cond) (meant_fronts progs ns)
-          else filter (λ (g : Guarded). is_so agent values m g.cond) (meant_fronts progs ns))) → OpenFirst c n ns
-      go true k = k
-      go false k = k
-
-  pub open-at : (ns : List NumberedFront) (i : ℕ) (n : NumberedFront) → i < length ns → n ≡ get_or ns i n → (b : Bool) → is_so agent values m n.cond ≡ b
-      → AllOpen (drop i ns) → OpenFirst b n (drop (i + 1) ns)
-  open-at ns i n l e b is h =
-      first-open n (drop (i + 1) ns) b is (subst AllOpen (drop_more ns i n l ∙ ap (λ (x : NumberedFront). x ∷ drop (i + 1) ns) (sym e)) h)
 
 -- the front at a place is one of the program's
 pub front-fits : (progs : List Prog) (agent : Agent) (fs : List NumberedFront) (i : ℕ) (f : NumberedFront) → i < length fs → f ≡ get_or fs i f
@@ -171,9 +119,24 @@ of_agent agent p (f ∷ fs) c l =
 
 -- such fronts by numbers
 pub opened-fronts : (agent : Agent) (progs : List Prog) (p q : Prog) (fs : List Front) (ns : List NumberedFront) → AreFrontsOf progs (guarded fs) ns → AreFronts agent p (guarded fs)
-    → are_closed agent fs ≡ true → All (λ (g : Guarded). LeavesClosed agent p g.way) (guarded fs) → p ≡ q → AreOpenedFronts agent progs q ns
-opened-fronts agent progs p q fs ns by ways closed lefts e = record {
+    → are_closed agent fs ≡ true → All (λ (g : Guarded). LeavesClosed agent p g.way) (guarded fs) → p ≡ q → AreChecked agent ns → AreOpenedFronts agent progs q ns
+opened-fronts agent progs p q fs ns by ways closed lefts e checked = record {
   numbered = by.numbered;
   agents = subst (All (IsOfAgent agent)) (sym by.same) (of_agent agent p fs closed lefts);
   fronts = subst (λ (gs : List Guarded). AreFronts agent q gs) (sym by.same) (subst (λ (r : Prog). AreFronts agent r (guarded fs)) e ways);
+  checked = checked;
 }
+
+-- the condition of the front at a place has no free variable
+pub closed-at : (agent : Agent) (fs : List Front) (i : ℕ) (f : Front) → i < length fs → f ≡ get_or fs i f → are_closed agent fs ≡ true → cond_fits agent f.cond nothing_bound ≡ true
+closed-at agent [] i f l e c = absurd (omega arith)
+closed-at agent (g ∷ fs) zero f l e c =
+    ap (λ (x : Front). cond_fits agent x.cond nothing_bound) e ∙ (and_cases (cond_fits agent g.cond nothing_bound) (are_closed agent fs) c).0
+closed-at agent (g ∷ fs) (suc i) f l e c = closed-at agent fs i f (omega arith) e (and_cases (cond_fits agent g.cond nothing_bound) (are_closed agent fs) c).1
+
+-- the actions of kept steps are the agent's
+pub labels-fit : (agent : Agent) (progs : List Prog) (fs : List NumberedFront) → All (IsOfAgent agent) (meant_fronts progs fs) → All (λ (f : NumberedFront). fits_label agent f.label ≡ true) fs
+labels-fit agent progs [] h = All-nil (λ (f : NumberedFront). fits_label agent f.label ≡ true)
+labels-fit agent progs (f ∷ fs) h =
+    All-cons (λ (g : NumberedFront). fits_label agent g.label ≡ true) f fs (All-head (IsOfAgent agent) (meant_front progs f) (meant_fronts progs fs) h).label
+    (labels-fit agent progs fs (All-tail (IsOfAgent agent) (meant_front progs f) (meant_fronts progs fs) h))

@@ -1,5 +1,6 @@
 -- What a search keeps of the programs that it visits again: their steps with the conditions under which they may
--- be taken, and the condition under which they may end. All of it is this project's own.
+-- be taken, the check of the condition under which they may end, and what their steps write. All of it is this
+-- project's own.
 use Rattle.std.specs.Prelude.{◌≡◌, ◌≢◌, ℕ, ◌<◌, ◌≤◌, ◌-◌, ◌^◌, ◌==◌, ◌||◌, Bool, true, IsTrue, List, Option, Some, All, length, map, slice_get, unwrap_or}
 use Rattle.std.specs.HashMap.{get_by}
 use Rattle.std.specs.List.{list_any, sum_by}
@@ -8,10 +9,20 @@ use Rattle.golog_tree.specs.declared.agent.Agent.{Agent}
 use Rattle.golog_tree.specs.declared.prog.Prog.{Prog}
 use Rattle.golog_tree.specs.declared.prog.Prog.TheVariants.{Nil}
 use Rattle.golog_semantics.specs.Fits.{cond_fits, nothing_bound}
-use Rattle.golog_semantics.specs.Fronts.{AreFronts, Guarded, IsEnd}
+use Rattle.golog_tree.specs.declared.prog.Label.TheVariants.{Do}
+use Rattle.golog_semantics.specs.declared.Mode.{Mode}
+use Rattle.golog_semantics.specs.Fronts.{AreFronts, Guarded}
+use Rattle.golog_semantics.specs.Modes.{holds}
 use Rattle.golog_semantics.specs.Reports.{fits_label}
-use Rattle.golog_semantics.specs.Search.{is_followed}
-use Rattle.golog_find.specs.declared.visits.NumberedFront.{NumberedFront}
+use Rattle.golog_semantics.specs.Search.{final, is_followed}
+use Rattle.golog_semantics.specs.Truth.{Values}
+use Rattle.golog_flat.specs.declared.check.Check.{Check}
+use Rattle.golog_flat.specs.declared.effect.Effect.{Effect}
+use Rattle.golog_flat.specs.Checks.{check_fits, check_truth}
+use Rattle.golog_flat.specs.Effects.{IsEffectOf}
+use Rattle.golog_ways.specs.declared.expand.NumberedFront.{NumberedFront}
+use Rattle.golog_ways.specs.Open.{AreChecked}
+use Rattle.golog_find.specs.declared.effects.Effects.{Effects}
 use Rattle.golog_find.specs.declared.visits.Opened.{Opened}
 use Rattle.golog_find.specs.declared.visits.Visits.{Visits}
 
@@ -46,18 +57,23 @@ pub record IsOfAgent (agent : Agent) (g : Guarded) : Type 0 where
   pub closed : IsTrue (cond_fits agent g.cond nothing_bound)
   pub label : IsTrue (fits_label agent g.way.label)
 
--- the fronts of a program
+-- the fronts of a program, each with the check of its condition
 pub record AreOpenedFronts (agent : Agent) (progs : List Prog) (p : Prog) (fs : List NumberedFront) : Type 0 where
   pub numbered : All (IsNumberedFront progs) fs
   pub agents : All (IsOfAgent agent) (meant_fronts progs fs)
   pub fronts : AreFronts agent p (meant_fronts progs fs)
+  pub checked : AreChecked agent fs
+
+-- in every mode and at all values, the program is final where the check holds
+pub record IsEndCheck (agent : Agent) (p : Prog) (check : Check) : Type 0 where
+  pub fits : IsTrue (check_fits agent check)
+  pub ends : (m : Mode) (values : Values) → holds m (check_truth agent values check) ≡ final agent values m p
 
 -- the fronts and the end of the program whose number stands there
 pub record IsOpened (agent : Agent) (progs : List Prog) (o : Opened) : Type 0 where
   pub inside : o.prog < length progs
   pub fronts : AreOpenedFronts agent progs (prog_at progs o.prog) o.fronts
-  pub end : IsEnd agent (prog_at progs o.prog) o.end
-  pub closed : IsTrue (cond_fits agent o.end nothing_bound)
+  pub end : IsEndCheck agent (prog_at progs o.prog) o.end
 
 -- those of the program of this number
 pub record IsKeptOf (agent : Agent) (progs : List Prog) (number : ℕ) (o : Opened) : Type 0 where
@@ -96,10 +112,18 @@ pub record ArePlaced (visits : Visits) : Type 0 where
       → option_map (λ o. o.prog) (slice_get visits.opened i) ≡ Some number
   pub counted : visits.count ≤ fronts_kept visits
 
--- all that is kept is of the programs whose numbers stand there, and is found by them
+-- what is kept of an action is what its steps write
+abbrev pub AreEffects : Agent → Effects → Type 0
+AreEffects agent effects =
+    (action : ℕ) (effect : Effect) → get_by (λ k. action == k) effects.kept ≡ Some effect
+    → IsEffectOf agent (Do action) effect
+
+-- all that is kept is of the programs whose numbers stand there, and is found by them, and what is kept of actions is
+-- what their steps write
 pub record AreKept (agent : Agent) (progs : List Prog) (visits : Visits) : Type 0 where
   pub opened : All (IsOpened agent progs) visits.opened
   pub placed : ArePlaced visits
+  pub effects : AreEffects agent visits.effects
 
 -- the program of the number was visited: its steps were asked for, and those that are asked for again are kept where
 -- there is room; what was kept stays

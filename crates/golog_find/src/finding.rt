@@ -18,6 +18,7 @@ use golog_base::NoMemory;
 use golog_progress::State;
 use golog_semantics::{Block, Mode};
 use golog_tree::Agent;
+use golog_ways::{Expand, Plain};
 use std::alloc::Global;
 
 /// The mode in which runs are looked for: `Must` where they are to be certain, else `Near`.
@@ -51,13 +52,14 @@ fn room_of(bounded: bool, fuel: usize) -> Option<usize>
 }
 
 /// What a search comes to that stands where it begins, for runs in the mode.
-fn search_on(
+fn search_on<X: Expand>(
     alloc: Global,
     agent: &Agent,
     block: &Block,
     search: &mut Search,
     mode: Mode,
     bounded: bool,
+    expand: &X,
 ) -> Result<Found, NoMemory>
     requires agent { WellFormed agent.now }
     requires numbers { IsNumbered search.old }
@@ -73,7 +75,7 @@ fn search_on(
             return Ok(Found::Fuel);
         };
         fuel = rest;
-        search.deepen(alloc, agent, mode, room_of(bounded, fuel))?;
+        search.deepen(alloc, agent, mode, room_of(bounded, fuel), expand)?;
         if let Some(place) = search.first_end(alloc, agent, mode)? {
             let run = search.run_to(alloc, place)?;
             return Ok(Found::Run(run));
@@ -82,6 +84,28 @@ fn search_on(
     Ok(Found::Absent {
         cut: search.is_cut(),
     })
+}
+
+/// The search of a block in a state, for runs in the mode. Where it is bounded, it looks at no more states
+/// than the block's fuel, and stores of the next level no more than what is left of that, one state and an end.
+/// Who lists the steps of its states and asks their conditions is told.
+pub fn search_block_with<X: Expand>(
+    alloc: Global,
+    agent: &Agent,
+    block: &Block,
+    state: &State,
+    mode: Mode,
+    bounded: bool,
+    expand: &X,
+) -> Result<Found, NoMemory>
+    requires agent { WellFormed agent.now }
+    requires searched { IsSearched agent.now block.now.body state.now }
+    ensures { IfOk result (λ f. f ≡ found_by bounded agent.now state.now mode block.now) }
+{
+    let mut search = Search::new(alloc, &block.body, state)?;
+    let found = search_on(alloc, agent, block, &mut search, mode, bounded, expand);
+    drop(search);
+    found
 }
 
 /// The search of a block in a state, for runs in the mode. Where it is bounded, it looks at no more states
@@ -98,10 +122,28 @@ pub fn search_block(
     requires searched { IsSearched agent.now block.now.body state.now }
     ensures { IfOk result (λ f. f ≡ found_by bounded agent.now state.now mode block.now) }
 {
-    let mut search = Search::new(alloc, &block.body, state)?;
-    let found = search_on(alloc, agent, block, &mut search, mode, bounded);
-    drop(search);
-    found
+    search_block_with(alloc, agent, block, state, mode, bounded, &Plain::new())
+}
+
+/// What `find` tells. Whoever expands lists the steps of many states at once and asks their conditions; the answer
+/// names it nowhere.
+pub fn find_with<X: Expand>(
+    alloc: Global,
+    agent: &Agent,
+    block: &Block,
+    state: &State,
+    certain: bool,
+    expand: &X,
+) -> Result<Found, NoMemory>
+    requires agent { WellFormed agent.now }
+    requires program { IsTrue (fits agent.now block.now.body) }
+    requires blockless { IsTrue (not (has_block agent.now block.now.body)) }
+    requires sorts { AreInSorts agent.now state.now }
+    ensures found { IfOk result (λ f. f ≡ found agent.now state.now (mode_for certain) block.now) }
+    ensures so { IfOk result (RunIsCertain agent.now state.now block.now.body certain) }
+    ensures none { IfOk result (AbsenceIsCertain agent.now state.now block.now.body certain) }
+{
+    search_block_with(alloc, agent, block, state, mode_of(certain), true, expand)
 }
 
 /// The search of a block in a state, for a run that is certain, or else for one that there may be were more
@@ -130,5 +172,5 @@ pub fn find(
     ensures so { IfOk result (RunIsCertain agent.now state.now block.now.body certain) }
     ensures none { IfOk result (AbsenceIsCertain agent.now state.now block.now.body certain) }
 {
-    search_block(alloc, agent, block, state, mode_of(certain), true)
+    find_with(alloc, agent, block, state, certain, &Plain::new())
 }

@@ -1,18 +1,20 @@
 // `Numbered`, a state with the step that led there, the number of the program left and the place of
 // the state before; where a search begins, and where a step leads.
-ghost use Rattle.std.specs.Prelude.{◌≡◌, IfOk, IsTrue, OnOk, Some, slice_get};
+ghost use Rattle.std.specs.Prelude.{◌≡◌, IfOk, IfSome, IsTrue, OnOk, Some, slice_get};
 ghost use Rattle.golog_memo.specs.Numbered.{AreOnce};
 ghost use Rattle.golog_semantics.specs.Reports.{fits_label};
 ghost use Rattle.golog_semantics.specs.InSorts.{AreInSorts};
+ghost use Rattle.golog_semantics.specs.Values.{after};
 ghost use Rattle.golog_semantics.specs.WellFormed.{WellFormed};
-ghost use Rattle.golog_find.specs.Levels.{reached_by, start_of};
-ghost use Rattle.golog_find.specs.Numbers.{GoesOn, meant};
+ghost use Rattle.golog_flat.specs.Effects.{IsEffectOf};
+ghost use Rattle.golog_find.specs.Levels.{start_of};
+ghost use Rattle.golog_find.specs.Numbers.{led, meant};
 
 use golog_base::NoMemory;
+use golog_flat::{Effect, take_step};
 use golog_memo::Nodes;
 use golog_progress::State;
-use golog_tree::{Agent, Label, Prog, Way};
-use golog_ways::state_after;
+use golog_tree::{Agent, Label, Prog};
 use std::alloc::Global;
 
 /// A state that a search has reached: the last step, the number of the program that it leaves, what is known
@@ -23,6 +25,19 @@ pub struct Numbered {
     pub left: u64,
     pub state: State,
     pub from: usize,
+}
+
+/// Makes the state that where a step leads from these values. Takes no memory.
+fn follow(state: &mut State, agent: &Agent, values: &[u8], label: Label, effect: Option<&Effect>)
+    requires agent { WellFormed agent.now }
+    requires sorts { AreInSorts agent.now values.now }
+    requires label { IsTrue (fits_label agent.now label) }
+    requires effect { IfSome effect (λ e. IsEffectOf agent.now label e.now) }
+    requires room { AreInSorts agent.now state.old }
+    ensures { state.new ≡ after agent.now values.now label }
+{
+    state.set(values);
+    take_step(agent, label, effect, state);
 }
 
 impl Numbered {
@@ -47,30 +62,40 @@ impl Numbered {
         })
     }
 
-    /// Where a step leads from a state that stands at the place `from`.
-    pub fn by(
-        alloc: Global,
-        agent: &Agent,
-        nodes: &mut Nodes,
-        from: usize,
-        state: &State,
-        way: &Way,
-    ) -> Result<Numbered, NoMemory>
-        requires agent { WellFormed agent.now }
-        requires sorts { AreInSorts agent.now state.now }
-        requires label { IsTrue (fits_label agent.now way.now.label) }
-        ensures program { IfOk result (λ reached. slice_get nodes.new reached.left ≡ Some way.now.left) }
-        ensures means { IfOk result (λ reached. meant nodes.new reached ≡ reached_by agent.now from state.now way.now) }
-        ensures once { OnOk result (AreOnce nodes.new) }
-        ensures goes_on { OnOk result (GoesOn nodes.old nodes.new) }
+    /// A state that stands for none yet.
+    pub fn blank(alloc: Global, agent: &Agent) -> Result<Numbered, NoMemory>
+        requires { WellFormed agent.now }
+        ensures { IfOk result (λ blank. AreInSorts agent.now blank.state) }
     {
-        let left = nodes.number(&way.left)?;
-        let state = state_after(alloc, agent, state, way.label)?;
+        let state = golog_progress::start(alloc, agent)?;
         Ok(Numbered {
-            label: way.label,
-            left,
+            label: Label::Quiet,
+            left: 0,
             state,
-            from,
+            from: 0,
         })
+    }
+
+    /// Makes it where a step leads from these values, which stand at the place `from`, but for the number of what is
+    /// left. What the step writes is told, where it is kept. Takes no memory.
+    pub fn lead(
+        &mut self,
+        agent: &Agent,
+        from: usize,
+        values: &[u8],
+        label: Label,
+        effect: Option<&Effect>,
+    )
+        requires agent { WellFormed agent.now }
+        requires sorts { AreInSorts agent.now values.now }
+        requires label { IsTrue (fits_label agent.now label) }
+        requires effect { IfSome effect (λ e. IsEffectOf agent.now label e.now) }
+        requires room { AreInSorts agent.now self.old.state }
+        ensures reached { self.new ≡ led agent.now from values.now label self.old.left }
+        ensures sorts { AreInSorts agent.now self.new.state }
+    {
+        follow(&mut self.state, agent, values, label, effect);
+        self.label = label;
+        self.from = from;
     }
 }

@@ -2,25 +2,28 @@
 // and the run that leads there.
 ghost use Rattle.std.specs.Prelude.{◌≡◌, ◌<◌, [], ◌∷◌, ◌++◌, ◌||◌, All, IfOk, OnOk, false, length, map, not, reverse};
 ghost use Rattle.std.specs.List.{position_from};
+ghost use Rattle.golog_semantics.specs.Search.{final};
 ghost use Rattle.golog_semantics.specs.Ways.{is_empty};
 ghost use Rattle.golog_semantics.specs.WellFormed.{WellFormed};
 ghost use Rattle.golog_find.specs.Levels.{AreSearched, AreStored, ends_at, next_level as next_of};
 ghost use Rattle.golog_find.specs.Levels.{run_to as run_of, start_of};
 ghost use Rattle.golog_find.specs.Numbers.{HaveNumbers, IsNumbered, all_meant, looked_of, meant};
-ghost use Rattle.golog_find.specs.Visits.{AreKept};
+ghost use Rattle.golog_find.specs.Rows.{lent};
+ghost use Rattle.golog_find.specs.Visits.{AreKept, prog_at};
 ghost use Rattle.golog_tree.specs.declared.agent.Agent.{Agent as AnyAgent};
 ghost use Rattle.golog_ways.specs.Searched.{IsSearched};
 
 use crate::deepening::Deepening;
 use crate::level::Level;
 use crate::numbered::Numbered;
-use crate::visits::{Visits, holds_in};
+use crate::states::{NumberedRef, States};
+use crate::visits::Visits;
 use golog_base::{List, NoMemory};
 use golog_memo::Nodes;
 use golog_progress::State;
 use golog_semantics::Mode;
 use golog_tree::{Agent, Prog, Way, copy_prog};
-use golog_ways::is_final;
+use golog_ways::{Expand, is_final};
 use std::alloc::Global;
 use std::mem;
 
@@ -31,8 +34,8 @@ use std::mem;
 pub struct Search {
     pub nodes: Nodes,
     pub visits: Visits,
-    pub before: List<List<Numbered>>,
-    pub last: List<Numbered>,
+    pub before: List<States>,
+    pub last: States,
     pub cut: bool,
 }
 
@@ -41,8 +44,8 @@ pub struct Search {
 fn steps_to(
     alloc: Global,
     nodes: &Nodes,
-    before: &[List<Numbered>],
-    states: &[Numbered],
+    before: &[States],
+    states: &States,
     place: usize,
 ) -> Result<List<Way>, NoMemory>
     requires states { HaveNumbers nodes.now states.now }
@@ -53,16 +56,35 @@ fn steps_to(
     let [earlier @ .., nearer] = before else {
         return Ok(List::new(alloc));
     };
-    let Some(reached) = states.get(place) else {
+    if place >= states.len() {
         return Ok(List::new(alloc));
-    };
-    let mut run = steps_to(alloc, nodes, earlier, nearer.as_slice(), reached.from)?;
+    }
+    let reached = states.at(place);
+    let mut run = steps_to(alloc, nodes, earlier, nearer, reached.from)?;
     let left = copy_prog(alloc, nodes.prog(reached.left))?;
     run.push(Way {
         label: reached.label,
         left,
     })?;
     Ok(run)
+}
+
+/// Whether a program may end at these values.
+fn is_end(
+    alloc: Global,
+    agent: &Agent,
+    mode: Mode,
+    prog: &Prog,
+    values: &[u8],
+) -> Result<bool, NoMemory>
+    requires agent { WellFormed agent.now }
+    requires searched { IsSearched agent.now prog.now values.now }
+    ensures { IfOk result (λ b. b ≡ final agent.now values.now mode prog.now) }
+{
+    let state = State::of(alloc, agent, values)?;
+    let ends = is_final(alloc, agent, mode, prog, &state);
+    drop(state);
+    ends
 }
 
 impl Search {
@@ -76,8 +98,8 @@ impl Search {
         let mut nodes = Nodes::new(alloc)?;
         let start = Numbered::start(alloc, &mut nodes, prog, state)?;
         let before = List::new(alloc);
-        let mut last = List::new(alloc);
-        last.push(start)?;
+        let mut last = States::new(alloc);
+        last.push(&start)?;
         Ok(Search {
             nodes,
             visits: Visits::new(alloc),
@@ -104,12 +126,13 @@ impl Search {
 
     /// Looks one step further. Where there is room for so many states, one more is stored at most, and behind
     /// these an end. After an `Err` the search is of no more use: its last level may be lost.
-    pub fn deepen(
+    pub fn deepen<X: Expand>(
         &mut self,
         alloc: Global,
         agent: &Agent,
         mode: Mode,
         room: Option<usize>,
+        expand: &X,
     ) -> Result<(), NoMemory>
         requires agent { WellFormed agent.now }
         requires numbers { IsNumbered self.old }
@@ -131,9 +154,15 @@ impl Search {
             mode,
             room,
         };
-        let next = deepening.next_level(&mut self.nodes, &mut self.visits, self.last.as_slice())?;
-        let Level { states, seen, cut } = next;
+        let level = deepening.next_level(&mut self.nodes, &mut self.visits, &self.last, expand)?;
+        let Level {
+            states,
+            seen,
+            next,
+            cut,
+        } = level;
         drop(seen);
+        drop(next);
         let last = mem::replace(&mut self.last, states);
         self.cut = self.cut || cut;
         self.before.push(last)?;
@@ -146,20 +175,23 @@ impl Search {
         alloc: Global,
         agent: &Agent,
         mode: Mode,
-        reached: &Numbered,
+        reached: NumberedRef<'_>,
     ) -> Result<bool, NoMemory>
         requires agent { WellFormed agent.now }
-        requires number { reached.now.left < length self.now.nodes }
+        requires number { reached.left < length self.now.nodes }
         requires kept { AreKept agent.now self.now.nodes self.now.visits }
-        requires searched { IsSearched agent.now (meant self.now.nodes reached.now).way.left reached.now.state }
-        ensures { IfOk result (λ b. b ≡ ends_at agent.now mode (meant self.now.nodes reached.now)) }
+        requires searched { IsSearched agent.now (prog_at self.now.nodes reached.left) reached.values.now }
+        ensures { IfOk result (λ b. b ≡ ends_at agent.now mode (meant self.now.nodes (lent reached.entry))) }
     {
         match self.visits.of(reached.left) {
-            Some(opened) => Ok(holds_in(agent, mode, &opened.end, &reached.state)),
-            None => {
-                let left = self.nodes.prog(reached.left);
-                is_final(alloc, agent, mode, left, &reached.state)
-            }
+            Some(opened) => Ok(opened.end.holds(agent, mode, reached.values)),
+            None => is_end(
+                alloc,
+                agent,
+                mode,
+                self.nodes.prog(reached.left),
+                reached.values,
+            ),
         }
     }
 
@@ -177,9 +209,8 @@ impl Search {
         ensures { IfOk result (λ place. place
             ≡ position_from (ends_at agent.now mode) 0 (looked_of self.now).last) }
     {
-        let last = self.last.as_slice();
-        for (place, reached) in last.iter().enumerate() {
-            if self.may_end(alloc, agent, mode, reached)? {
+        for place in 0..self.last.len() {
+            if self.may_end(alloc, agent, mode, self.last.at(place))? {
                 return Ok(Some(place));
             }
         }
@@ -193,8 +224,12 @@ impl Search {
         ensures { IfOk result (λ run. run
             ≡ run_of (reverse (looked_of self.now).before) (looked_of self.now).last place) }
     {
-        let before = self.before.as_slice();
-        let last = self.last.as_slice();
-        steps_to(alloc, &self.nodes, before, last, place)
+        steps_to(
+            alloc,
+            &self.nodes,
+            self.before.as_slice(),
+            &self.last,
+            place,
+        )
     }
 }

@@ -158,6 +158,18 @@ module _ (agent : Agent) (values : Values) (block : Block) (rest : Run) where
   pub anew-none : is_kept agent values block.body rest ≡ false → best agent Must block.depth block.body values ≡ None → false ≡ has_step agent values Must block rest
   anew-none k e = sym (anew-must k ∙ ap (λ o. not (is_empty (beginning block.depth block.fuel o))) e)
 
+  -- where no step is near, none is certain
+  pub anew-nowhere : is_kept agent values block.body rest ≡ false → has_step agent values Near block rest ≡ false → false ≡ has_step agent values Must block rest
+  anew-nowhere k none = anew-none k (go (best agent Must block.depth block.body values) refl)
+    where
+      go : (o : Option Run) → best agent Must block.depth block.body values ≡ o → o ≡ None
+      go None e = refl
+      go (Some run) e =
+          let there : is_some (best agent Near block.depth block.body values) ≡ true = best-near agent values block.body block.depth run e in
+          let near : has_step agent values Near block rest ≡ true = near-steps agent values block.body block.depth block.fuel rest ∙ there in
+          let no : true ≡ false = sym near ∙ none in
+          absurd (cc)
+
   -- with what a search tells in Near, and the certain step as told
   pub near-modes : {E : Type 0} (result : Result Reach E) (must : Bool) → must ≡ has_step agent values Must block rest
       → IfOk result (λ r. (follows : Run) → AreNear agent values block follows must r) → IfOk result (λ r. (m : Mode) → reaches m r ≡ has_step agent values m block rest)
@@ -174,13 +186,11 @@ module _ (agent : Agent) (values : Values) (block : Block) (rest : Run) where
   memory-alone (Ok a) b h = h
   memory-alone (Err stop) b h = λ e. absurd (cc)
 
-  -- a search in Near that lacks fuel, where no run is kept
-  pub near-wants : {A : Type 0} (bounded : Bool) (result : Result A Stop) → is_kept agent values block.body rest ≡ false
-      → IfErr result (λ stop. stop ≡ Fuel → (bounded && is_above agent values Near block) ≡ true)
-      → IfErr result (λ stop. stop ≡ Fuel → (wants_more bounded agent values Must block rest || wants_more bounded agent values Near block rest) ≡ true)
-  near-wants bounded (Ok a) k h = h
-  near-wants bounded (Err stop) k h = λ e.
-      ap (λ b. wants_more bounded agent values Must block rest || b) (wants-anew bounded agent values block rest Near k (h e))
+  -- a search that lacks fuel, where no run is kept
+  pub near-wanted : (bounded : Bool) → is_kept agent values block.body rest ≡ false → (bounded && is_above agent values Near block) ≡ true
+      → (wants_more bounded agent values Must block rest || wants_more bounded agent values Near block rest) ≡ true
+  near-wanted bounded k e =
+      ap (λ b. wants_more bounded agent values Must block rest || b) (wants-anew bounded agent values block rest Near k e)
       ∙ or-true (wants_more bounded agent values Must block rest)
 
   pub must-wants : (bounded : Bool) → is_kept agent values block.body rest ≡ false → (bounded && is_above agent values Must block) ≡ true

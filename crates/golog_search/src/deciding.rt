@@ -1,4 +1,4 @@
-// `decide` and its halves, `decide_unbounded` and `heavy`: whether the program may end, its first
+// `decide` and its halves, `decide_with`, `decide_unbounded` and `heavy`: whether the program may end, its first
 // certain step, and else why it is blocked.
 ghost use Rattle.std.specs.Prelude.{◌≡◌, ◌≤◌, ◌&&◌, false, true, if◌then◌else◌, IfOk, IsTrue, nat_lt, not};
 ghost use Rattle.std.specs.Option.{is_some};
@@ -18,7 +18,7 @@ ghost use Rattle.golog_search.specs.Told.{AreTold};
 
 use crate::searches::Searches;
 use crate::steady::steady;
-use crate::told::{Told, told_of};
+use crate::told::told_of;
 use crate::weighing::some_block_weighs;
 use crate::{Blocked, Decision};
 use golog_base::NoMemory;
@@ -26,7 +26,7 @@ use golog_find::NEST_LIMIT;
 use golog_progress::State;
 use golog_semantics::{Mode, Move};
 use golog_tree::{Agent, Prog, nest};
-use golog_ways::{Keep, Reach, Stop, Walk, first_move, is_final, reach_of};
+use golog_ways::{Expand, Keep, Plain, Reach, Stop, Walk, first_move, is_final, reach_of};
 use std::alloc::Global;
 
 /// Whether what a step leaves nests too deep; that is known not to be so, or is measured.
@@ -60,31 +60,24 @@ fn stays_shallow(prog: &Prog, shallow: bool) -> bool
 }
 
 /// The end or the first step, where one is certain.
-fn look_ahead(
+fn look_ahead<X: Expand>(
     alloc: Global,
     agent: &Agent,
     prog: &Prog,
-    state: &State,
-    bounded: bool,
+    blocks: &Searches<'_, X>,
     shallow: bool,
-    told: &[Told],
 ) -> Result<Option<Decision>, NoMemory>
     requires agent { WellFormed agent.now }
     requires program { IsTrue (fits agent.now prog.now) }
-    requires sorts { AreInSorts agent.now state.now }
-    requires told { AreTold agent.now state.now told.now }
+    requires sorts { AreInSorts agent.now blocks.now.state.now }
+    requires told { AreTold agent.now blocks.now.state.now blocks.now.told.now }
     requires shallow { shallow ≡ true → nest prog.now ≤ nest_limit }
-    ensures { IfOk result (IsAhead agent.now state.now prog.now bounded) }
+    ensures { IfOk result (IsAhead agent.now blocks.now.state.now prog.now blocks.now.bounded) }
 {
-    if is_final(alloc, agent, Mode::Must, prog, state)? {
+    if is_final(alloc, agent, Mode::Must, prog, blocks.state)? {
         return Ok(Some(Decision::Final));
     }
-    let blocks = Searches {
-        state,
-        bounded,
-        told,
-    };
-    match first_move(alloc, agent, &blocks, prog, state.values()) {
+    match first_move(alloc, agent, blocks, prog, blocks.state.values()) {
         Ok(Some(step)) => Ok(Some(stepping(step, stays_shallow(prog, shallow)))),
         Ok(None) => Ok(None),
         Err(Stop::Fuel) => Ok(Some(Decision::Fuel)),
@@ -106,31 +99,24 @@ fn why(reach: Reach) -> Blocked
 }
 
 /// Why a program is blocked.
-fn look_why(
+fn look_why<X: Expand>(
     alloc: Global,
     agent: &Agent,
     prog: &Prog,
-    state: &State,
-    bounded: bool,
-    told: &[Told],
+    blocks: &Searches<'_, X>,
 ) -> Result<Decision, NoMemory>
     requires agent { WellFormed agent.now }
     requires program { IsTrue (fits agent.now prog.now) }
-    requires sorts { AreInSorts agent.now state.now }
-    requires told { AreTold agent.now state.now told.now }
-    requires unended { final agent.now state.now Mode.Must prog.now ≡ false }
-    requires stepless { IsTrue (is_empty (moves agent.now state.now Mode.Must prog.now)) }
-    ensures { IfOk result (IsDecided agent.now state.now prog.now bounded) }
+    requires sorts { AreInSorts agent.now blocks.now.state.now }
+    requires told { AreTold agent.now blocks.now.state.now blocks.now.told.now }
+    requires unended { final agent.now blocks.now.state.now Mode.Must prog.now ≡ false }
+    requires stepless { IsTrue (is_empty (moves agent.now blocks.now.state.now Mode.Must prog.now)) }
+    ensures { IfOk result (IsDecided agent.now blocks.now.state.now prog.now blocks.now.bounded) }
 {
-    if is_final(alloc, agent, Mode::Near, prog, state)? {
+    if is_final(alloc, agent, Mode::Near, prog, blocks.state)? {
         return Ok(Decision::Blocked(Blocked::Unknown));
     }
-    let blocks = Searches {
-        state,
-        bounded,
-        told,
-    };
-    match reach_of(alloc, agent, &blocks, prog, state.values()) {
+    match reach_of(alloc, agent, blocks, prog, blocks.state.values()) {
         Ok(reach) => Ok(Decision::Blocked(why(reach))),
         Err(Stop::Fuel) => Ok(Decision::Fuel),
         Err(Stop::Memory) => Err(NoMemory),
@@ -138,23 +124,21 @@ fn look_why(
 }
 
 /// What a program does next, where its searches are bounded by the fuel of their blocks or not.
-fn look(
+fn look<X: Expand>(
     alloc: Global,
     agent: &Agent,
     prog: &Prog,
-    state: &State,
-    bounded: bool,
-    told: &[Told],
+    blocks: &Searches<'_, X>,
 ) -> Result<Decision, NoMemory>
     requires agent { WellFormed agent.now }
     requires program { IsTrue (fits agent.now prog.now) }
-    requires sorts { AreInSorts agent.now state.now }
-    requires told { AreTold agent.now state.now told.now }
-    ensures { IfOk result (IsDecided agent.now state.now prog.now bounded) }
+    requires sorts { AreInSorts agent.now blocks.now.state.now }
+    requires told { AreTold agent.now blocks.now.state.now blocks.now.told.now }
+    ensures { IfOk result (IsDecided agent.now blocks.now.state.now prog.now blocks.now.bounded) }
 {
-    match look_ahead(alloc, agent, prog, state, bounded, false, told)? {
+    match look_ahead(alloc, agent, prog, blocks, false)? {
         Some(decision) => Ok(decision),
-        None => look_why(alloc, agent, prog, state, bounded, told),
+        None => look_why(alloc, agent, prog, blocks),
     }
 }
 
@@ -186,6 +170,41 @@ pub fn decide(
 }
 
 /// What a program does next in a state, as `decide` tells it. Whether the runs that are under way go through is
+/// asked of the keep, all of whose earlier calls were with this agent. Whoever expands lists the steps of many states of
+/// a search at once; the answer names it nowhere.
+pub fn decide_with<X: Expand, K: Keep>(
+    alloc: Global,
+    agent: &Agent,
+    prog: &Prog,
+    state: &State,
+    keep: &mut K,
+    expand: &X,
+) -> Result<Decision, NoMemory>
+    requires agent { WellFormed agent.now }
+    requires program { IsTrue (fits agent.now prog.now) }
+    requires sorts { AreInSorts agent.now state.now }
+    requires serves { K.serves keep.old agent.now }
+    ensures decided { IfOk result (IsDecided agent.now state.now prog.now true) }
+    ensures ends { IfOk result (λ d. d ≡ Decision.Final → EndIsCertain agent.now state.now prog.now) }
+    ensures steps { IfOk result (λ d. (step : Move) → d ≡ Decision.Step step
+        → StepIsCertain agent.now state.now prog.now step.label step.left) }
+    ensures stuck { IfOk result (λ d. d ≡ Decision.Blocked Blocked.Stuck
+        → StuckIsCertain agent.now state.now prog.now) }
+    ensures kept { IfOk result (KeepsRun agent.now state.now prog.now) }
+    ensures serves { K.serves keep.new agent.now }
+{
+    let told = told_of(alloc, agent, prog, state, keep)?;
+    let runs = told.as_slice();
+    let blocks = Searches {
+        state,
+        bounded: true,
+        told: runs,
+        expand,
+    };
+    look(alloc, agent, prog, &blocks)
+}
+
+/// What a program does next in a state, as `decide` tells it. Whether the runs that are under way go through is
 /// asked of the keep, all of whose earlier calls were with this agent.
 pub fn decide_kept<K: Keep>(
     alloc: Global,
@@ -207,8 +226,7 @@ pub fn decide_kept<K: Keep>(
     ensures kept { IfOk result (KeepsRun agent.now state.now prog.now) }
     ensures serves { K.serves keep.new agent.now }
 {
-    let told = told_of(alloc, agent, prog, state, keep)?;
-    look(alloc, agent, prog, state, true, told.as_slice())
+    decide_with(alloc, agent, prog, state, keep, &Plain::new())
 }
 
 /// What `decide` tells of a program that certainly ends or steps, or whose blocks lack fuel for that. `None`
@@ -224,19 +242,28 @@ pub fn decide_step(
     requires sorts { AreInSorts agent.now state.now }
     ensures { IfOk result (IsAhead agent.now state.now prog.now true) }
 {
-    look_ahead(alloc, agent, prog, state, true, false, &[])
+    let plain = Plain::new();
+    let blocks = Searches {
+        state,
+        bounded: true,
+        told: &[],
+        expand: &plain,
+    };
+    look_ahead(alloc, agent, prog, &blocks, false)
 }
 
 /// What `decide_step` tells. Where the program is known to nest no deeper than 2,048, what a step leaves is
 /// measured only where it may nest deeper than the program. Whether the runs that are under way go through is
-/// asked of the keep, all of whose earlier calls were with this agent.
-pub fn decide_step_of<K: Keep>(
+/// asked of the keep, all of whose earlier calls were with this agent. Whoever expands lists the steps of many states of
+/// a search at once.
+pub fn decide_step_of<X: Expand, K: Keep>(
     alloc: Global,
     agent: &Agent,
     prog: &Prog,
     state: &State,
     shallow: bool,
     keep: &mut K,
+    expand: &X,
 ) -> Result<Option<Decision>, NoMemory>
     requires agent { WellFormed agent.now }
     requires program { IsTrue (fits agent.now prog.now) }
@@ -247,15 +274,24 @@ pub fn decide_step_of<K: Keep>(
     ensures serves { K.serves keep.new agent.now }
 {
     let told = told_of(alloc, agent, prog, state, keep)?;
-    look_ahead(alloc, agent, prog, state, true, shallow, told.as_slice())
+    let runs = told.as_slice();
+    let blocks = Searches {
+        state,
+        bounded: true,
+        told: runs,
+        expand,
+    };
+    look_ahead(alloc, agent, prog, &blocks, shallow)
 }
 
-/// What `decide` tells of a program that certainly neither ends nor steps.
-pub fn decide_blocked(
+/// What `decide` tells of a program that certainly neither ends nor steps. Whoever expands lists the steps of many
+/// states of a search at once.
+pub fn decide_blocked<X: Expand>(
     alloc: Global,
     agent: &Agent,
     prog: &Prog,
     state: &State,
+    expand: &X,
 ) -> Result<Decision, NoMemory>
     requires agent { WellFormed agent.now }
     requires program { IsTrue (fits agent.now prog.now) }
@@ -264,7 +300,13 @@ pub fn decide_blocked(
     requires stepless { IsTrue (is_empty (moves agent.now state.now Mode.Must prog.now)) }
     ensures { IfOk result (IsDecided agent.now state.now prog.now true) }
 {
-    look_why(alloc, agent, prog, state, true, &[])
+    let blocks = Searches {
+        state,
+        bounded: true,
+        told: &[],
+        expand,
+    };
+    look_why(alloc, agent, prog, &blocks)
 }
 
 /// What a program does next in a state, whatever the fuel of its blocks. It is never `Fuel`.
@@ -279,7 +321,14 @@ pub fn decide_unbounded(
     requires sorts { AreInSorts agent.now state.now }
     ensures { IfOk result (λ d. d ≡ decision agent.now state.now prog.now) }
 {
-    look(alloc, agent, prog, state, false, &[])
+    let plain = Plain::new();
+    let blocks = Searches {
+        state,
+        bounded: false,
+        told: &[],
+        expand: &plain,
+    };
+    look(alloc, agent, prog, &blocks)
 }
 
 /// Whether nothing is ahead.
@@ -299,7 +348,14 @@ fn is_stepless(alloc: Global, agent: &Agent, prog: &Prog, state: &State) -> Resu
     requires unended { final agent.now state.now Mode.Must prog.now ≡ false }
     ensures { IfOk result (λ b. b ≡ is_empty (moves agent.now state.now Mode.Must prog.now)) }
 {
-    let ahead = look_ahead(alloc, agent, prog, state, false, false, &[])?;
+    let plain = Plain::new();
+    let blocks = Searches {
+        state,
+        bounded: false,
+        told: &[],
+        expand: &plain,
+    };
+    let ahead = look_ahead(alloc, agent, prog, &blocks, false)?;
     Ok(is_nothing(ahead))
 }
 

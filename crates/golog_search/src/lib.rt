@@ -16,7 +16,10 @@
 //!
 //! `decide_kept` asks a `Keep` of golog_ways, before it looks for a step, of each run that is under
 //! way in the program (`told`); what it tells is looked up where a block is reached. `decide` is
-//! that call with `Walk`.
+//! that call with `Walk`. `decide_with` is told who lists the steps of many states of a search at once
+//! (`Expand` of golog_ways), and so are the halves that a runner calls; `decide_kept` is that with
+//! `Plain`. Why a program is blocked is searched for by what is near first: where nothing is, nothing
+//! is certain, and there is no further search.
 //!
 //! The layer above uses `IsDecided`, `decision` and the law `decided_is_answered`.
 #![tactic(auto)]
@@ -32,9 +35,10 @@ mod told;
 mod weighing;
 
 pub use deciding::{
-    decide, decide_blocked, decide_kept, decide_step, decide_step_of, decide_unbounded, heavy,
+    decide, decide_blocked, decide_kept, decide_step, decide_step_of, decide_unbounded,
+    decide_with, heavy,
 };
 pub use decision::{Blocked, Decision};
-pub use golog_find::{Found, NEST_LIMIT, find};
+pub use golog_find::{Found, NEST_LIMIT, find, find_with};
 pub use golog_semantics::{Block, Move};
 pub use laws::{blockless_left, blockless_steps, decided_is_answered};

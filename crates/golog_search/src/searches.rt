@@ -1,23 +1,24 @@
 // `Searches`, which tells golog_ways the steps of search blocks.
-use crate::block_steps::{block_of, first_of_block, reach_of_block};
+use crate::block_steps::block_of;
 use crate::reach::FirstStep;
 use crate::told::Told;
 use golog_progress::State;
 use golog_semantics::Move;
 use golog_tree::Agent;
-use golog_ways::{Blocks, Following, Reach, Stop};
+use golog_ways::{Blocks, Expand, Following, Reach, Stop};
 use std::alloc::Global;
 
 /// Tells the steps of search blocks in a state by what is told of the runs under way and by searching, as far as
-/// the fuel of the blocks suffices where the searches are bounded.
-#[derive(Clone, Copy)]
-pub struct Searches<'a> {
+/// the fuel of the blocks suffices where the searches are bounded. Who lists the steps of many states for them is said.
+#[derive_where(Clone, Copy)]
+pub struct Searches<'a, X: Expand> {
     pub state: &'a State,
     pub bounded: bool,
     pub told: &'a [Told],
+    pub expand: &'a X,
 }
 
-impl<'a> Blocks for Searches<'a> {
+impl<'a, X: Expand> Blocks for Searches<'a, X> {
     ghost use Rattle.golog_semantics.specs.Blocks.{block_moves};
     ghost use Rattle.golog_search.specs.BlockSteps.{wants_more};
     ghost use Rattle.golog_search.specs.Told.{IsReady};
@@ -37,15 +38,7 @@ impl<'a> Blocks for Searches<'a> {
         following: &Following<'_>,
     ) -> Result<Option<Move>, Stop> {
         let block = block_of(alloc, following.depth, following.fuel, following.body)?;
-        match first_of_block(
-            alloc,
-            agent,
-            &block,
-            following.rest,
-            self.state,
-            self.bounded,
-            self.told,
-        )? {
+        match self.first_of_block(alloc, agent, &block, following.rest)? {
             FirstStep::Step(step) => Ok(step),
             FirstStep::Fuel => Err(Stop::Fuel),
         }
@@ -59,15 +52,7 @@ impl<'a> Blocks for Searches<'a> {
         following: &Following<'_>,
     ) -> Result<Reach, Stop> {
         let block = block_of(alloc, following.depth, following.fuel, following.body)?;
-        let reach = reach_of_block(
-            alloc,
-            agent,
-            &block,
-            following.rest,
-            self.state,
-            self.bounded,
-            self.told,
-        );
+        let reach = self.reach_of_block(alloc, agent, &block, following.rest);
         drop(block);
         reach
     }

@@ -10,6 +10,7 @@ use golog_search::{
     Blocked, Decision, Move, decide, decide_blocked, decide_step, decide_unbounded, heavy,
 };
 use golog_tree::{Agent, Label};
+use golog_ways::Plain;
 use std::alloc::Global;
 
 /// A search for `a` or `b`, and `c`, that looks at three states, and has fuel for two.
@@ -91,7 +92,7 @@ fn told_in_halves(alloc: Global, agent: &Agent, state: &State) -> Told
 {
     match decide_step(alloc, agent, &agent.main, state) {
         Ok(Some(decision)) => told_by(Ok(decision)),
-        Ok(None) => told_by(decide_blocked(alloc, agent, &agent.main, state)),
+        Ok(None) => told_by(decide_blocked(alloc, agent, &agent.main, state, &Plain::new())),
         Err(NoMemory) => Told::Else,
     }
 }

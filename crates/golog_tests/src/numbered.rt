@@ -1,13 +1,8 @@
-// Tests of `Nodes` and `Seen`.
-ghost use Rattle.golog_semantics.specs.WellFormed.{WellFormed};
-
-use crate::agents::LAMP;
+// Tests of `Nodes` and `Places`.
 use crate::asserting::same;
 use golog_base::{Boxed, NoMemory};
-use golog_file::read_agent;
-use golog_memo::{Nodes, Seen};
-use golog_progress::start;
-use golog_tree::{Agent, Prog, is_same_prog};
+use golog_memo::{Nodes, Places};
+use golog_tree::{Prog, is_same_prog};
 use std::alloc::Global;
 
 /// The iteration of the empty program.
@@ -54,32 +49,27 @@ fn programs_have_numbers(rt: HostRuntime) {
     same(&rt, "numbers", has_numbers(rt.alloc()).ok(), Some(true));
 }
 
-/// Which of three pairs are new, of which the second is the first.
-fn new_pairs(alloc: Global, agent: &Agent) -> Result<[bool; 3], NoMemory>
-    requires { WellFormed agent.now }
-{
-    let state = start(alloc, agent)?;
-    let copy = state.copy(alloc)?;
-    let mut seen = Seen::new(alloc)?;
+/// The place of the word, among those of one hash of three that stand at places.
+fn place_of(places: &Places, word: u8) -> Option<usize> {
+    let words = [7, 8, 9];
+    places.find(5, |place| words.get(place) == Some(&word))
+}
+
+/// Where the three words are found by the hash that the first two have.
+fn places_of(alloc: Global) -> Result<[Option<usize>; 3], NoMemory> {
+    let mut places = Places::new(alloc);
+    places.add(5, 0)?;
+    places.add(5, 1)?;
+    places.add(6, 2)?;
     Ok([
-        seen.add(0, &state)?,
-        seen.add(0, &copy)?,
-        seen.add(1, &state)?,
+        place_of(&places, 7),
+        place_of(&places, 8),
+        place_of(&places, 9),
     ])
 }
 
-/// Whether those are the first and the last, over the agent of `LAMP`.
-fn sees_pairs(alloc: Global) -> bool {
-    let read = read_agent(alloc, LAMP);
-    let answer = match &read {
-        Ok(agent) => new_pairs(alloc, agent).ok() == Some([true, false, true]),
-        Err(_fault) => false,
-    };
-    drop(read);
-    answer
-}
-
 #[test]
-fn pairs_are_seen_once(rt: HostRuntime) {
-    same(&rt, "pairs", sees_pairs(rt.alloc()), true);
+fn places_are_found_by_their_hashes(rt: HostRuntime) {
+    let found = places_of(rt.alloc()).ok();
+    same(&rt, "places", found, Some([Some(0), Some(1), None]));
 }

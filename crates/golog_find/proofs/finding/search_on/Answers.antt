@@ -9,7 +9,7 @@ use Rattle.golog_find.proofs.StoredSearch.{finds-stored, is-searching, lacks, lo
 use Rattle.golog_find.proofs.finding.search_on.Goals as goal
 
 pub loop-step-init : goal.loop-step-init
-loop-step-init c = (
+loop-step-init g c = (
   c.requires.numbers,
   c.requires.kept,
   c.requires.searched,
@@ -17,14 +17,14 @@ loop-step-init c = (
 )
 
 pub returns-in_default : goal.returns-in_default
-returns-in_default c = λ values fits begun.
+returns-in_default g c = λ values fits begun.
     let search = looked_of c.loop-step.search in
     let few : c.loop-step.fuel < c.width.result = c.in_default.ensures.1 in
     let more : c.loop-step.fuel < length search.last = subst (λ k. c.loop-step.fuel < k) c.width.ensures few in
     lacks c.args.bounded c.args.agent.now c.args.mode c.args.block.now values c.loop-step._step c.loop-step.fuel search (c.loop-step.invariant.3 values fits begun) (omega arith) c.in_default.ensures.0 more
 
 pub returns-in-Some-2 : goal.returns-in-Some-2
-returns-in-Some-2 c = λ values fits begun.
+returns-in-Some-2 g c = λ values fits begun.
     let b = c.args.bounded in
     let agent = c.args.agent.now in
     let block = c.args.block.now in
@@ -43,7 +43,7 @@ returns-in-Some-2 c = λ values fits begun.
     c.in_ok-deepen.ensures.before stored c.in_ok-deepen.ensures.cut place (omega arith) ended
 
 pub loop-step-preserved : goal.loop-step-preserved
-loop-step-preserved c =
+loop-step-preserved g c =
     let b = c.args.bounded in
     let agent = c.args.agent.now in
     let block = c.args.block.now in
@@ -66,7 +66,7 @@ loop-step-preserved c =
     )
 
 pub returns : goal.returns
-returns c = λ values fits begun.
+returns g c = λ values fits begun.
     let end : c.loop-step._step ≡ c.args.block.now.depth = omega arith in
     ap Absent c.is_cut.ensures
     ∙ looks-no-further c.args.bounded c.args.agent.now c.args.mode c.args.block.now values c.loop-step._step c.loop-step.fuel (looked_of c.loop-step.search) (c.loop-step.invariant.3 values fits begun) end

@@ -8,7 +8,7 @@ use Rattle.golog_find.proofs.StoredSearch.{IsLookingOn}
 use Rattle.golog_find.proofs.finding.search_on.Given as goal
 
 abbrev pub invariant-loop-step : goal.invariant-loop-step
-invariant-loop-step l =
+invariant-loop-step g l =
     IsNumbered l.search × AreKept l.agent l.search.nodes l.search.visits × AreSearched l.agent (looked_of l.search).last
     × ((values : Values) → IsSearched l.agent l.block.body values
     → looked_of l.initial.search ≡ record { before = []; last = start_of l.block.body values ∷ []; cut = false }

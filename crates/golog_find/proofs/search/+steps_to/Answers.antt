@@ -1,7 +1,6 @@
 use Rattle.std.proofs.Common.{◌≡◌, ◌+◌, ◌-◌, ◌<◌, List, [], ◌∷◌, ◌++◌, length, map, take, Option, Some, None, sym, ap, ◌∙◌, subst, arith, length-take, rules}
 use Rattle.std.specs.Prelude.{reverse, slice_get, unwrap_or}
 use Rattle.std.specs.Option.{option_map}
-use Rattle.std.proofs.lemmas.Bool.{ltb-false, ltb-true}
 use Rattle.std.proofs.lemmas.List.Elements.{All-get_or, All-take}
 use Rattle.std.proofs.lemmas.Option.{slice_get-map, slice_get_past}
 use Rattle.golog_tree.specs.declared.prog.Label.{Label}
@@ -11,7 +10,8 @@ use Rattle.golog_tree.specs.declared.prog.Way.{Way}
 use Rattle.golog_find.specs.declared.numbered.Numbered.{Numbered}
 use Rattle.golog_find.specs.Levels.{Reached, run_to}
 use Rattle.golog_find.specs.Numbers.{HaveNumbers, all_meant, meant}
-use Rattle.golog_find.proofs.Numbering.{get-at, number-at}
+use Rattle.golog_find.specs.Rows.{lent}
+use Rattle.golog_find.proofs.Numbering.{at-place, get-at, number-at}
 use Rattle.golog_find.proofs.RunsTo.{mapped-last, run_to-none, run_to-some}
 use Rattle.golog_find.proofs.search.+steps_to.Goals as goal
 
@@ -26,7 +26,6 @@ steps_to-requires t c =
     let inside : n < length before = omega arith in
     let nearer : HaveNumbers nodes c.nearer-item.result =
     subst (HaveNumbers nodes) (sym c.nearer-item.is) (All-get_or (HaveNumbers nodes) before n c.nearer-item.result inside c.requires.before) in
-    let states = subst (HaveNumbers nodes) (sym c.as_slice.ensures) nearer in
     let earlier = All-take (HaveNumbers nodes) n before c.requires.before in
     let short : length (take n before) < length before = omega (arith, length-take {A = List Numbered}) in
     search rules
@@ -34,33 +33,32 @@ steps_to-requires t c =
 pub prog-requires : goal.prog-requires
 prog-requires t c =
     let states = c.args.states.now in
-    number-at c.args.nodes.now states c.args.place c.in-Some.reached.now (ltb-true c.args.place (length states) (sym c.in-Some.ensures.lookup.0)) c.in-Some.ensures.lookup.1 c.requires.states
+    let reached = lent c.at-reached.result in
+    number-at c.args.nodes.now states c.args.place reached (omega arith) (at-place states c.args.place reached c.at-reached.ensures) c.requires.states
 
-pub returns-in_default-get : goal.returns-in_default-get
-returns-in_default-get t c =
+pub returns-then-place-len : goal.returns-then-place-len
+returns-then-place-len t c =
     let nodes = c.args.nodes.now in
     let states = c.args.states.now in
-    let past : slice_get states c.args.place ≡ None = slice_get_past states c.args.place (ltb-false c.args.place (length states) (sym c.in_default-get.ensures.lookup.0)) in
+    let past : slice_get states c.args.place ≡ None = slice_get_past states c.args.place (omega arith) in
     let none : slice_get (all_meant nodes states) c.args.place ≡ None = slice_get-map (meant nodes) states c.args.place ∙ ap (option_map (meant nodes)) past in
-    c.new-in_default-get.ensures ∙ sym (run_to-none (reverse (map (all_meant nodes) c.args.before.now)) (all_meant nodes states) c.args.place none)
+    c.new-then-place-len.ensures ∙ sym (run_to-none (reverse (map (all_meant nodes) c.args.before.now)) (all_meant nodes states) c.args.place none)
 
 pub returns : goal.returns
 returns t c =
     let nodes = c.args.nodes.now in
     let states = c.args.states.now in
-    let reached = c.in-Some.reached.now in
+    let reached = lent c.at-reached.result in
     let n = length c.args.before.now - 1 in
     let count : length c.args.before.now ≡ n + 1 = omega arith in
     let nearer = c.nearer-item.result in
     let back = mapped-last (all_meant nodes) c.args.before.now n nearer nearer count c.nearer-item.is in
-    let inside : c.args.place < length states = ltb-true c.args.place (length states) (sym c.in-Some.ensures.lookup.0) in
-    let some : slice_get (all_meant nodes states) c.args.place ≡ Some (meant nodes reached) = get-at nodes states c.args.place reached inside c.in-Some.ensures.lookup.1 in
+    let some : slice_get (all_meant nodes states) c.args.place ≡ Some (meant nodes reached) =
+    get-at nodes states c.args.place reached (omega arith) (at-place states c.args.place reached c.at-reached.ensures) in
     let earlier = reverse (map (all_meant nodes) (take n c.args.before.now)) in
-    let run : c.in_ok-run.run' ≡ run_to earlier (all_meant nodes nearer) reached.from =
-    c.in_ok-run.ensures ∙ ap (λ (l : List Numbered). run_to earlier (all_meant nodes l) reached.from) c.as_slice.ensures in
     let left : c.in_ok-left.left ≡ (meant nodes reached).way.left = c.in_ok-left.ensures ∙ sym (ap (λ (o : Option Prog). unwrap_or o Nil) c.prog.ensures) in
     c.in_ok-push.ensures.ok
-    ∙ ap (λ (ws : List Way). ws ++ way_of reached.label c.in_ok-left.left ∷ []) run
+    ∙ ap (λ (ws : List Way). ws ++ way_of reached.label c.in_ok-left.left ∷ []) c.in_ok-run.ensures
     ∙ ap (λ (p : Prog). run_to earlier (all_meant nodes nearer) reached.from ++ way_of reached.label p ∷ []) left
     ∙ sym (ap (λ (b : List (List Reached)). run_to b (all_meant nodes states) c.args.place) back
     ∙ run_to-some earlier (all_meant nodes nearer) (all_meant nodes states) c.args.place (meant nodes reached) some)

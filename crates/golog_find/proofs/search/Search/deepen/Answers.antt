@@ -10,41 +10,38 @@ use Rattle.golog_find.proofs.search.Search.deepen.Goals as goal
 use Rattle.golog_find.proofs.search.Search.deepen.Goals.{then-self, else-self}
 
 pub next_level-requires-clause-numbers : goal.next_level-requires-clause-numbers
-next_level-requires-clause-numbers c = subst (HaveNumbers c.args.self.now.nodes) (sym c.as_slice.ensures) c.requires.numbers.last
+next_level-requires-clause-numbers g c = c.requires.numbers.last
 
 pub next_level-requires-clause-searched : goal.next_level-requires-clause-searched
-next_level-requires-clause-searched c =
-    subst (λ (ns : List Numbered). AreSearched c.args.agent.now (all_meant c.args.self.now.nodes ns)) (sym c.as_slice.ensures) c.requires.searched
+next_level-requires-clause-searched g c = c.requires.searched
 
 pub returns-clause-before : goal.returns-clause-before
-returns-clause-before c =
+returns-clause-before g c =
     let old = c.args.self.now in
     let nodes = c.next_level.new.nodes in
     let added : c.push.new.self ≡ old.before ++ old.last ∷ [] = c.in_ok-push.ensures.ok ∙ ap (λ (ns : List Numbered). old.before ++ ns ∷ []) c.replace-last.ensures.value in
     ap (map (all_meant nodes)) added
-    ∙ before-further old.nodes nodes old.before old.last c.in_ok-next.ensures.goes_on c.requires.numbers.before c.requires.numbers.last
+    ∙ before-further old.nodes nodes old.before old.last c.in_ok-level.ensures.goes_on c.requires.numbers.before c.requires.numbers.last
 
 pub returns-clause-last : goal.returns-clause-last
-returns-clause-last c =
+returns-clause-last g c =
     let agent = c.args.agent.now in
     let m = c.args.mode in
     let old = c.args.self.now in
     let nodes = c.next_level.new.nodes in
     let last : all_meant nodes c.replace-last.new.dest ≡ (stored_level agent m c.args.room (looked_of old).last).states =
     ap (all_meant nodes) c.replace-last.ensures.after
-    ∙ ap (λ (l : Level). l.states) c.in_ok-next.ensures.next
-    ∙ ap (λ (ns : List Numbered). (stored_level agent m c.args.room (all_meant old.nodes ns)).states) c.as_slice.ensures in
+    ∙ ap (λ (l : Level). l.states) c.in_ok-level.ensures.next in
     subst (AreStored agent m c.args.room (next_level agent m (looked_of old).last).states) (sym last) (level-stored agent m c.args.room (looked_of old).last).0
 
 pub returns-clause-cut : goal.returns-clause-cut
-returns-clause-cut c =
+returns-clause-cut g c =
     let agent = c.args.agent.now in
     let m = c.args.mode in
     let old = c.args.self.now in
     let next : Level = next_level agent m (looked_of old).last in
-    let further : c.in_ok-next.next.cut ≡ next.cut =
-    ap (λ (l : Level). l.cut) c.in_ok-next.ensures.next
-    ∙ ap (λ (ns : List Numbered). (stored_level agent m c.args.room (all_meant old.nodes ns)).cut) c.as_slice.ensures
+    let further : c.in_ok-level.level.cut ≡ next.cut =
+    ap (λ (l : Level). l.cut) c.in_ok-level.ensures.next
     ∙ (level-stored agent m c.args.room (looked_of old).last).1 in
     elim c.if-self.branch [
       | then-self w ↦ w.self-is ∙ w.if-self.true ∙ sym (ap (λ (b : Bool). b || next.cut) w.if-self.true)
@@ -52,24 +49,23 @@ returns-clause-cut c =
     ]
 
 pub returns-clause-searched : goal.returns-clause-searched
-returns-clause-searched c =
+returns-clause-searched g c =
     let agent = c.args.agent.now in
     let m = c.args.mode in
     let old = c.args.self.now in
     let nodes = c.next_level.new.nodes in
     let last : all_meant nodes c.replace-last.new.dest ≡ (stored_level agent m c.args.room (looked_of old).last).states =
     ap (all_meant nodes) c.replace-last.ensures.after
-    ∙ ap (λ (l : Level). l.states) c.in_ok-next.ensures.next
-    ∙ ap (λ (ns : List Numbered). (stored_level agent m c.args.room (all_meant old.nodes ns)).states) c.as_slice.ensures in
+    ∙ ap (λ (l : Level). l.states) c.in_ok-level.ensures.next in
     subst (AreSearched agent) (sym last) (stored_level-stays agent c.requires.agent m c.args.room (looked_of old).last c.requires.searched)
 
 pub returns-clause-numbers : goal.returns-clause-numbers
-returns-clause-numbers c =
+returns-clause-numbers g c =
     let old = c.args.self.now in
     let nodes = c.next_level.new.nodes in
     let added : c.push.new.self ≡ old.before ++ old.last ∷ [] = c.in_ok-push.ensures.ok ∙ ap (λ (ns : List Numbered). old.before ++ ns ∷ []) c.replace-last.ensures.value in
     record {
-      once = c.in_ok-next.ensures.level.once;
-      before = subst (All (HaveNumbers nodes)) (sym added) (before-numbers old.nodes nodes old.before old.last c.in_ok-next.ensures.goes_on c.requires.numbers.before c.requires.numbers.last);
-      last = subst (HaveNumbers nodes) (sym c.replace-last.ensures.after) c.in_ok-next.ensures.level.numbers;
+      once = c.in_ok-level.ensures.level.once;
+      before = subst (All (HaveNumbers nodes)) (sym added) (before-numbers old.nodes nodes old.before old.last c.in_ok-level.ensures.goes_on c.requires.numbers.before c.requires.numbers.last);
+      last = subst (HaveNumbers nodes) (sym c.replace-last.ensures.after) c.in_ok-level.ensures.level.numbers;
     }

@@ -7,5 +7,5 @@ use Rattle.golog_find.proofs.search.Search.first_end.Given as goal
 -- the states still to be tried decide
 abbrev pub invariant-loop-place : goal.invariant-loop-place
 invariant-loop-place l =
-    position_from (ends_at l.agent l.mode) 0 (all_meant l.self.nodes l.last)
-    ≡ position_from (ends_at l.agent l.mode) l.place (all_meant l.self.nodes (drop l.place l.last))
+    position_from (ends_at l.agent l.mode) 0 (all_meant l.self.nodes l.self.last)
+    ≡ position_from (ends_at l.agent l.mode) l.place (all_meant l.self.nodes (drop l.place l.self.last))

@@ -15,16 +15,17 @@ counted c =
     omega arith
 
 abbrev after : goal.In_ok-push → Visits
-after c = record { places = c.insert.new.self; opened = c.push.new.self; count = c.saturating_add-self.result }
+after c = record { places = c.insert.new.self; opened = c.push.new.self; count = c.saturating_add-self.result; effects = c.with_effects.new.effects }
 
 pub returns-clause-kept : goal.returns-clause-kept
 returns-clause-kept c =
     let made = c.in_ok-opened.ensures in
     record {
-      opened = kept-more c.args.nodes.now c.of.new.nodes made.goes_on c.args.agent.now c.args.self.now.opened c.push.new.self c.in_ok-opened.opened c.requires.kept.opened made.opened.opened
+      opened = kept-more c.args.nodes.now c.with_effects.new.nodes made.goes_on c.args.agent.now c.args.self.now.opened c.push.new.self c.in_ok-opened.opened c.requires.kept.opened made.opened.opened
           c.in_ok-push.ensures.ok;
       placed = placed-more c.args.self.now (after c) c.args.number c.len.result (c.in_ok-insert.ensures.updates).0 c.in_ok-opened.opened c.in_ok-push.ensures.ok c.len.ensures (few c) made.opened.same
           c.requires.asked (counted c) c.requires.kept.placed;
+      effects = made.effects;
     }
 
 pub returns-clause-visited : goal.returns-clause-visited

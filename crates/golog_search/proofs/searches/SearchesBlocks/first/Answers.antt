@@ -6,18 +6,18 @@ use Rattle.golog_search.proofs.ReachOfBlock.{first-given, step-lacks, step-told,
 use Rattle.golog_search.proofs.searches.SearchesBlocks.first.Goals as goal
 
 pub first_of_block-requires-clause-agent : goal.first_of_block-requires-clause-agent
-first_of_block-requires-clause-agent c = c.requires.ready.searched.formed
+first_of_block-requires-clause-agent g c = c.requires.ready.searched.formed
 
 pub first_of_block-requires-clause-told : goal.first_of_block-requires-clause-told
-first_of_block-requires-clause-told c = c.requires.ready.told
+first_of_block-requires-clause-told g c = c.requires.ready.told
 
 pub first_of_block-requires-clause-searched : goal.first_of_block-requires-clause-searched
-first_of_block-requires-clause-searched c =
+first_of_block-requires-clause-searched g c =
     follow_searched c.args.agent.now c.args._values.now c.args.self.now.state.now c.requires.ready.searched c.args.following.now.body.now c.in_ok-block.block.body (ap (λ (b : Block). b.body) c.in_ok-block.ensures)
     c.args.following.now.depth c.args.following.now.fuel c.args.following.now.rest.now c.requires.closed
 
 pub returns-in-Step-clause-first : goal.returns-in-Step-clause-first
-returns-in-Step-clause-first c =
+returns-in-Step-clause-first g c =
     let agent = c.args.agent.now in
     let state = c.args.self.now.state.now in
     let block = c.in_ok-block.block in
@@ -25,7 +25,7 @@ returns-in-Step-clause-first c =
     (step-told c.args.self.now.bounded agent state block c.args.following.now.rest.now c.in-Step.step (sym c.in-Step.is ∙ c.in_ok-step.ensures))
 
 pub returns-clause-fuel : goal.returns-clause-fuel
-returns-clause-fuel c = λ e.
+returns-clause-fuel g c = λ e.
     let agent = c.args.agent.now in
     let state = c.args.self.now.state.now in
     let block = c.in_ok-block.block in
