@@ -1,3 +1,4 @@
+mod Crossing
 mod FirstTurns
 mod Looking
 mod Posting

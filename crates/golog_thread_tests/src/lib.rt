@@ -15,6 +15,8 @@ mod posts;
 #[cfg(test)]
 mod runs;
 #[cfg(test)]
+mod sides;
+#[cfg(test)]
 mod turns;
 #[cfg(test)]
 mod written;

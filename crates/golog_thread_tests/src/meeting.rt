@@ -253,7 +253,7 @@ impl Host<'_> {
 
 impl Lead for Host<'_> {
     ghost use Rattle.std.specs.Prelude.{None};
-    ghost use Rattle.golog_agent.specs.Waiting.{waits};
+    ghost use Rattle.golog_lead.specs.Waiting.{waits};
     ghost use Rattle.golog_agent.specs.Laws.{quiet_goes_on};
 
     ghost mind = { λ host. record {

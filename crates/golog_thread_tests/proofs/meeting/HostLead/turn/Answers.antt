@@ -2,7 +2,7 @@ use Rattle.std.proofs.Common.{None, ◌∙◌, ap, subst}
 use Rattle.golog_journal.specs.Growing.{program}
 use Rattle.golog_journal.specs.Leading.{TakesTurn}
 use Rattle.golog_lead.specs.Courses.{Course}
-use Rattle.golog_agent.specs.Waiting.{waits}
+use Rattle.golog_lead.specs.Waiting.{waits}
 use Rattle.golog_thread_tests.proofs.Looking.{leads-then, turn-then}
 use Rattle.golog_thread_tests.proofs.meeting.HostLead.turn.Goals as goal
 

@@ -1,0 +1,13 @@
+pub mod Notes
+pub mod Links
+pub mod Shapes
+pub mod Steps
+pub mod Linked
+pub mod Keeping
+pub mod Laws
+pub mod Wires
+pub mod Sides
+pub mod Standing
+pub mod Rounds
+pub mod NoTable
+pub mod Played
