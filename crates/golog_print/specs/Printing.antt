@@ -155,3 +155,7 @@ module _ (agent : Agent) (stem : Text) where
 -- The text of a program. Its variables are named behind what no declared name begins with.
 abbrev pub text_of_prog : Agent → Prog → Text
 text_of_prog agent prog = prog_text agent (stem_text (stem_no agent)) prog
+
+-- the text of a condition, with variables named so
+abbrev pub text_of_cond : Agent → Cond → Text
+text_of_cond agent cond = cond_text agent (stem_text (stem_no agent)) cond

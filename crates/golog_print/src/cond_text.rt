@@ -1,11 +1,12 @@
-// The texts of arguments, terms and conditions, added to a text.
-ghost use Rattle.std.specs.Prelude.{◌≡◌, [], ◌∷◌, ◌++◌, OnOk, codes, map};
+// The texts of arguments, terms and conditions, added to a text; `print_cond`, that of a condition.
+ghost use Rattle.std.specs.Prelude.{◌≡◌, [], ◌∷◌, ◌++◌, IfOk, OnOk, codes, map};
 ghost use Rattle.std.specs.List.{flat_map};
-ghost use Rattle.golog_print.specs.Printing.{in_list, sign_text, variable_text, arg_text, args_texts, binder_text, fluent_text, term_text, cond_text};
+ghost use Rattle.golog_print.specs.Printing.{in_list, sign_text, variable_text, arg_text, args_texts, binder_text, fluent_text, term_text, cond_text, text_of_cond};
 
-use crate::named::{add_constant, fluent_name, fluent_sorts, sort_name};
+use crate::named::{add_constant, fluent_name, fluent_sorts, sort_name, stem_of};
 use golog_base::{Bytes, NoMemory, add_decimal};
 use golog_tree::{Agent, Arg, Cond, Term};
+use std::alloc::Global;
 
 /// Begins a list with a word.
 pub fn open_list(text: &mut Bytes, word: &[u8]) -> Result<(), NoMemory>
@@ -216,5 +217,21 @@ impl<'a> Writer<'a> {
                 body.get(),
             ),
         }
+    }
+}
+
+/// The text of a condition, as an agent's file could say it, with its variables under names as `print_prog` has them.
+pub fn print_cond(alloc: Global, agent: &Agent, cond: &Cond) -> Result<Bytes, NoMemory>
+    ensures { IfOk result (λ text. text ≡ text_of_cond agent.now cond.now) }
+{
+    let stem = stem_of(alloc, agent)?;
+    let mut text = Bytes::new(alloc);
+    let writer = Writer {
+        agent,
+        stem: stem.as_slice(),
+    };
+    match writer.add_cond(&mut text, cond) {
+        Ok(()) => Ok(text),
+        Err(NoMemory) => Err(NoMemory),
     }
 }

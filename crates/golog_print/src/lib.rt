@@ -1,6 +1,7 @@
-//! The text of a program, as a file of its agent could say it.
+//! The text of a program, and of a condition, as a file of their agent could say them.
 //!
-//! Only tests call `print_prog`, so it stands apart from the reader, and no program waits for it.
+//! Only golog_trace and tests call `print_prog` and `print_cond`, so they stand apart from the reader, and no other
+//! program waits for them.
 //!
 //! `specs/ReadBack` says what a printed program reads back to, by the definitions of golog_prog and
 //! by golog_check's `prog_in`: so golog_print stands on the definitions and laws of both, and on no
@@ -12,5 +13,6 @@ mod laws;
 mod named;
 mod prog_text;
 
+pub use cond_text::print_cond;
 pub use laws::ranges_fit;
 pub use prog_text::print_prog;
