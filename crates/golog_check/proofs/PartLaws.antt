@@ -1,6 +1,6 @@
 -- The parts of a draft together.
 use Rattle.std.proofs.Common.{◌≡◌, ℕ, ◌+◌, List, [], ◌∷◌, ◌++◌, map, Option, Some, None, Result, Ok, Err, refl, sym, ap, subst, ◌∙◌}
-use Rattle.std.specs.Prelude.{MatchOption}
+use Rattle.std.specs.Prelude.{IfOk, MatchOption}
 use Rattle.std.specs.List.{range_with_len}
 use Rattle.golog_rows.specs.Reading.{Reading}
 use Rattle.golog_tree.specs.declared.agent.Agent.{Agent}
@@ -38,6 +38,12 @@ pub sum-least : (found : Option Refusal) (reading : Reading (Unit {0}))
 sum-least None reading h = ap (λ o. refusal_of o ++ []) h
 sum-least (Some r) reading h =
     subst (λ (rs : List CodeAt). IsLeast (IsAmong rs) r.code r.at) (sym (ap (λ o. refusal_of o ++ []) h)) (alone r.code r.at)
+
+-- what is so of what each of two calls gave is so of both together
+pub both-so : {A B E : Type 0} (one : Result A E) (other : Result B E) (r : Result (A × B) E) (P : A → Type 0) (Q : B → Type 0)
+    → IfOk r (λ pair. (one ≡ Ok pair.0) × (other ≡ Ok pair.1)) → IfOk one P → IfOk other Q → IfOk r (λ pair. (P pair.0) × (Q pair.1))
+both-so one other (Ok pair) P Q is p q = (subst (λ r. IfOk r P) is.0 p, subst (λ r. IfOk r Q) is.1 q)
+both-so one other (Err e) P Q is p q = tt
 
 -- what a theory and its procedures declare
 pub names-are : (theory : DraftTheory) (program : DraftProgram) (sorts : List SortItem) (places : List ℕ)

@@ -16,6 +16,8 @@ ghost use Rattle.golog_check.specs.DeclaredItems.{Declared, sort_item};
 ghost use Rattle.golog_check.specs.Sums.{AreSmall, HaveFewArgs, fluent_counted, action_counted};
 ghost use Rattle.golog_rows.specs.Least.{IsLeastOf};
 ghost use Rattle.golog_check.specs.Least.{given};
+ghost use Rattle.golog_check.specs.Effects.{cause_in, senses_in};
+ghost use Rattle.golog_check.specs.Procs.{proc_in};
 ghost use Rattle.golog_check.specs.Starts.{start_value};
 ghost use Rattle.golog_check.specs.Check.{Checks, bare as spec_bare, main_in as spec_main_in, main_of as spec_main_of, names_of, refusals_in};
 ghost use Rattle.golog_check.specs.Order.{IsLeastRow, all_rows};
@@ -41,6 +43,7 @@ use golog_tree::{
     SenseItem, SortItem,
 };
 use std::alloc::Global;
+use std::mem;
 
 /// What a theory declares, with nothing said of it yet.
 fn bare(alloc: Global, theory: &DraftTheory) -> Result<Agent, NoMemory>
@@ -107,6 +110,35 @@ fn main_checked(
     Ok(checked)
 }
 
+/// What the causes and the sensing items of a theory give.
+fn effects_checked(
+    alloc: Global,
+    names: &Names<'_>,
+    theory: &DraftTheory,
+) -> Result<(Checked<CauseItem>, Checked<SenseItem>), NoMemory>
+    requires { All (λ (item : DraftSense). item.action < length names.now.actions) theory.now.senses }
+    ensures { IfOk result (λ checked. (IsChecked checked.0 (map (cause_in names.now) theory.now.causes))
+        × (IsChecked checked.1 (senses_in names.now [] theory.now.senses))) }
+{
+    let causes = cause_items_in(alloc, names, theory.causes.as_slice());
+    let senses = sense_items_in(alloc, names, theory.senses.as_slice());
+    both(causes, senses)
+}
+
+/// What the procedures and `main` give.
+fn programs_checked(
+    alloc: Global,
+    names: &Names<'_>,
+    program: &DraftProgram,
+) -> Result<(Checked<ProcItem>, Checked<Prog>), NoMemory>
+    ensures { IfOk result (λ checked. (IsChecked checked.0 (map (proc_in names.now) program.now.procs))
+        × (IsChecked checked.1 (spec_main_in names.now program.now.main ∷ []))) }
+{
+    let procs = proc_items_in(alloc, names, program.procs.as_slice());
+    let main = main_checked(alloc, names, &program.main);
+    both(procs, main)
+}
+
 /// Checks all parts of a draft.
 fn parts_of(
     alloc: Global,
@@ -128,13 +160,9 @@ fn parts_of(
     let blocks = blocks_refused(alloc, program.procs.as_slice(), &program.main.body)?;
     let starts = starts_in(alloc, names, theory.starts.as_slice());
     let poss = poss_items_in(alloc, names, theory.poss.as_slice());
-    let causes = cause_items_in(alloc, names, theory.causes.as_slice());
-    let senses = sense_items_in(alloc, names, theory.senses.as_slice());
-    let procs = proc_items_in(alloc, names, program.procs.as_slice());
-    let main = main_checked(alloc, names, &program.main);
+    let effects = effects_checked(alloc, names, theory);
+    let programs = programs_checked(alloc, names, program);
     let states = both(starts, poss);
-    let effects = both(causes, senses);
-    let programs = both(procs, main);
     let later = both(effects, programs);
     let items = both(states, later)?;
     let ((starts, poss), ((causes, senses), (procs, main))) = items;
@@ -176,13 +204,6 @@ fn main_of(main: List<Prog>) -> Prog
     main.pop().unwrap_or(Prog::Nil)
 }
 
-/// Puts a value in the place of another.
-fn put<T: Drop>(place: &mut T, value: T)
-    ensures { place.new ≡ value }
-{
-    *place = value;
-}
-
 /// The agent of what is declared, of its start values and of the parts, none of which is refused.
 fn agent_with(agent: Agent, starts: List<u8>, parts: Parts) -> Agent
     ensures { (reading : Reading Prog) → parts.main.items ≡ given (reading ∷ [])
@@ -206,12 +227,12 @@ fn agent_with(agent: Agent, starts: List<u8>, parts: Parts) -> Agent
     } = parts;
     drop(checked);
     let mut agent = agent;
-    put(&mut agent.poss, poss.items);
-    put(&mut agent.causes, causes.items);
-    put(&mut agent.senses, senses.items);
-    put(&mut agent.starts, starts);
-    put(&mut agent.procs, procs.items);
-    put(&mut agent.main, main_of(main.items));
+    drop(mem::replace(&mut agent.poss, poss.items));
+    drop(mem::replace(&mut agent.causes, causes.items));
+    drop(mem::replace(&mut agent.senses, senses.items));
+    drop(mem::replace(&mut agent.starts, starts));
+    drop(mem::replace(&mut agent.procs, procs.items));
+    drop(mem::replace(&mut agent.main, main_of(main.items)));
     agent
 }
 

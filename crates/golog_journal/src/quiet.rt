@@ -1,5 +1,5 @@
-// Whether each device is closed or at rest, and whether a result is still to come, also of a device
-// that is open, from what is counted.
+//! Whether each device is closed or at rest, and whether a result is still to come, also of a device
+//! that is open, from what is counted.
 ghost use Rattle.std.specs.Prelude.{◌≡◌};
 ghost use Rattle.std.specs.List.{list_all, list_any};
 ghost use Rattle.golog_journal.specs.Quiet.{is_quiet_by, lacks_by, may_be_answered_by};

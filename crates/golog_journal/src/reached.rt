@@ -46,14 +46,11 @@ fn command_in(facts: &AgentFacts, device: u8, place: u32, entry: Entry) -> Optio
     let Entry::Do { action } = entry else {
         return None;
     };
-    match facts.device_of(action) {
-        Some(carrier) => {
-            if carrier == device {
-                return Some(Placed { place, action });
-            }
-            None
-        }
-        None => None,
+    let carrier = facts.device_of(action)?;
+    if carrier == device {
+        Some(Placed { place, action })
+    } else {
+        None
     }
 }
 

@@ -1,5 +1,5 @@
-// What is counted for each device: how many commands it has, how many of their results are still to
-// come, the number at its last Rest, whether it is open.
+//! What is counted for each device: how many commands it has, how many of their results are still to
+//! come, the number at its last Rest, whether it is open.
 ghost use Rattle.std.specs.Prelude.{◌≡◌, ◌<◌, ◌≤◌, ◌+◌, length, not, if◌then◌else◌, ◌&&◌, Some, None, IfOk, All, true, false, ◌==◌};
 ghost use Rattle.std.specs.Option.{option_map_or};
 ghost use Rattle.golog_semantics.specs.Journal.{is_close as closes, limit};

@@ -102,110 +102,6 @@ fn is_constant_or_none(agent: &Agent, sort: u32, text: Option<&[u8]>) -> bool
     }
 }
 
-// The entry that is named, behind these.
-#[tactic(auto, unfolding(crate::specs::Reads::line_named))]
-fn line_named(agent: &Agent, facts: &AgentFacts, before: &[Entry], named: Named<'_>) -> Option<Line>
-    requires formed { WellFormed agent.now }
-    requires facts { facts.now ≡ agent.now }
-    ensures { result ≡ line_named agent.now before.now (named_of named.entry) }
-{
-    match named {
-        Named::Told { entry, run } => Some(Line { entry, run }),
-        Named::Result {
-            device,
-            place,
-            value,
-            old,
-        } => match result_in(agent, facts, before, device, place, value, old) {
-            Some(entry) => Some(Line { entry, run: None }),
-            None => None,
-        },
-    }
-}
-
-// The result of an earlier command.
-#[tactic(auto, using(crate::proofs::FactsTold::sensed_told), unfolding(crate::specs::Reads::result_in))]
-fn result_in(
-    agent: &Agent,
-    facts: &AgentFacts,
-    before: &[Entry],
-    poster: u8,
-    place: u32,
-    value: &[u8],
-    old: Option<&[u8]>,
-) -> Option<Entry>
-    requires formed { WellFormed agent.now }
-    requires facts { facts.now ≡ agent.now }
-    ensures { result ≡ result_in agent.now before.now poster place value.now (lent old.entry) }
-{
-    let fluent = sensed_at(facts, before, poster, place)?;
-    let value = value_named(agent, fluent, value, old)?;
-    Some(Entry::Sense {
-        poster,
-        place,
-        fluent,
-        value,
-    })
-}
-
-// What a line says behind these entries.
-#[tactic(auto, unfolding(crate::specs::Reads::line_said))]
-fn line_said(
-    alloc: Global,
-    agent: &Agent,
-    facts: &AgentFacts,
-    before: &[Entry],
-    said: Said<'_>,
-) -> Result<Line, TextFault>
-    requires formed { WellFormed agent.now }
-    requires facts { facts.now ≡ agent.now }
-    requires few { length before.now ≤ entry_limit }
-    ensures said { Answers result (line_said agent.now before.now (said_of said.entry)) }
-    ensures few { OnOk result (length before.now < entry_limit) }
-{
-    let line = before.len() as u32;
-    if !is_in_place(before.len(), &said) {
-        return Err(TextFault::Refused {
-            line,
-            why: MISPLACED,
-        });
-    }
-    let Some(named) = body_named(alloc, agent, said.body)? else {
-        return Err(TextFault::Refused { line, why: NOT_OWN });
-    };
-    match line_named(agent, facts, before, named) {
-        Some(line) => Ok(line),
-        None => Err(TextFault::Refused {
-            line,
-            why: NO_RESULT,
-        }),
-    }
-}
-
-// What a line that has its line feed says behind these entries.
-#[tactic(auto, unfolding(crate::specs::Reads::line_of))]
-fn line_of(
-    alloc: Global,
-    agent: &Agent,
-    facts: &AgentFacts,
-    before: &[Entry],
-    text: &[u8],
-) -> Result<Line, TextFault>
-    requires formed { WellFormed agent.now }
-    requires facts { facts.now ≡ agent.now }
-    requires few { length before.now ≤ entry_limit }
-    ensures said { Answers result (line_of agent.now before.now text.now) }
-    ensures few { OnOk result (length before.now < entry_limit) }
-{
-    match said_in(text) {
-        Some(said) => line_said(alloc, agent, facts, before, said),
-        None => Err(TextFault::Refused {
-            line: before.len() as u32,
-            why: NO_BODY,
-        }),
-    }
-}
-
 // Adds a line to a report.
 fn add_line(report: &mut Report, line: Line) -> Result<(), NoMemory>
     requires { length report.old.entries < entry_limit }
@@ -219,118 +115,192 @@ fn add_line(report: &mut Report, line: Line) -> Result<(), NoMemory>
     }
 }
 
-// Adds the lines that a text without a head says to a report that has none.
-fn read_lines(
-    report: &mut Report,
+// What a journal is read over: an agent, and the facts of its actions.
+#[derive(Clone, Copy)]
+struct Reader<'a> {
     alloc: Global,
-    agent: &Agent,
-    facts: &AgentFacts,
-    bytes: &[u8],
-) -> Result<(), TextFault>
-    requires formed { WellFormed agent.now }
-    requires facts { facts.now ≡ agent.now }
-    requires empty { report.old.entries ≡ [] }
-    ensures { Leaves code_at result report.new (journal_from agent.now report.old (lines_in bytes.now)) }
-{
-    let (mut text, mut behind) = cut(bytes, b'\n');
-    while let Some(rest) = behind {
-        let line = line_of(alloc, agent, facts, report.entries.as_slice(), text)?;
-        add_line(report, line)?;
-        let (next, others) = cut(rest, b'\n');
-        text = next;
-        behind = others;
-    }
-    if !text.is_empty() {
-        return Err(TextFault::Refused {
-            line: report.entries.len() as u32,
-            why: NO_BODY,
-        });
-    }
-    Ok(())
+    agent: &'a Agent,
+    facts: &'a AgentFacts,
 }
 
-// The report with this start that a text without a head says.
-fn report_from(
-    alloc: Global,
-    agent: &Agent,
-    facts: &AgentFacts,
-    start: Option<Bytes>,
-    bytes: &[u8],
-) -> Result<Report, TextFault>
-    requires formed { WellFormed agent.now }
-    requires facts { facts.now ≡ agent.now }
-    ensures { Answers result (journal_from agent.now (empty_report start) (lines_in bytes.now)) }
-{
-    let mut report = Report {
-        entries: List::new(alloc),
-        runs: List::new(alloc),
-        start,
-    };
-    match read_lines(&mut report, alloc, agent, facts, bytes) {
-        Ok(()) => Ok(report),
-        Err(fault) => {
-            drop(report);
-            Err(fault)
+impl<'a> Reader<'a> {
+    // The entry that is named, behind these.
+    #[tactic(auto, unfolding(crate::specs::Reads::line_named))]
+    fn line_named(&self, before: &[Entry], named: Named<'_>) -> Option<Line>
+        requires formed { WellFormed self.now.agent.now }
+        requires facts { self.now.facts.now ≡ self.now.agent.now }
+        ensures { result ≡ line_named self.now.agent.now before.now (named_of named.entry) }
+    {
+        match named {
+            Named::Told { entry, run } => Some(Line { entry, run }),
+            Named::Result {
+                device,
+                place,
+                value,
+                old,
+            } => match self.result_in(before, device, place, value, old) {
+                Some(entry) => Some(Line { entry, run: None }),
+                None => None,
+            },
         }
     }
-}
 
-// The report that the lines behind a head with these values say.
-#[tactic(auto, unfolding(crate::specs::Reads::entries_read))]
-fn entries_read(
-    alloc: Global,
-    agent: &Agent,
-    facts: &AgentFacts,
-    values: Bytes,
-    bytes: &[u8],
-) -> Result<Report, TextFault>
-    requires formed { WellFormed agent.now }
-    requires facts { facts.now ≡ agent.now }
-    ensures { Answers result (entries_read agent.now values bytes.now) }
-{
-    match report_from(alloc, agent, facts, Some(values), bytes) {
-        Ok(report) => Ok(report),
-        Err(fault) => Err(fault.moved(head_length(agent))),
+    // The result of an earlier command.
+    #[tactic(auto, using(crate::proofs::FactsTold::sensed_told), unfolding(crate::specs::Reads::result_in))]
+    fn result_in(
+        &self,
+        before: &[Entry],
+        poster: u8,
+        place: u32,
+        value: &[u8],
+        old: Option<&[u8]>,
+    ) -> Option<Entry>
+        requires formed { WellFormed self.now.agent.now }
+        requires facts { self.now.facts.now ≡ self.now.agent.now }
+        ensures { result ≡ result_in self.now.agent.now before.now poster place value.now (lent old.entry) }
+    {
+        let fluent = sensed_at(self.facts, before, poster, place)?;
+        let value = value_named(self.agent, fluent, value, old)?;
+        Some(Entry::Sense {
+            poster,
+            place,
+            fluent,
+            value,
+        })
     }
-}
 
-// The report that a text says whose first line, which is taken away, begins a head.
-#[tactic(auto, unfolding(crate::specs::Reads::headed_report))]
-fn headed_report(
-    alloc: Global,
-    agent: &Agent,
-    facts: &AgentFacts,
-    bytes: &[u8],
-) -> Result<Report, TextFault>
-    requires formed { WellFormed agent.now }
-    requires facts { facts.now ≡ agent.now }
-    ensures { Answers result (headed_report agent.now bytes.now) }
-{
-    let mut values = List::new(alloc);
-    match read_head(&mut values, agent, bytes) {
-        Ok(rest) => entries_read(alloc, agent, facts, values, rest),
-        Err(fault) => {
-            drop(values);
-            Err(fault)
+    // What a line says behind these entries.
+    #[tactic(auto, unfolding(crate::specs::Reads::line_said))]
+    fn line_said(&self, before: &[Entry], said: Said<'_>) -> Result<Line, TextFault>
+        requires formed { WellFormed self.now.agent.now }
+        requires facts { self.now.facts.now ≡ self.now.agent.now }
+        requires few { length before.now ≤ entry_limit }
+        ensures said { Answers result (line_said self.now.agent.now before.now (said_of said.entry)) }
+        ensures few { OnOk result (length before.now < entry_limit) }
+    {
+        let line = before.len() as u32;
+        if !is_in_place(before.len(), &said) {
+            return Err(TextFault::Refused {
+                line,
+                why: MISPLACED,
+            });
+        }
+        let Some(named) = body_named(self.alloc, self.agent, said.body)? else {
+            return Err(TextFault::Refused { line, why: NOT_OWN });
+        };
+        match self.line_named(before, named) {
+            Some(line) => Ok(line),
+            None => Err(TextFault::Refused {
+                line,
+                why: NO_RESULT,
+            }),
         }
     }
-}
 
-// The report that a text says.
-#[tactic(auto, unfolding(crate::specs::Reads::journal_of))]
-fn report_in(
-    alloc: Global,
-    agent: &Agent,
-    facts: &AgentFacts,
-    bytes: &[u8],
-) -> Result<Report, TextFault>
-    requires formed { WellFormed agent.now }
-    requires facts { facts.now ≡ agent.now }
-    ensures { Answers result (journal_of agent.now bytes.now) }
-{
-    match behind(b"golog 2\n", bytes) {
-        Some(rest) => headed_report(alloc, agent, facts, rest),
-        None => report_from(alloc, agent, facts, None, bytes),
+    // What a line that has its line feed says behind these entries.
+    #[tactic(auto, unfolding(crate::specs::Reads::line_of))]
+    fn line_of(&self, before: &[Entry], text: &[u8]) -> Result<Line, TextFault>
+        requires formed { WellFormed self.now.agent.now }
+        requires facts { self.now.facts.now ≡ self.now.agent.now }
+        requires few { length before.now ≤ entry_limit }
+        ensures said { Answers result (line_of self.now.agent.now before.now text.now) }
+        ensures few { OnOk result (length before.now < entry_limit) }
+    {
+        match said_in(text) {
+            Some(said) => self.line_said(before, said),
+            None => Err(TextFault::Refused {
+                line: before.len() as u32,
+                why: NO_BODY,
+            }),
+        }
+    }
+
+    // Adds the lines that a text without a head says to a report that has none.
+    fn read_lines(&self, report: &mut Report, bytes: &[u8]) -> Result<(), TextFault>
+        requires formed { WellFormed self.now.agent.now }
+        requires facts { self.now.facts.now ≡ self.now.agent.now }
+        requires empty { report.old.entries ≡ [] }
+        ensures { Leaves code_at result report.new
+            (journal_from self.now.agent.now report.old (lines_in bytes.now)) }
+    {
+        let (mut text, mut behind) = cut(bytes, b'\n');
+        while let Some(rest) = behind {
+            let line = self.line_of(report.entries.as_slice(), text)?;
+            add_line(report, line)?;
+            let (next, others) = cut(rest, b'\n');
+            text = next;
+            behind = others;
+        }
+        if !text.is_empty() {
+            return Err(TextFault::Refused {
+                line: report.entries.len() as u32,
+                why: NO_BODY,
+            });
+        }
+        Ok(())
+    }
+
+    // The report with this start that a text without a head says.
+    fn report_from(&self, start: Option<Bytes>, bytes: &[u8]) -> Result<Report, TextFault>
+        requires formed { WellFormed self.now.agent.now }
+        requires facts { self.now.facts.now ≡ self.now.agent.now }
+        ensures { Answers result (journal_from self.now.agent.now (empty_report start) (lines_in bytes.now)) }
+    {
+        let mut report = Report {
+            entries: List::new(self.alloc),
+            runs: List::new(self.alloc),
+            start,
+        };
+        match self.read_lines(&mut report, bytes) {
+            Ok(()) => Ok(report),
+            Err(fault) => {
+                drop(report);
+                Err(fault)
+            }
+        }
+    }
+
+    // The report that the lines behind a head with these values say.
+    #[tactic(auto, unfolding(crate::specs::Reads::entries_read))]
+    fn entries_read(&self, values: Bytes, bytes: &[u8]) -> Result<Report, TextFault>
+        requires formed { WellFormed self.now.agent.now }
+        requires facts { self.now.facts.now ≡ self.now.agent.now }
+        ensures { Answers result (entries_read self.now.agent.now values bytes.now) }
+    {
+        match self.report_from(Some(values), bytes) {
+            Ok(report) => Ok(report),
+            Err(fault) => Err(fault.moved(head_length(self.agent))),
+        }
+    }
+
+    // The report that a text says whose first line, which is taken away, begins a head.
+    #[tactic(auto, unfolding(crate::specs::Reads::headed_report))]
+    fn headed_report(&self, bytes: &[u8]) -> Result<Report, TextFault>
+        requires formed { WellFormed self.now.agent.now }
+        requires facts { self.now.facts.now ≡ self.now.agent.now }
+        ensures { Answers result (headed_report self.now.agent.now bytes.now) }
+    {
+        let mut values = List::new(self.alloc);
+        match read_head(&mut values, self.agent, bytes) {
+            Ok(rest) => self.entries_read(values, rest),
+            Err(fault) => {
+                drop(values);
+                Err(fault)
+            }
+        }
+    }
+
+    // The report that a text says.
+    #[tactic(auto, unfolding(crate::specs::Reads::journal_of))]
+    fn report_in(&self, bytes: &[u8]) -> Result<Report, TextFault>
+        requires formed { WellFormed self.now.agent.now }
+        requires facts { self.now.facts.now ≡ self.now.agent.now }
+        ensures { Answers result (journal_of self.now.agent.now bytes.now) }
+    {
+        match behind(b"golog 2\n", bytes) {
+            Some(rest) => self.headed_report(rest),
+            None => self.report_from(None, bytes),
+        }
     }
 }
 
@@ -355,7 +325,12 @@ pub fn read_journal(alloc: Global, agent: &Agent, bytes: &[u8]) -> Result<Report
     ensures fits { IfOk result (IsReport agent.now) }
 {
     let facts = AgentFacts::of(alloc, agent)?;
-    let report = report_in(alloc, agent, &facts, bytes);
+    let reader = Reader {
+        alloc,
+        agent,
+        facts: &facts,
+    };
+    let report = reader.report_in(bytes);
     drop(facts);
     report
 }

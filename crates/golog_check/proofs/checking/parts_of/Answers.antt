@@ -5,8 +5,6 @@ use Rattle.golog_tree.specs.declared.draft.DraftFluent.{DraftFluent}
 use Rattle.golog_tree.specs.declared.draft.DraftAction.{DraftAction}
 use Rattle.golog_tree.specs.declared.draft.DraftStart.{DraftStart}
 use Rattle.golog_tree.specs.declared.draft.DraftPoss.{DraftPoss}
-use Rattle.golog_tree.specs.declared.draft.DraftCause.{DraftCause}
-use Rattle.golog_tree.specs.declared.draft.DraftSense.{DraftSense}
 use Rattle.golog_tree.specs.declared.draft.DraftProc.{DraftProc}
 use Rattle.golog_check.specs.Procs.{proc_in}
 use Rattle.golog_check.specs.Check.{main_in}
@@ -39,14 +37,14 @@ returns c =
     (λ pair. (c.starts_in-starts.result ≡ Ok pair.0) × (c.poss_items_in-poss.result ≡ Ok pair.1))
     c.in_ok-items.ensures.parts.0 c.both-states.ensures.parts in
     let later = of-ok c.both-later.result items.1
-    (λ pair. (c.both-effects.result ≡ Ok pair.0) × (c.both-programs.result ≡ Ok pair.1))
+    (λ pair. (c.effects_checked-effects.result ≡ Ok pair.0) × (c.programs_checked-programs.result ≡ Ok pair.1))
     c.in_ok-items.ensures.parts.1 c.both-later.ensures.parts in
-    let effects = of-ok c.both-effects.result items.1.0
-    (λ pair. (c.cause_items_in-causes.result ≡ Ok pair.0) × (c.sense_items_in-senses.result ≡ Ok pair.1))
-    later.0 c.both-effects.ensures.parts in
-    let programs = of-ok c.both-programs.result items.1.1
-    (λ pair. (c.proc_items_in-procs.result ≡ Ok pair.0) × (c.main_checked-main.result ≡ Ok pair.1))
-    later.1 c.both-programs.ensures.parts in
+    let effects = of-ok c.effects_checked-effects.result items.1.0
+    (λ checked. (IsChecked checked.0 (map (cause_in names) theory.causes)) × (IsChecked checked.1 (senses_in names [] theory.senses)))
+    later.0 c.effects_checked-effects.ensures in
+    let programs = of-ok c.programs_checked-programs.result items.1.1
+    (λ checked. (IsChecked checked.0 (map (proc_in names) program.procs)) × (IsChecked checked.1 (main_in names program.main ∷ [])))
+    later.1 c.programs_checked-programs.ensures in
     record {
       fluent_sum = subst (λ (sorts : List SortItem). IsLeastOf c.sum_passes-fluent_sum.result (refusals (sum_from sorts 4096 0 (map fluent_counted theory.fluents) ∷ [])))
           c.requires.sorts
@@ -66,23 +64,10 @@ returns c =
           (of-ok c.poss_items_in-poss.result c.in_ok-items.items.0.1
           (λ checked. IsChecked checked (map (poss_in names) c.as_slice-6.result.now))
           states.1 c.poss_items_in-poss.ensures);
-      causes = subst (λ (items : List DraftCause). IsChecked c.in_ok-items.items.1.0.0 (map (cause_in names) items))
-          c.as_slice-7.ensures
-          (of-ok c.cause_items_in-causes.result c.in_ok-items.items.1.0.0
-          (λ checked. IsChecked checked (map (cause_in names) c.as_slice-7.result.now))
-          effects.0 c.cause_items_in-causes.ensures);
-      senses = subst (λ (items : List DraftSense). IsChecked c.in_ok-items.items.1.0.1 (senses_in names [] items))
-          c.as_slice-8.ensures
-          (of-ok c.sense_items_in-senses.result c.in_ok-items.items.1.0.1
-          (λ checked. IsChecked checked (senses_in names [] c.as_slice-8.result.now))
-          effects.1 c.sense_items_in-senses.ensures);
-      procs = subst (λ (items : List DraftProc). IsChecked c.in_ok-items.items.1.1.0 (map (proc_in names) items))
-          c.as_slice-9.ensures
-          (of-ok c.proc_items_in-procs.result c.in_ok-items.items.1.1.0
-          (λ checked. IsChecked checked (map (proc_in names) c.as_slice-9.result.now))
-          programs.0 c.proc_items_in-procs.ensures);
+      causes = effects.0;
+      senses = effects.1;
+      procs = programs.0;
       fronts = subst (λ (items : List DraftProc). IsLeastOf c.in_ok-fronts.fronts (all_front_refusals items)) c.as_slice-3.ensures c.in_ok-fronts.ensures;
       blocks = subst (λ (items : List DraftProc). IsLeastOf c.in_ok-blocks.blocks (all_block_refusals items program.main.body)) c.as_slice-4.ensures c.in_ok-blocks.ensures;
-      main = of-ok c.main_checked-main.result c.in_ok-items.items.1.1.1
-          (λ checked. IsChecked checked (main_in names program.main ∷ [])) programs.1 c.main_checked-main.ensures;
+      main = programs.1;
     }

@@ -6,11 +6,11 @@ use Rattle.golog_reports.specs.Forms.{parts_behind}
 use Rattle.golog_reports.specs.Reads.{journal_from, line_of, lines_in}
 use Rattle.golog_reports.specs.Views.{lent}
 use Rattle.golog_reports.proofs.JournalSteps.{begun, line_goes_on, line_is_refused, no_line_feed, nothing_behind, passed_on}
-use Rattle.golog_reports.proofs.reading.read_lines.Goals as goal
+use Rattle.golog_reports.proofs.reading.Reader.read_lines.Goals as goal
 
 pub loop-behind-init : goal.loop-behind-init
 loop-behind-init c =
-    let agent = c.args.agent.now in
+    let agent = c.args.self.now.agent.now in
     let first = c.cut.result.0.now in
     let others = parts_behind 10 (lent c.cut.result.1) in
     record {
@@ -20,7 +20,7 @@ loop-behind-init c =
 
 pub returns-in_err-line : goal.returns-in_err-line
 returns-in_err-line c =
-    let agent = c.args.agent.now in
+    let agent = c.args.self.now.agent.now in
     let report = c.loop-behind.report in
     let text = c.loop-behind.text.now in
     let fault = c.in_err-line.field-0.0 in
@@ -32,7 +32,7 @@ returns-in_err-line c =
 
 pub loop-behind-preserved : goal.loop-behind-preserved
 loop-behind-preserved c =
-    let agent = c.args.agent.now in
+    let agent = c.args.self.now.agent.now in
     let report = c.loop-behind.report in
     let text = c.loop-behind.text.now in
     let rest = c.in-Some.rest.now in
@@ -53,7 +53,7 @@ loop-behind-preserved c =
 
 pub returns-then-not-is_empty : goal.returns-then-not-is_empty
 returns-then-not-is_empty c =
-    let agent = c.args.agent.now in
+    let agent = c.args.self.now.agent.now in
     let report = c.loop-behind.report in
     let text = c.loop-behind.text.now in
     let whole = (journal_from agent c.args.report.now (lines_in c.args.bytes.now)).outcome in
@@ -63,7 +63,7 @@ returns-then-not-is_empty c =
 
 pub returns : goal.returns
 returns c =
-    let agent = c.args.agent.now in
+    let agent = c.args.self.now.agent.now in
     let report = c.loop-behind.report in
     let text = c.loop-behind.text.now in
     let whole = (journal_from agent c.args.report.now (lines_in c.args.bytes.now)).outcome in
