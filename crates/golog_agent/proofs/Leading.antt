@@ -34,7 +34,7 @@ use Rattle.golog_agent.specs.Leading.{AddsOneAlone, LeadsAlone}
 use Rattle.golog_lead.specs.Keeping.{KeepsRules}
 use Rattle.golog_lead.specs.Run.{is_step_entry}
 use Rattle.golog_agent.specs.Laws.{lead_stays}
-use Rattle.golog_agent.specs.Waiting.{takes_no_step, waits}
+use Rattle.golog_lead.specs.Waiting.{takes_no_step, waits}
 use Rattle.golog_lead.specs.Courses.{Course}
 use Rattle.golog_agent.specs.Turns.{CommitsEnd, CommitsStep, EndStood, MayAnswer, StillWaits, TurnIs}
 use Rattle.golog_lead.proofs.StepEntries.{each-step}

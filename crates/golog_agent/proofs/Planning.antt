@@ -34,7 +34,7 @@ use Rattle.golog_agent.specs.Keeping.{AwaitsFrom, AwaitsOne, IsUnderWay}
 use Rattle.golog_agent.proofs.Awaiting.{and-false, any-and, settled-none, settled-one, unanswered-closed, unanswered-none, unanswered-open}
 use Rattle.golog_agent.specs.Planned.{IsNextStep, PlanIs}
 use Rattle.golog_lead.specs.Courses.{Course}
-use Rattle.golog_agent.specs.Waiting.{has_no_step, takes_no_step, waits}
+use Rattle.golog_lead.specs.Waiting.{has_no_step, takes_no_step, waits}
 use Rattle.golog_agent.proofs.Growth.{seen_as}
 use Rattle.golog_agent.proofs.Resting.{rest-is-answered}
 

@@ -27,7 +27,7 @@ use Rattle.golog_lead.specs.Courses.{Course}
 use Rattle.golog_agent.specs.Turns.{AttemptIs, CommitGives, IsCommitted, IsCurrent, MayAnswer}
 use Rattle.golog_semantics.specs.Inline.{entry_for}
 use Rattle.golog_agent.specs.UnderWay.{left_of}
-use Rattle.golog_agent.specs.Waiting.{waits}
+use Rattle.golog_lead.specs.Waiting.{waits}
 use Rattle.golog_agent.proofs.Boarding.{no-change}
 use Rattle.golog_agent.proofs.Committing.{step-left, step-online, step-own, step-run}
 

@@ -22,7 +22,7 @@ use Rattle.golog_semantics.specs.Text.{run_at}
 use Rattle.golog_semantics.specs.Online.{fault_among, is_first, may_step, keeps_after, keeps_poster, keeps_place, keeps_taken, keeps_step, keeps_run, keeps_answer, keeps_close, keeps_text}
 use Rattle.golog_lead.specs.Keeping.{KeepsRules}
 use Rattle.golog_lead.specs.Run.{is_step_entry}
-use Rattle.golog_agent.specs.Waiting.{has_no_step, takes_no_step, waits}
+use Rattle.golog_lead.specs.Waiting.{has_no_step, takes_no_step, waits}
 use Rattle.golog_lead.proofs.StepEntries.{each-step}
 use Rattle.golog_lead.proofs.BegunRuns.{run-kept}
 

@@ -20,7 +20,7 @@ use Rattle.golog_agent.specs.declared.driver.Stepped.TheVariants.{Step, Waiting,
 use Rattle.golog_lead.specs.Keeping.{EndsBy}
 use Rattle.golog_agent.specs.Leading.{led_for}
 use Rattle.golog_lead.specs.Run.{is_step_entry}
-use Rattle.golog_agent.specs.Waiting.{waits}
+use Rattle.golog_lead.specs.Waiting.{waits}
 use Rattle.golog_lead.specs.Courses.{Course}
 use Rattle.golog_agent.specs.Turns.{AttemptIs, CommitsEnd, EndStood, Follows, HasEnded, IsCurrent, IsOver, IsOvertaken, LacksFuel, MayAnswer, StillWaits, TurnIs}
 use Rattle.golog_semantics.specs.Online.{IsOnlineSoFar}

@@ -14,7 +14,7 @@ use Rattle.golog_semantics.specs.Answer.{answer_after}
 use Rattle.golog_semantics.specs.Online.{may_step}
 use Rattle.golog_semantics.specs.Inline.{entry_for, lead, step_by}
 use Rattle.golog_lead.specs.Rounds.{Adds}
-use Rattle.golog_agent.specs.Waiting.{takes_no_step, waits}
+use Rattle.golog_lead.specs.Waiting.{takes_no_step, waits}
 
 -- where each device is closed or at rest, the program does not wait
 awake : (quiet none stuck : Bool) → quiet ≡ true → (not quiet && none && stuck) ≡ false

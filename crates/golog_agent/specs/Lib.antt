@@ -1,6 +1,5 @@
 pub mod UnderWay
 pub mod Laws
-pub mod Waiting
 pub mod Turns
 pub mod Keeping
 pub mod Planned

@@ -10,7 +10,7 @@ use Rattle.golog_semantics.specs.Journal.{Journal, count, limit, is_settled}
 use Rattle.golog_semantics.specs.Progress.{values_after, left_after}
 use Rattle.golog_agent.specs.declared.plan.Plan.{Plan}
 use Rattle.golog_agent.specs.declared.plan.Plan.TheVariants.{Wait, End, Step}
-use Rattle.golog_agent.specs.Waiting.{waits}
+use Rattle.golog_lead.specs.Waiting.{waits}
 use Rattle.golog_agent.specs.Turns.{MayAnswer}
 
 module _ (agent : Agent) (journal : Journal) where

@@ -15,7 +15,7 @@ use Rattle.golog_lead.specs.Courses.{Course}
 use Rattle.golog_agent.specs.declared.driver.Stepped.{Stepped}
 use Rattle.golog_agent.specs.declared.driver.Stepped.TheVariants.{Step, Waiting, Ended}
 use Rattle.golog_lead.specs.Run.{is_step_entry}
-use Rattle.golog_agent.specs.Waiting.{waits}
+use Rattle.golog_lead.specs.Waiting.{waits}
 
 -- a board of its agent that holds the program; what it lacks of the board's list are entries of devices
 pub record IsOver (course : Course) (sight : Sight) : Type 0 where

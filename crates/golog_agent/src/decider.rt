@@ -18,6 +18,7 @@ use golog_search::{Decision, decide_blocked, decide_step_of};
 use golog_semantics::{Entry, Mode};
 use golog_tree::{Agent, Prog, copy_prog};
 use golog_watch::Watches;
+use golog_ways::Expand;
 use std::alloc::Global;
 use std::marker::Model;
 use std::mem;
@@ -53,6 +54,16 @@ fn standing(decided: &Option<Decision>) -> Option<Option<Decision>>
     }
 }
 
+/// What was decided ahead and is not committed, and the watches of the runs that are under way.
+#[derive(Drop)]
+pub(crate) struct Ahead {
+    /// The values at which it was decided what the program left does next, where that is kept.
+    at: Option<Bytes>,
+    /// What was decided there.
+    decision: Option<Decision>,
+    watches: Watches,
+}
+
 /// The values that are known of an agent and the program left, with what was decided there and is not committed.
 /// Contracts see it as that configuration.
 #[derive(Drop)]
@@ -62,12 +73,7 @@ pub(crate) struct Decider<'a> {
     left: Prog,
     /// Whether a step left the program, so that it nests no deeper than a step may leave.
     shallow: bool,
-    /// The values at which it was decided what the program left does next, where that is kept.
-    at: Option<Bytes>,
-    /// What was decided there.
-    ahead: Option<Decision>,
-    /// The watches of the runs that are under way.
-    watches: Watches,
+    ahead: Ahead,
 }
 
 impl<'a> Model for Decider<'a> {
@@ -91,8 +97,8 @@ impl<'a> Model for Decider<'a> {
 
     ghost invariant = { λ decider.
         (decider.shallow ≡ true → nest decider.left ≤ nest_limit)
-        × IfSome decider.at (λ values. IsAhead decider.agent.now values decider.left true decider.ahead)
-        × AreWatches decider.agent.now decider.watches };
+        × IfSome decider.ahead.at (λ values. IsAhead decider.agent.now values decider.left true decider.ahead.decision)
+        × AreWatches decider.agent.now decider.ahead.watches };
 }
 
 impl<'a> Decider<'a> {
@@ -108,9 +114,11 @@ impl<'a> Decider<'a> {
             state,
             left,
             shallow: false,
-            at: None,
-            ahead: None,
-            watches,
+            ahead: Ahead {
+                at: None,
+                decision: None,
+                watches,
+            },
         })
     }
 
@@ -139,19 +147,23 @@ impl<'a> Decider<'a> {
         self.state.roll(self.agent, &[entry]);
         if let Some(left) = left {
             self.shallow = true;
-            drop(mem::replace(&mut self.at, None));
+            drop(mem::replace(&mut self.ahead.at, None));
             drop(mem::replace(&mut self.left, left));
         }
     }
 
     /// What the program does next, where it certainly ends or steps. It is decided anew only where it isn't kept
     /// at these values. Where it ends, neither ends nor steps, or lacks fuel, that is kept.
-    pub(crate) fn decide(&mut self, alloc: Global) -> Result<Option<Decision>, NoMemory>
+    pub(crate) fn decide<X: Expand>(
+        &mut self,
+        alloc: Global,
+        expand: &X,
+    ) -> Result<Option<Decision>, NoMemory>
         requires { IsSound self.old }
         ensures same { self.new ≡ self.old }
         ensures ahead { IfOk result (IsAhead self.old.agent self.old.values self.old.left true) }
     {
-        let decided = self.look(alloc)?;
+        let decided = self.look(alloc, expand)?;
         self.keep_standing(alloc, &decided);
         Ok(decided)
     }
@@ -167,16 +179,16 @@ impl<'a> Decider<'a> {
     }
 
     // Takes what is kept at these values, or decides. Nothing is kept then.
-    fn look(&mut self, alloc: Global) -> Result<Option<Decision>, NoMemory>
+    fn look<X: Expand>(&mut self, alloc: Global, expand: &X) -> Result<Option<Decision>, NoMemory>
         requires { IsSound self.old }
         ensures same { self.new ≡ self.old }
         ensures ahead { IfOk result (IsAhead self.old.agent self.old.values self.old.left true) }
     {
-        let at = self.at.take();
+        let at = self.ahead.at.take();
         let here = is_at(&at, self.state.values());
         drop(at);
         if here {
-            Ok(self.ahead.take())
+            Ok(self.ahead.decision.take())
         } else {
             decide_step_of(
                 alloc,
@@ -184,7 +196,8 @@ impl<'a> Decider<'a> {
                 &self.left,
                 &self.state,
                 self.shallow,
-                &mut self.watches,
+                &mut self.ahead.watches,
+                expand,
             )
         }
     }
@@ -195,17 +208,21 @@ impl<'a> Decider<'a> {
         ensures { self.new ≡ self.old }
     {
         let at = copied(alloc, self.state.values());
-        drop(mem::replace(&mut self.at, at));
-        drop(mem::replace(&mut self.ahead, ahead));
+        drop(mem::replace(&mut self.ahead.at, at));
+        drop(mem::replace(&mut self.ahead.decision, ahead));
     }
 
     /// Why the program neither certainly ends nor steps.
-    pub(crate) fn why_blocked(&self, alloc: Global) -> Result<Decision, NoMemory>
+    pub(crate) fn why_blocked<X: Expand>(
+        &self,
+        alloc: Global,
+        expand: &X,
+    ) -> Result<Decision, NoMemory>
         requires sound { IsSound self.now }
         requires unended { final self.now.agent self.now.values Mode.Must self.now.left ≡ false }
         requires stepless { IsTrue (is_empty (moves self.now.agent self.now.values Mode.Must self.now.left)) }
         ensures { IfOk result (IsDecided self.now.agent self.now.values self.now.left true) }
     {
-        decide_blocked(alloc, self.agent, &self.left, &self.state)
+        decide_blocked(alloc, self.agent, &self.left, &self.state, expand)
     }
 }

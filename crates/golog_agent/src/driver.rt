@@ -24,6 +24,7 @@ use golog_journal::{Board, Commit};
 use golog_lead::{Record, UnderWay};
 use golog_semantics::{Answer, Entry, Move};
 use golog_tree::{Label, Prog};
+use golog_ways::{Expand, Plain};
 
 /// What came of a turn of a runner.
 #[derive(Clone, Copy, Debug, PartialEq, Eq)]
@@ -39,9 +40,11 @@ pub enum Stepped {
 /// A program under way, and what records its entries: it copies what devices post, and commits what is decided at
 /// the whole list that it has seen.
 #[derive(Drop)]
-pub struct Driver<'a, R: Record> {
+pub struct Driver<'a, R: Record, X: Expand = Plain> {
     pub(crate) core: Core<'a>,
     pub(crate) record: R,
+    /// Who lists the steps of many programs while the program searches.
+    pub(crate) expand: X,
 }
 
 /// The program that a step leaves and the run that it begins, where there is a step.
@@ -65,7 +68,7 @@ fn entry_of(label: Label) -> Entry
     }
 }
 
-impl<'a, R: Record> Driver<'a, R> {
+impl<'a, R: Record, X: Expand> Driver<'a, R, X> {
     // Takes one more entry, which keeps the rules, and the step whose entry it is, if it is one.
     fn take(&mut self, entry: Entry, step: Option<Move>)
         requires lawful { IsBoardList self.old.core.agent (self.old.core.list ++ entry ∷ []) }
@@ -191,7 +194,7 @@ impl<'a, R: Record> Driver<'a, R> {
         ensures whole { IfSome result (λ _. self.new.core.list ≡ (B.sight board.new).seen) }
         ensures recorded { Records R.outlet R.stands self.old.core self.old.record self.new.core self.new.record }
     {
-        match self.core.plan() {
+        match self.core.plan(&self.expand) {
             Plan::Wait => Some(Stepped::Waiting),
             Plan::End(answer) => self.commit_end(board, answer),
             Plan::Step(step) => self.commit_step(board, step),

@@ -13,7 +13,9 @@
 //! core. Its turn copies all that it lacks in batches of 64, decides with no turn held, and commits
 //! at the length of what it has seen; where that has become longer it begins again, with what it
 //! decided if the values are the same. Each failed attempt has made the journal longer, which has
-//! at most 1,048,593 entries, so a turn returns.
+//! at most 1,048,593 entries, so a turn returns. Who lists the steps of many programs while a block
+//! is searched is a driver's too (`Expand` of golog_ways): `Plain` for a runner, and for a scribe
+//! what it is made with. No clause names it.
 //!
 //! A runner's record stands for exactly these entries and the runs that they begin, and a runner's
 //! invariant says so; its report is then theirs. A scribe's has written their text; after a write

@@ -16,6 +16,7 @@ use golog_base::{NoMemory, both};
 use golog_journal::{Board, Lead, Led, Report};
 use golog_lead::{Kept, RoundLead};
 use golog_tree::Agent;
+use golog_ways::Plain;
 use std::alloc::Global;
 use std::marker::Model;
 
@@ -63,7 +64,11 @@ impl<'a> Runner<'a> {
     {
         let (record, core) = both(Kept::new(alloc), Core::new(alloc, agent))?;
         Ok(Runner {
-            driver: Driver { core, record },
+            driver: Driver {
+                core,
+                record,
+                expand: Plain,
+            },
         })
     }
 
@@ -74,7 +79,7 @@ impl<'a> Runner<'a> {
         ensures online { IsOnlineSoFar self.entry.agent result }
     {
         self.keeps_rules();
-        let Driver { core, record } = self.driver;
+        let Driver { core, record, .. } = self.driver;
         drop(core);
         record.into_report()
     }
@@ -129,7 +134,7 @@ impl<'a> Runner<'a> {
 
 impl<'a> Lead for Runner<'a> {
     ghost use Rattle.std.specs.Prelude.{None};
-    ghost use Rattle.golog_agent.specs.Waiting.{waits};
+    ghost use Rattle.golog_lead.specs.Waiting.{waits};
     ghost use Rattle.golog_agent.specs.Laws.{quiet_goes_on};
 
     ghost mind = { λ runner. record {

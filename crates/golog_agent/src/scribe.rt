@@ -16,6 +16,7 @@ use golog_base::Sink;
 use golog_journal::{Board, Lead, Led};
 use golog_lead::{Printed, RoundLead};
 use golog_semantics::Answer;
+use golog_ways::{Expand, Plain};
 use std::snapshot::Snapshot;
 
 /// Drives the program of an agent as a `Runner` does, and writes the line of each entry when it has copied it: in
@@ -24,13 +25,30 @@ use std::snapshot::Snapshot;
 ///
 /// What its sink holds is known of the reference that `into_sink` gives back.
 #[derive(Drop)]
-pub struct Scribe<'a, K: Sink> {
-    driver: Driver<'a, Printed<'a, K>>,
+pub struct Scribe<'a, K: Sink, X: Expand = Plain> {
+    driver: Driver<'a, Printed<'a, K>, X>,
 }
 
 impl<'a, K: Sink> Scribe<'a, K> {
     /// A scribe that writes to this sink. What is there already stays before what it writes. Takes no memory.
     pub fn new(pen: Pen<'a>, out: &'a mut K) -> Scribe<'a, K>
+        ensures core { result.driver.core ≡ pen.entry.core }
+        ensures same_reference { result.driver.record.out.ghost_name ≡ out.entry.ghost_name }
+        ensures value { result.driver.record.out.now ≡ out.old }
+        ensures base { result.driver.record.base.value ≡ out.old }
+        ensures stands { pen.entry.core.list ≡ [] → HasWritten result.driver.core.agent result.driver.core.list
+            (K.taken result.driver.record.base.value) (K.taken result.driver.record.out.now)
+            (K.faults result.driver.record.base.value) (K.faults result.driver.record.out.now)
+            result.driver.record.faulted }
+    {
+        Scribe::with(pen, out, Plain)
+    }
+}
+
+impl<'a, K: Sink, X: Expand> Scribe<'a, K, X> {
+    /// A scribe that writes to this sink, and whose searches ask this for the steps of many programs. What is there
+    /// already stays before what it writes. Takes no memory.
+    pub fn with(pen: Pen<'a>, out: &'a mut K, expand: X) -> Scribe<'a, K, X>
         ensures core { result.driver.core ≡ pen.entry.core }
         ensures same_reference { result.driver.record.out.ghost_name ≡ out.entry.ghost_name }
         ensures value { result.driver.record.out.now ≡ out.old }
@@ -49,7 +67,11 @@ impl<'a, K: Sink> Scribe<'a, K> {
             faulted: false,
         };
         Scribe {
-            driver: Driver { core, record },
+            driver: Driver {
+                core,
+                record,
+                expand,
+            },
         }
     }
 
@@ -97,15 +119,20 @@ impl<'a, K: Sink> Scribe<'a, K> {
         ensures same_reference { result.ghost_name ≡ self.entry.driver.record.out.ghost_name }
         ensures value { result.now ≡ self.entry.driver.record.out.now }
     {
-        let Driver { core, record } = self.driver;
+        let Driver {
+            core,
+            record,
+            expand,
+        } = self.driver;
         drop(core);
+        drop(expand);
         record.into_sink()
     }
 }
 
-impl<'a, K: Sink> Lead for Scribe<'a, K> {
+impl<'a, K: Sink, X: Expand> Lead for Scribe<'a, K, X> {
     ghost use Rattle.std.specs.Prelude.{Some};
-    ghost use Rattle.golog_agent.specs.Waiting.{waits};
+    ghost use Rattle.golog_lead.specs.Waiting.{waits};
     ghost use Rattle.golog_agent.specs.Laws.{quiet_goes_on};
     ghost use Rattle.golog_lead.specs.Written.{HasWritten};
 
@@ -140,7 +167,7 @@ impl<'a, K: Sink> Lead for Scribe<'a, K> {
     ghost goes_on = { λ scribe journal quiet. quiet_goes_on scribe.driver.core.agent journal quiet };
 }
 
-impl<'a, K: Sink> RoundLead for Scribe<'a, K> {
+impl<'a, K: Sink, X: Expand> RoundLead for Scribe<'a, K, X> {
     ghost use Rattle.golog_semantics.specs.Inline.{lead};
     ghost use Rattle.golog_semantics.specs.InlineText.{report_of};
     ghost use Rattle.golog_semantics.specs.Online.{IsOnlineSoFar};

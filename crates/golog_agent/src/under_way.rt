@@ -25,6 +25,7 @@ use golog_progress::State;
 use golog_search::Decision;
 use golog_semantics::{Answer, Entry, Mode, Move};
 use golog_tree::{Agent, Prog};
+use golog_ways::Expand;
 use std::alloc::Global;
 use std::marker::Model;
 
@@ -162,12 +163,12 @@ impl<'a> Core<'a> {
 
     // What the program does next, where it certainly ends or steps. It is decided anew only where the values or the
     // program left have changed since.
-    fn ahead(&mut self) -> Result<Option<Decision>, NoMemory>
+    fn ahead<X: Expand>(&mut self, expand: &X) -> Result<Option<Decision>, NoMemory>
         ensures same { self.new ≡ self.old }
         ensures ahead { IfOk result (IsAhead self.old.agent (values_after self.old.agent self.old.list)
             (left_after self.old.agent self.old.list) true) }
     {
-        self.decider.decide(self.alloc)
+        self.decider.decide(self.alloc, expand)
     }
 
     /// Keeps this step, if there is one, which was decided and is not committed.
@@ -182,7 +183,7 @@ impl<'a> Core<'a> {
 
     // What the program is to do, where it waits for no result and there is room. Where it may end, it waits for the
     // results that may still come.
-    fn decided_plan(&mut self) -> Plan
+    fn decided_plan<X: Expand>(&mut self, expand: &X) -> Plan
         requires settled { IsTrue (is_settled self.old.agent self.old.list) }
         requires answered { is_unanswered self.old.agent self.old.list ≡ false }
         requires room { is_full self.old.list ≡ false }
@@ -190,9 +191,9 @@ impl<'a> Core<'a> {
         ensures plan { PlanIs self.old.agent self.old.list result }
     {
         self.keeps_rules();
-        match self.ahead() {
+        match self.ahead(expand) {
             Ok(Some(decision)) => planned(decision, self.may_be_answered()),
-            Ok(None) if self.is_quiet() => self.blocked_plan(),
+            Ok(None) if self.is_quiet() => self.blocked_plan(expand),
             Ok(None) => Plan::Wait,
             Err(_) => Plan::End(Answer::Memory),
         }
@@ -200,7 +201,7 @@ impl<'a> Core<'a> {
 
     // What the program is to do that neither certainly ends nor steps, where no device may post any more: results that
     // are lacking will not come.
-    fn blocked_plan(&self) -> Plan
+    fn blocked_plan<X: Expand>(&self, expand: &X) -> Plan
         requires settled { IsTrue (is_settled self.now.agent self.now.list) }
         requires answered { is_unanswered self.now.agent self.now.list ≡ false }
         requires room { is_full self.now.list ≡ false }
@@ -214,14 +215,14 @@ impl<'a> Core<'a> {
         if self.lacks_results() {
             return Plan::End(Answer::Unanswered);
         }
-        match self.decider.why_blocked(self.alloc) {
+        match self.decider.why_blocked(self.alloc, expand) {
             Ok(decision) => planned(decision, false),
             Err(_) => Plan::End(Answer::Memory),
         }
     }
 
-    /// What the program is to do next.
-    pub(crate) fn plan(&mut self) -> Plan
+    /// What the program is to do next. Where a search has many programs at hand, their steps are asked of this.
+    pub(crate) fn plan<X: Expand>(&mut self, expand: &X) -> Plan
         requires { has_end self.old.list ≡ false }
         ensures same { self.new ≡ self.old }
         ensures plan { PlanIs self.old.agent self.old.list result }
@@ -232,7 +233,7 @@ impl<'a> Core<'a> {
         match self.held {
             Some(command) if self.counts.is_open(command.device) => Plan::Wait,
             Some(_) => Plan::End(Answer::Unanswered),
-            None => self.decided_plan(),
+            None => self.decided_plan(expand),
         }
     }
 }

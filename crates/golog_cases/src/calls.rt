@@ -19,16 +19,18 @@ use std::thread::Threads;
 /// How many bytes a call may write.
 const ROOM: u32 = 13_000_000;
 
-/// Whether the file of this name can be read and what comes of its cases is wanted. Each case is told.
+/// Whether the file that is named can be read and what comes of its cases is wanted. What stands behind the name and
+/// a space are more words for each case. Each case is told.
 pub fn all_so_in<R: Threads + Wait + Sync, F: Files, K: Sink>(
     rt: &R,
     alloc: Global,
     files: &mut F,
     out: &mut K,
-    name: &str,
+    named: &str,
 ) -> bool {
+    let (name, more) = named.split_once(' ').unwrap_or((named, ""));
     match cases_in(alloc, files, name) {
-        Ok(cases) => all_so(rt, alloc, out, cases),
+        Ok(cases) => all_so(rt, alloc, out, cases, more),
         Err(fault) => {
             tell_fault(alloc, out, name, fault);
             false
@@ -54,13 +56,31 @@ fn all_so<R: Threads + Wait + Sync, K: Sink>(
     alloc: Global,
     out: &mut K,
     cases: List<Case>,
+    more: &str,
 ) -> bool {
     let mut are_so = true;
     for case in cases.into_vec() {
-        let is_so = matches!(tried(rt, alloc, out, case), Ok(true));
+        let is_so = matches!(tried_with(rt, alloc, out, case, more), Ok(true));
         are_so = are_so && is_so;
     }
     are_so
+}
+
+/// Whether what comes of a case with more words behind its own is what it wants, which is told.
+fn tried_with<R: Threads + Wait + Sync, K: Sink>(
+    rt: &R,
+    alloc: Global,
+    out: &mut K,
+    mut case: Case,
+    more: &str,
+) -> Result<bool, NoMemory> {
+    match case.add_more(alloc, more) {
+        Ok(()) => tried(rt, alloc, out, case),
+        Err(error) => {
+            drop(case);
+            Err(error)
+        }
+    }
 }
 
 /// What a call answered and wrote.

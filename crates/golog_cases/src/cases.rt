@@ -49,6 +49,20 @@ impl Case {
         })
     }
 
+    /// Puts these words, if there are any, behind its own and behind its name.
+    pub fn add_more(&mut self, alloc: Global, more: &str) -> Result<(), NoMemory> {
+        if more.is_empty() {
+            return Ok(());
+        }
+        self.add_words(alloc, more)?;
+        let told = format!(in alloc; "{}, {more}", self.name.as_str())?;
+        let name = Text::of(alloc, told.as_str());
+        drop(told);
+        let name = name?;
+        drop(mem::replace(&mut self.name, name));
+        Ok(())
+    }
+
     /// Whether a block whose first line begins with this word may stand in a case, which has what it says then.
     fn add(
         &mut self,

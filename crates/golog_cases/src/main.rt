@@ -1,16 +1,18 @@
 //! Calls the interpreter by cases: `golog_cases FILE..`. Each case is told in a line, `NAME: ok`, or with what was
-//! wanted and what came, and so is a file that can't be read, or a line that can't stand where it does. The status is
-//! 0 where all is as it is wanted, and else 1. `CONTRIBUTING.md` says how a case is written.
+//! wanted and what came, and so is a file that can't be read, or a line that can't stand where it does. What stands
+//! behind a file's name and a space in one word with it are more words for each of its cases. The status is 0 where
+//! all is as it is wanted, and else 1. `CONTRIBUTING.md` says how a case is written.
 //!
 //! Its stored run is over the files in `data/`, in the order of `args`: `runs` and `constructs`
-//! (agents without devices), `searches` (search blocks), `limits` (programs that run up to a limit
-//! of the run), `devices` (agents with scripts, and scripts that are refused), `later` (results
-//! that may come later than the program's next steps), `refusals` (agent files of each code, files
-//! above their limit, and files that aren't there), `forms`, `theories` and `programs` (the codes
-//! of the readers, each limit as it is and above), `conditions` (their truths, also where they
-//! grow, and their refusals), `commands` (the commands that run no program, which refusal goes
-//! first, and words that are refused), `journals` (whole runs, and a journal for each rule that is
-//! broken).
+//! (agents without devices), `searches` (search blocks, without workers and with some), `limits`
+//! (programs that run up to a limit of the run), `devices` (agents with scripts, and scripts that
+//! are refused), `later` (results that may come later than the program's next steps), `continued`
+//! (runs that start from a journal, and heads), `refusals` (agent files of each code, files above
+//! their limit, and files that aren't there), `forms`, `theories` and `programs` (the codes of the
+//! readers, each limit as it is and above), `conditions` (their truths, also where they grow, and
+//! their refusals), `commands` (the commands that run no program, which refusal goes first, and
+//! words that are refused), `journals` (whole runs, and a journal for each rule that is broken),
+//! `teams` (two agents, each the other's device).
 #![tactic(auto)]
 
 mod blocks;

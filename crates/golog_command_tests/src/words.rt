@@ -35,31 +35,47 @@ fn commands_are_read(rt: HostRuntime) -> Result<(), NoMemory> {
     let table = [
         (
             "run a",
-            "Run { agent: \"a\", devices: None, inline: false, from: None }",
+            "Run { agent: \"a\", devices: None, inline: false, from: None, workers: None }",
         ),
         (
             "run --inline a",
-            "Run { agent: \"a\", devices: None, inline: true, from: None }",
+            "Run { agent: \"a\", devices: None, inline: true, from: None, workers: None }",
         ),
         (
             "run a d",
-            "Run { agent: \"a\", devices: Some(\"d\"), inline: false, from: None }",
+            "Run { agent: \"a\", devices: Some(\"d\"), inline: false, from: None, workers: None }",
         ),
         (
             "run a --inline d",
-            "Run { agent: \"a\", devices: Some(\"d\"), inline: true, from: None }",
+            "Run { agent: \"a\", devices: Some(\"d\"), inline: true, from: None, workers: None }",
         ),
         (
             "run run check --inline",
-            "Run { agent: \"run\", devices: Some(\"check\"), inline: true, from: None }",
+            "Run { agent: \"run\", devices: Some(\"check\"), inline: true, from: None, workers: None }",
         ),
         (
             "run --from j a",
-            "Run { agent: \"a\", devices: None, inline: false, from: Some(\"j\") }",
+            "Run { agent: \"a\", devices: None, inline: false, from: Some(\"j\"), workers: None }",
         ),
         (
             "run a --inline --from j d",
-            "Run { agent: \"a\", devices: Some(\"d\"), inline: true, from: Some(\"j\") }",
+            "Run { agent: \"a\", devices: Some(\"d\"), inline: true, from: Some(\"j\"), workers: None }",
+        ),
+        (
+            "run a --workers 16",
+            "Run { agent: \"a\", devices: None, inline: false, from: None, workers: Some(16) }",
+        ),
+        (
+            "run --workers 1 a --inline d",
+            "Run { agent: \"a\", devices: Some(\"d\"), inline: true, from: None, workers: Some(1) }",
+        ),
+        (
+            "run a --from j --workers 9 --inline d",
+            "Run { agent: \"a\", devices: Some(\"d\"), inline: true, from: Some(\"j\"), workers: Some(9) }",
+        ),
+        (
+            "run --workers 10 --from 4 4 4",
+            "Run { agent: \"4\", devices: Some(\"4\"), inline: false, from: Some(\"4\"), workers: Some(10) }",
         ),
         ("check check", "Check { agent: \"check\" }"),
         ("replay a j", "Replay { agent: \"a\", journal: \"j\" }"),

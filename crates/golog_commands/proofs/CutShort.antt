@@ -17,10 +17,10 @@ use Rattle.golog_semantics.specs.Execution.{IsOnlineRun, BeginsOnline}
 use Rattle.golog_script.specs.declared.scripts.Script.{Script}
 use Rattle.golog_file.specs.Spelled.{SpellsAgent, IsFirstRefusal}
 use Rattle.golog_lead.proofs.Writing.{and_then-none}
-use Rattle.golog_words.specs.Commands.{CommandLine, run, check, replay, ask, migrate, demo}
+use Rattle.golog_words.specs.Commands.{CommandLine, run, check, replay, ask, migrate, demo, team}
 use Rattle.golog_commands.specs.declared.outcome.Input.TheVariants.{Agent as AgentFile, Devices as DevicesFile, Journal as JournalFile}
 use Rattle.golog_commands.specs.declared.outcome.Outcome.{Outcome}
-use Rattle.golog_commands.specs.declared.outcome.Outcome.TheVariants.{WordsRefused, ReadFault, Refused, Ran, Checked, Judged, Asked, Migrated, Demonstrated}
+use Rattle.golog_commands.specs.declared.outcome.Outcome.TheVariants.{WordsRefused, ReadFault, Refused, Ran, Checked, Judged, Asked, Migrated, Demonstrated, Teamed}
 use Rattle.golog_commands.specs.declared.ready.Told.{Told}
 use Rattle.golog_commands.specs.Inputs.{LeavesValues, ReadsAgent, ReadsStart, SpellsJournal, SpellsScripts, RefusesJournal, RefusesScripts}
 use Rattle.golog_commands.specs.Outcome.{AddsHead, Outside, CallEnds, IsReported, OfFrom, OfScripts, RunOf, Reports, outcome_text, outcome_status}
@@ -62,9 +62,9 @@ module _ (inline : Bool) (before after : Outside) (agent : Agent) (listed : List
       (From from agent) bytes listed read spells comes)
 
   -- what comes of the files is a run
-  is-run : (name : Text) (devices from : Option Text) (outcome : Outcome) → GivesAgent name before after agent → GivesScripts devices before after agent listed
-      → GivesStart from before after agent start → IsCaused (Some (run name devices inline from)) before after outcome → Runs agent listed start outcome
-  is-run name devices from outcome gives scripts begins cause =
+  is-run : (name : Text) (devices from : Option Text) (workers : Option ℕ) (outcome : Outcome) → GivesAgent name before after agent → GivesScripts devices before after agent listed
+      → GivesStart from before after agent start → IsCaused (Some (run name devices inline from workers)) before after outcome → Runs agent listed start outcome
+  is-run name devices from workers outcome gives scripts begins cause =
       of-scripts devices from outcome scripts begins
       (file-spells before after AgentFile name IsFirstRefusal SpellsAgent agents-exclude agents-one outcome
       (λ a. OfScripts before.held before.file_faults after.file_faults a devices (From from a)) gives.bytes agent gives.read gives.spells cause)
@@ -86,6 +86,7 @@ module _ (inline : Bool) (before after : Outside) (agent : Agent) (listed : List
   adds (Asked truth) of prefix = absurd of
   adds (Migrated text) of prefix = absurd of
   adds (Demonstrated text) of prefix = absurd of
+  adds (Teamed text first second) of prefix = absurd of
 
   of-report : (status : ℕ) (outcome : Outcome) → Runs agent listed start outcome
       → Reports status (outcome_text outcome) (outcome_status outcome) before.taken after.taken before.sink_faults after.sink_faults
@@ -171,35 +172,36 @@ nothing-runs : (agent : Agent) (start : Option Values) (old new : Option Text) �
 nothing-runs agent None old new same = nothing-adds agent old new same
 nothing-runs agent (Some values) old new same = inl same
 
-module _ (name : Text) (devices : Option Text) (inline : Bool) (from : Option Text) (before after : Outside) (agent : Agent) (listed : List Script) (start : Option Values)
+module _ (name : Text) (devices : Option Text) (inline : Bool) (from : Option Text) (workers : Option ℕ) (before after : Outside) (agent : Agent) (listed : List Script) (start : Option Values)
     (gives : GivesAgent name before after agent) (scripts : GivesScripts devices before after agent listed) (begun : GivesStart from before after agent start) where
-  reported-begins : (status : ℕ) → IsReported status (Some (run name devices inline from)) before after → AddsBeginning agent start before.taken after.taken
+  reported-begins : (status : ℕ) → IsReported status (Some (run name devices inline from workers)) before after → AddsBeginning agent start before.taken after.taken
   reported-begins status reported =
       of-report inline before after agent listed start status reported.outcome
-      (is-run inline before after agent listed start name devices from reported.outcome gives scripts begun reported.cause) reported.report
+      (is-run inline before after agent listed start name devices from workers reported.outcome gives scripts begun reported.cause) reported.report
 
   starved-begins : (after.taken ≡ before.taken) ⊎ ((inline ≡ false) × AddsHead name from before after) → AddsRun agent start before.taken after.taken
   starved-begins (inl same) = nothing-runs agent start before.taken after.taken same
   starved-begins (inr head) =
       run-adds agent start before.taken after.taken (head-begins name before after agent gives from start begun head.1)
 
-  run-begins : (status : ℕ) → CallEnds status (Some (run name devices inline from)) before after → AddsRun agent start before.taken after.taken
+  run-begins : (status : ℕ) → CallEnds status (Some (run name devices inline from workers)) before after → AddsRun agent start before.taken after.taken
   run-begins status (inl reported) = run-adds agent start before.taken after.taken (reported-begins status reported)
   run-begins status (inr starved) = starved-begins starved.nothing
 
 -- what a run has written, whatever its status
 pub lines-begin : (status : ℕ) (before after : Outside) (spelled : Option CommandLine) → CallEnds status spelled before after → LinesBegin spelled before after
 lines-begin status before after None ends = tt
-lines-begin status before after (Some (run name devices inline from)) ends =
-    λ agent listed start gives scripts begun. run-begins name devices inline from before after agent listed start gives scripts begun status ends
+lines-begin status before after (Some (run name devices inline from workers)) ends =
+    λ agent listed start gives scripts begun. run-begins name devices inline from workers before after agent listed start gives scripts begun status ends
 lines-begin status before after (Some (check name)) ends = tt
 lines-begin status before after (Some (replay name journal)) ends = tt
 lines-begin status before after (Some (ask name journal condition)) ends = tt
 lines-begin status before after (Some (migrate name journal)) ends = tt
 lines-begin status before after (Some (demo size)) ends = tt
+lines-begin status before after (Some (team first second inline)) ends = tt
 
 pub cut_short : CutShortBeginsOnline
-cut_short name devices inline from before after agent listed start gives scripts begun (inl reported) =
-    reported-begins name devices inline from before after agent listed start gives scripts begun 5 reported
-cut_short name devices inline from before after agent listed start gives scripts begun (inr starved) =
+cut_short name devices inline from workers before after agent listed start gives scripts begun (inl reported) =
+    reported-begins name devices inline from workers before after agent listed start gives scripts begun 5 reported
+cut_short name devices inline from workers before after agent listed start gives scripts begun (inr starved) =
     let six = starved.answered in absurd (omega (arith, six))

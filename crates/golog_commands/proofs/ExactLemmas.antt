@@ -1,5 +1,6 @@
 -- The causes exclude one another, and each outcome has one status.
-use Rattle.std.proofs.Common.{◌≡◌, Bool, ℕ, ◌≤◌, List, [], Option, Some, None, Ok, Err, ◌⊎◌, inl, inr, arith, sym, ap, ◌∙◌, refl, subst, IsSome}
+use Rattle.std.proofs.Common.{◌≡◌, Bool, ℕ, zero, suc, ◌==◌, if◌then◌else◌, ◌≤◌, List, [], Option, Some, None, Ok, Err, ◌⊎◌, inl, inr, arith, sym, ap, ◌∙◌, refl, subst, IsSome}
+use Rattle.std.proofs.lemmas.Bool.{ne_eqb}
 use Rattle.golog_base.specs.Faults.{Rose}
 use Rattle.golog_base.specs.Files.{HasNone, FileHas, bytes_of}
 use Rattle.golog_base.specs.Known.{and_then_bytes}
@@ -23,18 +24,21 @@ use Rattle.golog_file.proofs.Answers.{without-theory}
 use Rattle.golog_file.proofs.Excluded.{excluded, one-agent, one-form, theory-same}
 use Rattle.golog_check_text.specs.Counts.{check_text}
 use Rattle.golog_semantics.specs.declared.journal.Verdict.TheVariants.{Online, Not}
-use Rattle.golog_words.specs.Commands.{CommandLine, run, check, replay, ask, migrate, demo}
+use Rattle.golog_team.specs.declared.shape.TeamRefusal.{TeamRefusal}
+use Rattle.golog_team.specs.Shapes.{team_refusal}
+use Rattle.golog_words.specs.Commands.{CommandLine, run, check, replay, ask, migrate, demo, team}
 use Rattle.golog_commands.specs.declared.outcome.Input.{Input}
-use Rattle.golog_commands.specs.declared.outcome.Input.TheVariants.{Agent as AgentFile, Devices as DevicesFile, Journal as JournalFile}
+use Rattle.golog_commands.specs.declared.outcome.Input.TheVariants.{Agent as AgentFile, Devices as DevicesFile, Journal as JournalFile, First, Second}
 use Rattle.golog_commands.specs.declared.outcome.Outcome.{Outcome}
-use Rattle.golog_commands.specs.declared.outcome.Outcome.TheVariants.{WordsRefused, ReadFault, Refused, Ran, Checked, Judged, Asked, Migrated, Demonstrated}
+use Rattle.golog_commands.specs.declared.outcome.Outcome.TheVariants.{WordsRefused, ReadFault, Refused, Ran, Checked, Judged, Asked, Migrated, Demonstrated, Teamed}
 use Rattle.golog_commands.specs.declared.ready.Told.{Told}
-use Rattle.golog_commands.specs.Inputs.{SpellsScripts, RefusesScripts, too_long, of_row, SpellsJournal, RefusesJournal, journal_too_long, of_line, SpellsBoth, Reads, Tells, IsUnread, scripts_for}
+use Rattle.golog_commands.specs.Inputs.{SpellsScripts, RefusesScripts, too_long, of_row, SpellsJournal, RefusesJournal, journal_too_long, of_line, SpellsBoth, Reads, Tells, IsUnread, scripts_for, refusal_text}
+use Rattle.golog_commands.specs.Teams.{IsTeamOf, team_input, team_status}
 use Rattle.golog_commands.specs.Demos.{Demonstrates, demo_text}
 use Rattle.golog_commands.specs.Runs.{IsRunOf}
-use Rattle.golog_commands.specs.Outcome.{ComesOf, unread, refused, holds, LeavesText, MigratedOf, OfFile, OfScripts, OfJournal, OfFrom, OfCondition, RunOf, Judges, TruthOf, Outside, Reports, outcome_text, outcome_status, truth_after, verdict_line, verdict_status}
+use Rattle.golog_commands.specs.Outcome.{ComesOf, unread, refused, holds, LeavesText, MigratedOf, OfFile, OfScripts, OfJournal, OfFrom, OfCondition, TeamBy, TeamOf, RunOf, Judges, TruthOf, Outside, Reports, outcome_text, outcome_status, truth_after, verdict_line, verdict_status}
 use Rattle.golog_commands.proofs.OneVerdict.{one-verdict}
-use Rattle.golog_commands.specs.Exact.{Writes, Shows, SaysItsCause, IsStopped, Answers, Says, IsRead, FileFollows, CondFollows, ScriptsFollow, JournalFollows, FromFollows, RunFollows, DemoFollows, JudgedFollows, TruthFollows, FollowsItsCause, StatusesAreExact}
+use Rattle.golog_commands.specs.Exact.{Writes, Wrote, Shows, SaysItsCause, IsStopped, Answers, Says, IsRead, FileFollows, CondFollows, ScriptsFollow, JournalFollows, FromFollows, RunFollows, DemoFollows, JudgedFollows, TruthFollows, ShowsTeam, TeamFollows, FollowsItsCause, StatusesAreExact}
 use Rattle.golog_commands.proofs.Causes.{IsCaused}
 
 -- ---- what is read
@@ -195,6 +199,24 @@ module _ (status : ℕ) (before after : Outside) where
   ran-follows agent start listed inline (Asked truth) is written ran = absurd ran
   ran-follows agent start listed inline (Migrated text) is written ran = absurd ran
   ran-follows agent start listed inline (Demonstrated text) is written ran = absurd ran
+  ran-follows agent start listed inline (Teamed text first second) is written ran = absurd ran
+
+  -- a team that was played, or refused
+  abbrev Plays : Agent → Agent → Bool → Type 0
+  Plays a b inline = (one : Answer) × (other : Answer) × (status ≡ team_status one other) × Wrote before after (λ text. IsTeamOf a b inline text one other)
+
+  team-played : (a b : Agent) (inline : Bool) (outcome : Outcome) → status ≡ outcome_status outcome → Writes before after (outcome_text outcome)
+      → TeamOf a b inline outcome → Plays a b inline
+  team-played a b inline (Teamed text first second) is written of = (first, second, is, record { text = text; runs = of; written = written })
+  team-played a b inline WordsRefused is written of = absurd of
+  team-played a b inline (ReadFault input) is written of = absurd of
+  team-played a b inline (Refused input text) is written of = absurd of
+  team-played a b inline (Ran text answer) is written of = absurd of
+  team-played a b inline (Checked text) is written of = absurd of
+  team-played a b inline (Judged verdict text) is written of = absurd of
+  team-played a b inline (Asked truth) is written of = absurd of
+  team-played a b inline (Migrated text) is written of = absurd of
+  team-played a b inline (Demonstrated text) is written of = absurd of
 
   module _ (unrefused : SpelledCondIsUnrefused) (one : OneCondIsSpelled) (outcome : Outcome) (shown : status ≡ outcome_status outcome)
       (written : Writes before after (outcome_text outcome)) where
@@ -269,9 +291,31 @@ module _ (status : ℕ) (before after : Outside) where
           },
         )
 
+    team-by : (a b : Agent) (inline : Bool) (r : Option TeamRefusal) → team_refusal a b ≡ r → TeamBy r (TeamOf a b inline) outcome → TeamFollows status before after a b inline
+    team-by a b inline None none of = record {
+      refused = λ s is. let no : None ≡ Some s = sym none ∙ is in absurd (cc);
+      played = λ _. inl (team-played a b inline outcome shown written of);
+    }
+    team-by a b inline (Some r) is refuses = record {
+      refused = λ s other.
+          let same : Some r ≡ Some s = sym is ∙ other in
+          let its : r ≡ s = cc in
+          subst (λ (t : TeamRefusal). Says status 3 (refusal_text (team_input t.side) t.code t.at) before after) its
+          (said (Refused (team_input r.side) (refusal_text (team_input r.side) r.code r.at)) refuses);
+      played = λ none. let no : Some r ≡ None = sym is ∙ none in absurd (cc);
+    }
+
+    team-follows : (a : Agent) (second : Text) (inline : Bool)
+        → OfFile before.held before.file_faults after.file_faults Second second IsFirstRefusal SpellsAgent (λ b. TeamBy (team_refusal a b) (TeamOf a b inline)) outcome
+        → FileFollows status before after IsFirstRefusal SpellsAgent second (λ b. TeamFollows status before after a b inline)
+    team-follows a second inline comes =
+        file-follows before after Second second IsFirstRefusal SpellsAgent agents-exclude agents-one outcome status shown
+        (λ b. TeamBy (team_refusal a b) (TeamOf a b inline)) (λ b. TeamFollows status before after a b inline)
+        (λ b. team-by a b inline (team_refusal a b) refl) comes
+
     follows : (spelled : Option CommandLine) → IsCaused spelled before after outcome → FollowsItsCause status before after spelled
     follows None is = inl (shown ∙ ap outcome_status is)
-    follows (Some (run name named inline from)) comes =
+    follows (Some (run name named inline from workers)) comes =
         file-follows before after AgentFile name IsFirstRefusal SpellsAgent agents-exclude agents-one outcome status shown
         (λ a. OfScripts before.held before.file_faults after.file_faults a named (From a from inline))
         (λ a. ScriptsFollow status before after a named (λ listed. FromFollows status before after a from (λ start. RunFollows status before after a start listed inline)))
@@ -295,6 +339,11 @@ module _ (status : ℕ) (before after : Outside) where
         (λ a. JournalFollows status before after a journal (λ told. Says status 0 (journal_text a (migrated a told.report)) before after))
         (λ a. migrate-follows a journal) comes
     follows (Some (demo size)) comes = demo-follows size comes
+    follows (Some (team first second inline)) comes =
+        file-follows before after First first IsFirstRefusal SpellsAgent agents-exclude agents-one outcome status shown
+        (λ a. OfFile before.held before.file_faults after.file_faults Second second IsFirstRefusal SpellsAgent (λ b. TeamBy (team_refusal a b) (TeamOf a b inline)))
+        (λ a. FileFollows status before after IsFirstRefusal SpellsAgent second (λ b. TeamFollows status before after a b inline))
+        (λ a. team-follows a second inline) comes
 
   module _ (stop : IsStopped status before after) where
     from-stopped : (agent : Agent) (from : Option Text) (inline : Bool) (listed : List Script)
@@ -330,9 +379,15 @@ module _ (status : ℕ) (before after : Outside) where
         (λ told. CondFollows status before after u.theory u.agent condition (λ cond. TruthFollows status before after u.agent told cond)) stop
         (λ told. record { refused = λ code at r. inr stop; spelled = λ cond s. inr stop })
 
+    team-stopped : (a : Agent) (second : Text) (inline : Bool)
+        → FileFollows status before after IsFirstRefusal SpellsAgent second (λ b. TeamFollows status before after a b inline)
+    team-stopped a second inline =
+        file-stopped status before after second IsFirstRefusal SpellsAgent (λ b. TeamFollows status before after a b inline) stop
+        (λ b. record { refused = λ r is. inr stop; played = λ none. inr stop })
+
     stopped : (spelled : Option CommandLine) → FollowsItsCause status before after spelled
     stopped None = inr stop
-    stopped (Some (run name named inline from)) =
+    stopped (Some (run name named inline from workers)) =
         file-stopped status before after name IsFirstRefusal SpellsAgent
         (λ a. ScriptsFollow status before after a named (λ listed. FromFollows status before after a from (λ start. RunFollows status before after a start listed inline))) stop
         (λ a. scripts-stopped a named from inline)
@@ -350,6 +405,10 @@ module _ (status : ℕ) (before after : Outside) where
         file-stopped status before after name IsFirstRefusal SpellsAgent
         (λ a. JournalFollows status before after a journal (λ told. Says status 0 (journal_text a (migrated a told.report)) before after)) stop (λ a. migrate-stopped a journal)
     stopped (Some (demo size)) = inr stop
+    stopped (Some (team first second inline)) =
+        file-stopped status before after first IsFirstRefusal SpellsAgent
+        (λ a. FileFollows status before after IsFirstRefusal SpellsAgent second (λ b. TeamFollows status before after a b inline)) stop
+        (λ a. team-stopped a second inline)
 
 -- ---- a status only where its cause is
 
@@ -384,7 +443,8 @@ module _ (status : ℕ) (spelled : Option CommandLine) (before after : Outside) 
   }
 
   starved_says : status ≡ 6
-      → IsSome spelled × (LeavesText spelled before after ⊎ ((text : Text) × Shows status spelled before after (Ran text Memory)))
+      → IsSome spelled
+      × (LeavesText spelled before after ⊎ ((text : Text) × Shows status spelled before after (Ran text Memory)) ⊎ ShowsTeam status spelled before after)
       → SaysItsCause status spelled before after
   starved_says is cause = record {
     words_refused = λ two. absurd (omega (arith, is, two));
@@ -433,14 +493,15 @@ module _ (status : ℕ) (spelled : Option CommandLine) (before after : Outside) 
     served = λ none. absurd (omega (arith, is, none));
   }
 
-  ran_says : (text : Text) (answer : Answer) → Shows status spelled before after (Ran text answer) → 10 ≤ status → status ≤ 16 → SaysItsCause status spelled before after
-  ran_says text answer shows more less = record {
+  ran_says : ((text : Text) × (answer : Answer) × Shows status spelled before after (Ran text answer)) ⊎ ShowsTeam status spelled before after
+      → 10 ≤ status → status ≤ 16 → SaysItsCause status spelled before after
+  ran_says shows more less = record {
     words_refused = λ two. absurd (omega (arith, more, two));
     refused = λ three. absurd (omega (arith, more, three));
     read_fault = λ four. absurd (omega (arith, more, four));
     write_fault = λ five. absurd (omega (arith, more, five));
     starved = λ six. absurd (omega (arith, more, six));
-    ran = λ within. (text, answer, shows);
+    ran = λ within. shows;
     not_online = λ seventeen. absurd (omega (arith, less, seventeen));
     served = λ none. absurd (omega (arith, more, none));
   }
@@ -490,9 +551,13 @@ module _ (before after : Outside) where
   not-scripts agent None from inline comes = not-from agent from inline [] comes
   not-scripts agent (Some file) from inline comes = not-words comes (not-from agent from inline)
 
+  not-team : (a b : Agent) (inline : Bool) (r : Option TeamRefusal) → TeamBy r (TeamOf a b inline) WordsRefused → ⊥
+  not-team a b inline None of = of
+  not-team a b inline (Some r) is = cc
+
   refused-words : (spelled : Option CommandLine) → IsCaused spelled before after WordsRefused → spelled ≡ None
   refused-words None cause = refl
-  refused-words (Some (run name named inline from)) cause = absurd (not-words cause (λ agent comes. not-scripts agent named from inline comes))
+  refused-words (Some (run name named inline from workers)) cause = absurd (not-words cause (λ agent comes. not-scripts agent named from inline comes))
   refused-words (Some (check name)) cause = absurd (not-words cause (λ agent is. cc))
   refused-words (Some (replay name journal)) cause =
       absurd (not-words cause (λ agent comes. not-words comes (λ told judges. let is = judges.is in cc)))
@@ -500,6 +565,8 @@ module _ (before after : Outside) where
       absurd (not-words cause (λ u comes. not-words comes (λ told also. not-words also (λ cond is. cc))))
   refused-words (Some (migrate name journal)) cause = absurd (not-words cause (λ agent comes. not-words comes (λ told is. cc)))
   refused-words (Some (demo size)) cause = let is = cause.is in absurd (cc)
+  refused-words (Some (team first second inline)) cause =
+      absurd (not-words cause (λ a comes. not-words comes (λ b t. not-team a b inline (team_refusal a b) t)))
 
   some-command : (spelled : Option CommandLine) (outcome : Outcome) → (outcome ≡ WordsRefused → ⊥) → IsCaused spelled before after outcome → IsSome spelled
   some-command None outcome never cause = absurd (never cause)
@@ -507,12 +574,39 @@ module _ (before after : Outside) where
 
 module _ (status : ℕ) (spelled : Option CommandLine) (before after : Outside) where
   run-says : (text : Text) (answer : Answer) → Shows status spelled before after (Ran text answer) → RunStatus answer → SaysItsCause status spelled before after
-  run-says text answer shows (is_done zero) = served_says status spelled before after (Ran text answer) (shows.shown ∙ zero) shows
+  run-says text answer shows (is_done none) = served_says status spelled before after (Ran text answer) (shows.shown ∙ none) shows
   run-says text answer shows (is_out is) =
       starved_says status spelled before after (shows.shown ∙ ap answer_status is)
-      (some-command before after spelled (Ran text answer) (λ e. absurd (cc)) shows.cause, inr (text, subst (λ a. Shows status spelled before after (Ran text a)) is shows))
+      (some-command before after spelled (Ran text answer) (λ e. absurd (cc)) shows.cause, inr (inl (text, subst (λ a. Shows status spelled before after (Ran text a)) is shows)))
   run-says text answer shows (is_other more less) =
-      ran_says status spelled before after text answer shows (let is = shows.shown in omega (arith, is, more)) (let is = shows.shown in omega (arith, is, less))
+      ran_says status spelled before after (inl (text, answer, shows)) (let is = shows.shown in omega (arith, is, more)) (let is = shows.shown in omega (arith, is, less))
+
+  -- the status of a team
+  of-second : (n m : ℕ) → n ≡ 0 → (if n == 0 then m else n) ≡ m
+  of-second zero m none = refl
+  of-second (suc n) m none = absurd (omega (arith, none))
+
+  of-first : (n m : ℕ) → 1 ≤ n → (if n == 0 then m else n) ≡ n
+  of-first n m some = ap (λ b. if b then m else n) (ne_eqb n 0 (λ none. omega (arith, some, none)))
+
+  -- a team whose status is that of this answer
+  team-says : (text : Text) (one other answer : Answer) → Shows status spelled before after (Teamed text one other) → status ≡ answer_status answer → RunStatus answer
+      → SaysItsCause status spelled before after
+  team-says text one other answer shows shown (is_done zero') = served_says status spelled before after (Teamed text one other) (shown ∙ zero') shows
+  team-says text one other answer shows shown (is_out is) =
+      starved_says status spelled before after (shown ∙ ap answer_status is)
+      (some-command before after spelled (Teamed text one other) (λ e. absurd (cc)) shows.cause, inr (inr (text, one, other, shows)))
+  team-says text one other answer shows shown (is_other more less) =
+      ran_says status spelled before after (inr (text, one, other, shows)) (omega (arith, shown, more)) (omega (arith, shown, less))
+
+  team-told : (text : Text) (one other : Answer) → Shows status spelled before after (Teamed text one other) → RunStatus one → SaysItsCause status spelled before after
+  team-told text one other shows (is_done none) =
+      team-says text one other other shows (shows.shown ∙ of-second (answer_status one) (answer_status other) none) (run_status other)
+  team-told text one other shows (is_out is) =
+      let six : answer_status one ≡ 6 = ap answer_status is in
+      team-says text one other one shows (shows.shown ∙ of-first (answer_status one) (answer_status other) (omega (arith, six))) (is_out is)
+  team-told text one other shows (is_other more less) =
+      team-says text one other one shows (shows.shown ∙ of-first (answer_status one) (answer_status other) (omega (arith, more))) (is_other more less)
 
   says : (outcome : Outcome) → Shows status spelled before after outcome → SaysItsCause status spelled before after
   says WordsRefused shows = words_say status spelled before after shows.shown (refused-words before after spelled shows.cause)
@@ -525,6 +619,7 @@ module _ (status : ℕ) (spelled : Option CommandLine) (before after : Outside) 
   says (Asked truth) shows = served_says status spelled before after (Asked truth) shows.shown shows
   says (Migrated text) shows = served_says status spelled before after (Migrated text) shows.shown shows
   says (Demonstrated text) shows = served_says status spelled before after (Demonstrated text) shows.shown shows
+  says (Teamed text one other) shows = team-told text one other shows (run_status one)
 
 -- ---- both
 

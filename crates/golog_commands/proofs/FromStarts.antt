@@ -1,7 +1,7 @@
 -- Agents that start from other values: what has a text has one from these too, and the values that a journal leaves are
 -- in their sorts.
 use Rattle.std.proofs.Common.{◌≡◌, ◌∙◌, ◌<◌, Bool, ◌&&◌, true, false, is_some, List, [], ◌∷◌, Option, Some, None, Result, Ok, Err, IfOk, ap, refl, sym, subst, length, arith, lt-ltb, ltb-true, All}
-use Rattle.std.specs.Prelude.{IfErr, IfSome, IsTrue, MatchResult, OnOk, fold, nat_lt, take, unwrap_or}
+use Rattle.std.specs.Prelude.{IfErr, IfSome, IsTrue, MatchResult, fold, nat_lt, take, unwrap_or}
 use Rattle.golog_base.specs.declared.mem_files.HeldFile.{HeldFile}
 use Rattle.golog_tree.specs.declared.agent.Agent.{Agent}
 use Rattle.golog_tree.specs.declared.agent.FluentItem.{FluentItem}
@@ -29,7 +29,7 @@ use Rattle.golog_commands.specs.declared.ready.Told.{Told}
 use Rattle.golog_commands.specs.declared.ready.Unready.{Unready}
 use Rattle.golog_commands.specs.declared.ready.Unready.TheVariants.{Memory}
 use Rattle.golog_commands.specs.Inputs.{LeavesValues, Reads, ReadsAgent, ReadsScripts, ReadsStart, SpellsJournal}
-use Rattle.golog_commands.specs.Outcome.{HoldsRun, IfEnded}
+use Rattle.golog_commands.specs.Outcome.{BeginsFrom, HoldsRun, IfEnded}
 
 -- a report of the agent that starts from these values is one of the agent with this start
 pub from-start : (agent : Agent) (start : Option Values) (report : Report) → IfSome start (AreInSorts agent)
@@ -96,11 +96,6 @@ cond-again agent (Some values) cond fits = fits
 
 -- ---- the agent after a call that restarts it
 
-pub restarted-ok : {A E : Type 0} (r : Result A E) (old new : Agent) (values : Values) → MatchResult r (λ _. new ≡ restarted old values) (λ _. new ≡ old)
-    → OnOk r (new ≡ restarted old values)
-restarted-ok (Ok x) old new values is = is
-restarted-ok (Err e) old new values is = tt
-
 pub restarted-sorts : {A E : Type 0} (r : Result A E) (old new : Agent) (values : Values) → MatchResult r (λ _. new ≡ restarted old values) (λ _. new ≡ old)
     → AreInSorts old values → AreInSorts new values
 restarted-sorts (Ok x) old new values is sorts = subst (λ a. AreInSorts a values) (sym is) (sorts-again old (Some values) values sorts)
@@ -156,28 +151,26 @@ values-left-by held name agent told (Err fault) reads left = tt
 
 -- what a run holds whose files were read
 pub run-held : (held : Option (List HeldFile)) (name : Text) (named from : Option Text) (own : Agent) (r : Result Ready Unready) → WellFormed own → ReadsAgent held name own
-    → IfOk r (λ ready. All HasTexts ready.scripts) → IfOk r (λ ready. ReadsScripts held own named ready.scripts) → IfOk r (λ ready. WellFormed ready.agent)
-    → IfOk r (λ ready. ready.agent ≡ started own ready.start) → IfOk r (λ ready. IfSome ready.start (AreInSorts own)) → IfOk r (λ ready. IfSome ready.start (AreInSorts ready.agent))
-    → IfOk r (λ ready. ReadsStart held own from ready.start) → IfOk r (HoldsRun held name named from)
-run-held held name named from own (Ok ready) own_formed reads texts scripts formed is sorts kept start = record {
-  own = own;
-  own_formed = own_formed;
+    → IfOk r (λ ready. All HasTexts ready.scripts) → IfOk r (λ ready. ReadsScripts held own named ready.scripts) → IfOk r (BeginsFrom held own from)
+    → IfOk r (HoldsRun held name named from)
+run-held held name named from own (Ok ready) own_formed reads texts scripts begins =
+    record { own = own; own_formed = own_formed; agent_so = reads; scripts_so = scripts; texts = texts; begins = begins }
+run-held held name named from own (Err fault) own_formed reads texts scripts begins = tt
+
+-- what was restarted at the values that were read begins from them
+pub begins-so : (held : Option (List HeldFile)) (own : Agent) (from : Option Text) (start : Option Values) (r : Result Ready Unready) → ReadsStart held own from start
+    → IfSome start (AreInSorts own) → IfOk r (λ ready. ready.start ≡ start) → IfOk r (λ ready. ready.agent ≡ started own ready.start) → IfOk r (λ ready. WellFormed ready.agent)
+    → IfOk r (λ ready. IfSome ready.start (AreInSorts ready.agent)) → IfOk r (BeginsFrom held own from)
+begins-so held own from start (Ok ready) reads sorts same is formed kept = record {
+  start_so = subst (ReadsStart held own from) (sym same) reads;
+  sorts = subst (λ (s : Option Values). IfSome s (AreInSorts own)) (sym same) sorts;
   is = is;
-  sorts = sorts;
   formed = formed;
   kept = kept;
-  texts = texts;
-  agent_so = reads;
-  scripts_so = scripts;
-  start_so = start;
 }
-run-held held name named from own (Err fault) own_formed reads texts scripts formed is sorts kept start = tt
+begins-so held own from start (Err fault) reads sorts same is formed kept = tt
 
--- what is so of the scripts and of the start that were read is so of those that are ready
+-- what is so of the scripts that were read is so of those that are ready
 pub scripts-ready : (P : List Script → Type 0) (listed : List Script) (r : Result Ready Unready) → P listed → IfOk r (λ ready. ready.scripts ≡ listed) → IfOk r (λ ready. P ready.scripts)
 scripts-ready P listed (Ok ready) so is = subst P (sym is) so
 scripts-ready P listed (Err fault) so is = tt
-
-pub start-ready : (P : Option Values → Type 0) (start : Option Values) (r : Result Ready Unready) → P start → IfOk r (λ ready. ready.start ≡ start) → IfOk r (λ ready. P ready.start)
-start-ready P start (Ok ready) so is = subst P (sym is) so
-start-ready P start (Err fault) so is = tt

@@ -6,11 +6,11 @@ use Rattle.golog_semantics.specs.Restart.{started, values_left}
 use Rattle.golog_semantics.specs.Text.{Text}
 use Rattle.golog_semantics.specs.Truth.{Values}
 use Rattle.golog_script.specs.declared.scripts.Script.{Script}
-use Rattle.golog_words.specs.Commands.{CommandLine, run, check, replay, ask, migrate, demo}
+use Rattle.golog_words.specs.Commands.{CommandLine, run, check, replay, ask, migrate, demo, team}
 use Rattle.golog_commands.specs.declared.outcome.Input.{Input}
 use Rattle.golog_commands.specs.declared.outcome.Input.TheVariants.{Agent as AgentFile, Devices as DevicesFile, Journal as JournalFile}
 use Rattle.golog_commands.specs.declared.outcome.Outcome.{Outcome}
-use Rattle.golog_commands.specs.declared.outcome.Outcome.TheVariants.{WordsRefused, ReadFault, Refused, Ran, Checked, Judged, Asked, Migrated, Demonstrated}
+use Rattle.golog_commands.specs.declared.outcome.Outcome.TheVariants.{WordsRefused, ReadFault, Refused, Ran, Checked, Judged, Asked, Migrated, Demonstrated, Teamed}
 use Rattle.golog_commands.specs.Exact.{IfRun, IsRunStatus, Writes}
 use Rattle.golog_commands.specs.InWorlds.{PrintsWhatIsSo, RunsAreSo}
 use Rattle.golog_commands.specs.Inputs.{ReadsAgent, ReadsStart}
@@ -50,6 +50,7 @@ module _ (status : ℕ) (before after : Outside) (ran : IsRunStatus status) wher
   printed name agent from start inline listed (Asked truth) reads begins written of = absurd of
   printed name agent from start inline listed (Migrated text) reads begins written of = absurd of
   printed name agent from start inline listed (Demonstrated text) reads begins written of = absurd of
+  printed name agent from start inline listed (Teamed text first second) reads begins written of = absurd of
 
   module _ (outcome : Outcome) (shown : status ≡ outcome_status outcome) (written : Writes before after (outcome_text outcome)) where
     -- neither a fault nor a refusal has the status of a run
@@ -75,21 +76,23 @@ module _ (status : ℕ) (before after : Outside) (ran : IsRunStatus status) wher
     of-scripts name agent (Some file) from inline reads (refused text is r) = no-refusal DevicesFile text is
     of-scripts name agent (Some file) from inline reads (holds listed held of) = of-from name agent from inline listed reads of
 
-    of-run : (name : Text) (named : Option Text) (inline : Bool) (from : Option Text) → IsCaused (Some (run name named inline from)) before after outcome
+    of-run : (name : Text) (named : Option Text) (inline : Bool) (from : Option Text) (workers : Option ℕ)
+        → IsCaused (Some (run name named inline from workers)) before after outcome
         → PrintsWhatIsSo before after name from
-    of-run name named inline from (unread is u) = no-fault AgentFile is
-    of-run name named inline from (refused text is r) = no-refusal AgentFile text is
-    of-run name named inline from (holds agent reads comes) = of-scripts name agent named from inline reads comes
+    of-run name named inline from workers (unread is u) = no-fault AgentFile is
+    of-run name named inline from workers (refused text is r) = no-refusal AgentFile text is
+    of-run name named inline from workers (holds agent reads comes) = of-scripts name agent named from inline reads comes
 
     of-command : (spelled : Option CommandLine) → IsCaused spelled before after outcome
         → IfRun spelled (λ agent devices inline from. PrintsWhatIsSo before after agent from)
     of-command None is = low status 2 (shown ∙ ap outcome_status is) (omega arith) (omega arith) ran
-    of-command (Some (run name named inline from)) comes = of-run name named inline from comes
+    of-command (Some (run name named inline from workers)) comes = of-run name named inline from workers comes
     of-command (Some (check name)) comes = tt
     of-command (Some (replay name journal)) comes = tt
     of-command (Some (ask name journal condition)) comes = tt
     of-command (Some (migrate name journal)) comes = tt
     of-command (Some (demo size)) comes = tt
+    of-command (Some (team first second inline)) comes = tt
 
   of-report : (spelled : Option CommandLine) (outcome : Outcome) → IsCaused spelled before after outcome
       → Reports status (outcome_text outcome) (outcome_status outcome) before.taken after.taken before.sink_faults after.sink_faults

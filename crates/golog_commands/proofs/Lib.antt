@@ -11,3 +11,4 @@ pub mod Inlined
 pub mod Reported
 pub mod Reporting
 pub mod DemoLemmas
+pub mod TeamLemmas

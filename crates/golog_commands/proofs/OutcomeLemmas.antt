@@ -2,7 +2,7 @@
 use Rattle.std.proofs.Common.{◌≡◌, Bool, ℕ, ◌+◌, ◌<◌, ◌≤◌, List, [], Option, Some, None, Result, Ok, Err, IfOk, length, replicate, refl, sym, ap, ◌∙◌, subst, inl, inr, arith}
 use Rattle.std.specs.Prelude.{IsSomeAnd}
 use Rattle.std.proofs.lemmas.List.{length-replicate}
-use Rattle.golog_base.specs.Files.{FileHas}
+use Rattle.golog_base.specs.Files.{FileHas, file_limit}
 use Rattle.golog_base.specs.declared.mem_files.HeldFile.{HeldFile}
 use Rattle.golog_tree.specs.declared.agent.Agent.{Agent}
 use Rattle.golog_tree.specs.declared.cond.Cond.{Cond}
@@ -161,9 +161,11 @@ both-come held name first later after journal Next u (Ok outcome) grows reads ne
     holds u reads (file-since JournalFile held journal first later after (RefusesJournal u.agent) (SpellsJournal u.agent) (Next u) outcome grows next)
 both-come held name first later after journal Next u (Err e) grows reads next = next
 
-pub agent-bytes : (held : Option (List HeldFile)) (name : Text) (before after : ℕ) (fault : Unready) → IfEnded fault (FileFails AgentFile (IsTooLong AgentFile) held name before after)
-    → IfEnded fault (FileFails AgentFile IsFirstRefusal held name before after)
-agent-bytes held name before after = bytes-fail AgentFile held name before after IsFirstRefusal (λ told long. of_bytes 5 1048576 (inl (long, refl, refl)))
+pub agent-bytes : (input : Input) (held : Option (List HeldFile)) (name : Text) (before after : ℕ) (fault : Unready) → input_limit input ≡ file_limit
+    → IfEnded fault (FileFails input (IsTooLong input) held name before after) → IfEnded fault (FileFails input IsFirstRefusal held name before after)
+agent-bytes input held name before after fault is =
+    bytes-fail input held name before after IsFirstRefusal
+    (λ told long. subst (λ k. IsFirstRefusal told 5 k) (sym is) (of_bytes 5 1048576 (inl (subst (λ k. k < length told) is long, refl, refl)))) fault
 
 pub scripts-bytes : (agent : Agent) (held : Option (List HeldFile)) (name : Text) (before after : ℕ) (fault : Unready)
     → IfEnded fault (FileFails DevicesFile (IsTooLong DevicesFile) held name before after) → IfEnded fault (FileFails DevicesFile (RefusesScripts agent) held name before after)
@@ -252,21 +254,21 @@ module _ (held : Option (List HeldFile)) (first now : ℕ) where
 
   -- ---- runs
 
-  module _ (olds news : List Standing) (name : Text) (named : Option Text) (inline : Bool) (from : Option Text) where
+  module _ (olds news : List Standing) (name : Text) (named : Option Text) (inline : Bool) (from : Option Text) (workers : Option ℕ) where
     abbrev Runs : Agent → List Script → Option Values → Outcome → Type 0
     Runs a listed start = RunOf a start listed inline olds news
 
     -- what a run of what the files hold comes to
     pub run-comes : (ready : Ready) (has : HoldsRun held name named from ready) (outcome : Outcome) → Runs has.own ready.scripts ready.start outcome
-        → Comes held first now olds news (Some (run name named inline from)) outcome
+        → Comes held first now olds news (Some (run name named inline from workers)) outcome
     run-comes ready has outcome ran =
         holds has.own has.agent_so
         (scripts-hold has.own named ready.scripts (λ listed. OfFrom held first now has.own from (Runs has.own listed)) outcome has.scripts_so
-        (from-holds has.own from ready.start (Runs has.own ready.scripts) outcome has.start_so ran))
+        (from-holds has.own from ready.start (Runs has.own ready.scripts) outcome has.begins.start_so ran))
 
     -- what comes of files that hold no run
     pub never-comes : (outcome : Outcome) → OfAgent held first now name (λ a. OfScripts held first now a named (λ l. OfFrom held first now a from Never)) outcome
-        → Comes held first now olds news (Some (run name named inline from)) outcome
+        → Comes held first now olds news (Some (run name named inline from workers)) outcome
     never-comes outcome comes =
         comes-so AgentFile (IsUnread held name first now) (λ text. Reads held name (λ bytes. Tells AgentFile (IsFirstRefusal bytes) text)) (ReadsAgent held name)
         (λ a. OfScripts held first now a named (λ l. OfFrom held first now a from Never))

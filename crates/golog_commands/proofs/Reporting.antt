@@ -8,7 +8,7 @@ use Rattle.golog_semantics.specs.Restart.{started}
 use Rattle.golog_semantics.specs.Text.{Text, head_text, report_text}
 use Rattle.golog_semantics.specs.Truth.{Values}
 use Rattle.golog_device.specs.Slots.{Standing}
-use Rattle.golog_words.specs.Commands.{CommandLine, run, check, replay, ask, migrate, demo}
+use Rattle.golog_words.specs.Commands.{CommandLine, run, check, replay, ask, migrate, demo, team}
 use Rattle.golog_commands.specs.declared.outcome.Outcome.{Outcome}
 use Rattle.golog_commands.specs.declared.outcome.Outcome.TheVariants.{WordsRefused, Ran}
 use Rattle.golog_commands.specs.declared.ready.Ready.{Ready}
@@ -77,15 +77,15 @@ module _ (before after : Outside) where
 
   -- ---- a run
 
-  module _ (name : Text) (named : Option Text) (inline : Bool) (from : Option Text) where
+  module _ (name : Text) (named : Option Text) (inline : Bool) (from : Option Text) (workers : Option ℕ) where
     -- why its files hold none
     pub unready-reported : {F : Type 0} (fault : Unready) (s : Result ℕ F)
         → IfEnded fault (OfAgent before.held before.file_faults after.file_faults name (λ a. OfScripts before.held before.file_faults after.file_faults a named (λ listed. OfFrom before.held before.file_faults after.file_faults a from Never)))
         → after.devices ≡ before.devices → ReportsUnready fault s before.taken after.taken before.sink_faults after.sink_faults
-        → IfOk s (λ status. IsReported status (Some (run name named inline from)) before after)
+        → IfOk s (λ status. IsReported status (Some (run name named inline from workers)) before after)
     unready-reported (Ended outcome) (Ok status) ended same reports = record {
       outcome = outcome;
-      cause = never-comes before.held before.file_faults after.file_faults before.devices after.devices name named inline from outcome ended;
+      cause = never-comes before.held before.file_faults after.file_faults before.devices after.devices name named inline from workers outcome ended;
       untouched = λ none. same;
       report = reports;
     }
@@ -99,22 +99,22 @@ module _ (before after : Outside) where
           WritesReport (IsReportOf ready.agent (scripts_for ready.agent ready.scripts) inline before.devices after.devices) ready.agent (head_of ready.agent ready.start)
           before.taken after.taken before.sink_faults after.sink_faults
 
-      run-reported : (status : ℕ) → Reports-it status → IsReported status (Some (run name named inline from)) before after
+      run-reported : (status : ℕ) → Reports-it status → IsReported status (Some (run name named inline from workers)) before after
       run-reported status writes =
           let text = head_of ready.agent ready.start ++ report_text ready.agent writes.report in
           let ran =
-          ready-run has.own ready.agent ready.start has.is ready.scripts inline before.devices after.devices writes.report text writes.answer has.formed has.sorts writes.so refl
+          ready-run has.own ready.agent ready.start has.begins.is ready.scripts inline before.devices after.devices writes.report text writes.answer has.begins.formed has.begins.sorts writes.so refl
           writes.ended in
           record {
             outcome = Ran text writes.answer;
             cause =
-                run-comes before.held before.file_faults after.file_faults before.devices after.devices name named inline from ready has (Ran text writes.answer) ran;
+                run-comes before.held before.file_faults after.file_faults before.devices after.devices name named inline from workers ready has (Ran text writes.answer) ran;
             untouched = λ none. let no : true ≡ false = none in absurd (cc);
             report = writes.written;
           }
 
       -- the run of what they hold
-      pub runs-reported : {E : Type 0} (r : Result ℕ E) → IfOk r Reports-it → IfOk r (λ status. IsReported status (Some (run name named inline from)) before after)
+      pub runs-reported : {E : Type 0} (r : Result ℕ E) → IfOk r Reports-it → IfOk r (λ status. IsReported status (Some (run name named inline from workers)) before after)
       runs-reported (Ok status) writes = run-reported status writes
       runs-reported (Err e) writes = tt
 
@@ -136,13 +136,13 @@ module _ (before after : Outside) where
           → (after.taken ≡ before.taken) ⊎ AddsHead name from before after
       none-or-head (inl same) = inl same
       none-or-head (inr added) =
-          head-left has.own ready.start has.start_so has.sorts has.agent_so
-          (added ∙ ap (and_then_bytes before.taken) (ap (λ a. head_of a ready.start) has.is ∙ own-head has.own ready.start))
+          head-left has.own ready.start has.begins.start_so has.begins.sorts has.agent_so
+          (added ∙ ap (and_then_bytes before.taken) (ap (λ a. head_of a ready.start) has.begins.is ∙ own-head has.own ready.start))
 
       -- what is left of a run over threads for which memory was wanting
       pub left-written : {E : Type 0} (r : Result ℕ E) → inline ≡ false
           → OnErr r (WritesHead (head_of ready.agent ready.start) before.taken after.taken before.sink_faults after.sink_faults)
-          → OnErr r (LeavesText (Some (run name named inline from)) before after)
+          → OnErr r (LeavesText (Some (run name named inline from workers)) before after)
       left-written (Ok status) over_threads writes = tt
       left-written (Err e) over_threads writes = threads (none-or-head writes.0)
         where
@@ -160,22 +160,24 @@ on-err (Err e) P so = so
 -- devices to which nothing was done
 pub left-alone : (spelled : Option CommandLine) (standings : List Standing) → LeavesDevices spelled standings standings
 left-alone None standings = tt
-left-alone (Some (run name named inline from)) standings = none-served standings
+left-alone (Some (run name named inline from workers)) standings = none-served standings
 left-alone (Some (check name)) standings = refl
 left-alone (Some (replay name journal)) standings = refl
 left-alone (Some (ask name journal condition)) standings = refl
 left-alone (Some (migrate name journal)) standings = refl
 left-alone (Some (demo size)) standings = tt
+left-alone (Some (team first second inline)) standings = refl
 
 -- nothing that was written
 pub none-written : (spelled : Option CommandLine) (before after : Outside) → after.taken ≡ before.taken → LeavesText spelled before after
 none-written None before after same = same
-none-written (Some (run name named inline from)) before after same = inl same
+none-written (Some (run name named inline from workers)) before after same = inl same
 none-written (Some (check name)) before after same = same
 none-written (Some (replay name journal)) before after same = same
 none-written (Some (ask name journal condition)) before after same = same
 none-written (Some (migrate name journal)) before after same = same
 none-written (Some (demo size)) before after same = same
+none-written (Some (team first second inline)) before after same = same
 
 pub nothing-left : {E : Type 0} (spelled : Option CommandLine) (before after : Outside) (r : Result ℕ E)
     → OnErr r (WritesNothing before.taken after.taken before.sink_faults after.sink_faults) → OnErr r (LeavesText spelled before after)

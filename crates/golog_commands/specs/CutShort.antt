@@ -1,5 +1,5 @@
 -- What a run has written, whole or not.
-use Rattle.std.specs.Prelude.{◌≡◌, ◌⊎◌, ⊤, Bool, Option, None, Some, List, []}
+use Rattle.std.specs.Prelude.{◌≡◌, ◌⊎◌, ⊤, ℕ, Bool, Option, None, Some, List, []}
 use Rattle.golog_base.specs.Known.{and_then_bytes}
 use Rattle.golog_tree.specs.declared.agent.Agent.{Agent}
 use Rattle.golog_semantics.specs.Text.{Text}
@@ -9,7 +9,7 @@ use Rattle.golog_semantics.specs.Restart.{started}
 use Rattle.golog_semantics.specs.Truth.{Values}
 use Rattle.golog_script.specs.declared.scripts.Script.{Script}
 use Rattle.golog_file.specs.Spelled.{SpellsAgent}
-use Rattle.golog_words.specs.Commands.{CommandLine, run, check, replay, ask, migrate, demo}
+use Rattle.golog_words.specs.Commands.{CommandLine, run, check, replay, ask, migrate, demo, team}
 use Rattle.golog_commands.specs.Inputs.{LeavesValues, SpellsScripts}
 use Rattle.golog_commands.specs.Outcome.{Outside, CallEnds}
 use Rattle.golog_commands.specs.Exact.{IsRead}
@@ -50,7 +50,7 @@ GivesStart (Some name) before after agent start =
 -- was written, whatever the status: all of it, a part where a write failed, or nothing.
 abbrev pub LinesBegin : Option CommandLine → Outside → Outside → Type 0
 LinesBegin None before after = ⊤
-LinesBegin (Some (run name devices inline from)) before after =
+LinesBegin (Some (run name devices inline from workers)) before after =
     (agent : Agent) (listed : List Script) (start : Option Values) → GivesAgent name before after agent
     → GivesScripts devices before after agent listed → GivesStart from before after agent start
     → AddsRun agent start before.taken after.taken
@@ -59,12 +59,13 @@ LinesBegin (Some (replay name journal)) before after = ⊤
 LinesBegin (Some (ask name journal condition)) before after = ⊤
 LinesBegin (Some (migrate name journal)) before after = ⊤
 LinesBegin (Some (demo size)) before after = ⊤
+LinesBegin (Some (team first second inline)) before after = ⊤
 
 -- where the files of a run spell an agent, scripts and a start, this is so of each call that ends as a write failed
 abbrev pub CutShortBeginsOnline : Type 0
 CutShortBeginsOnline =
-    (name : Text) (devices : Option Text) (inline : Bool) (from : Option Text) (before after : Outside)
+    (name : Text) (devices : Option Text) (inline : Bool) (from : Option Text) (workers : Option ℕ) (before after : Outside)
     (agent : Agent) (listed : List Script) (start : Option Values) → GivesAgent name before after agent
     → GivesScripts devices before after agent listed → GivesStart from before after agent start
-    → CallEnds 5 (Some (run name devices inline from)) before after
+    → CallEnds 5 (Some (run name devices inline from workers)) before after
     → AddsBeginning agent start before.taken after.taken

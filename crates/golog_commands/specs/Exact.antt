@@ -21,12 +21,15 @@ use Rattle.golog_check_text.specs.Counts.{check_text}
 use Rattle.golog_semantics.specs.Verdicts.{VerdictIs}
 use Rattle.golog_semantics.specs.declared.journal.Verdict.{Verdict}
 use Rattle.golog_semantics.specs.declared.journal.Verdict.TheVariants.{Not}
-use Rattle.golog_words.specs.Commands.{CommandLine, run, check, replay, ask, migrate, demo}
+use Rattle.golog_team.specs.declared.shape.TeamRefusal.{TeamRefusal}
+use Rattle.golog_team.specs.Shapes.{team_refusal}
+use Rattle.golog_words.specs.Commands.{CommandLine, run, check, replay, ask, migrate, demo, team}
 use Rattle.golog_commands.specs.declared.outcome.Input.{Input}
 use Rattle.golog_commands.specs.declared.outcome.Outcome.{Outcome}
-use Rattle.golog_commands.specs.declared.outcome.Outcome.TheVariants.{ReadFault, Refused, Ran, Judged, Demonstrated}
+use Rattle.golog_commands.specs.declared.outcome.Outcome.TheVariants.{ReadFault, Refused, Ran, Judged, Demonstrated, Teamed}
 use Rattle.golog_commands.specs.declared.ready.Told.{Told}
-use Rattle.golog_commands.specs.Inputs.{SpellsScripts, RefusesScripts, SpellsJournal, RefusesJournal, SpellsBoth, scripts_for}
+use Rattle.golog_commands.specs.Inputs.{SpellsScripts, RefusesScripts, SpellsJournal, RefusesJournal, SpellsBoth, scripts_for, refusal_text}
+use Rattle.golog_commands.specs.Teams.{IsTeamOf, team_input, team_status}
 use Rattle.golog_commands.specs.Demos.{Demonstrates}
 use Rattle.golog_commands.specs.Runs.{IsRunOf}
 use Rattle.golog_commands.specs.Outcome.{Outside, Comes, CallEnds, LeavesText, outcome_status, outcome_text, truth_after, truth_line, verdict_line, verdict_status}
@@ -52,16 +55,22 @@ pub record Shows (status : ℕ) (spelled : Option CommandLine) (before after : O
 -- the words are those of a run, and this is so of it
 abbrev pub IfRun : Option CommandLine → (Text → Option Text → Bool → Option Text → Type 0) → Type 0
 IfRun None P = ⊥
-IfRun (Some (run agent devices inline from)) P = P agent devices inline from
+IfRun (Some (run agent devices inline from workers)) P = P agent devices inline from
 IfRun (Some (check agent)) P = ⊤
 IfRun (Some (replay agent journal)) P = ⊤
 IfRun (Some (ask agent journal condition)) P = ⊤
 IfRun (Some (migrate agent journal)) P = ⊤
 IfRun (Some (demo size)) P = ⊤
+IfRun (Some (team first second inline)) P = ⊤
 
 -- the status of a run that was not stopped for want of memory
 abbrev pub IsRunStatus : ℕ → Type 0
 IsRunStatus status = (status ≡ 0) ⊎ ((10 ≤ status) × (status ≤ 16))
+
+-- the journals of a team were written, whose ends have this status
+abbrev pub ShowsTeam : ℕ → Option CommandLine → Outside → Outside → Type 0
+ShowsTeam status spelled before after =
+    (text : Text) × (one : Answer) × (other : Answer) × Shows status spelled before after (Teamed text one other)
 
 -- what each status says: which outcome it is of, and so its cause
 pub record SaysItsCause (status : ℕ) (spelled : Option CommandLine) (before after : Outside) : Type 0 where
@@ -70,9 +79,11 @@ pub record SaysItsCause (status : ℕ) (spelled : Option CommandLine) (before af
   pub read_fault : status ≡ 4 → (input : Input) × Shows status spelled before after (ReadFault input)
   pub write_fault : status ≡ 5 → Rose before.sink_faults after.sink_faults
   pub starved : status ≡ 6 → IsSome spelled × (LeavesText spelled before after
-      ⊎ ((text : Text) × Shows status spelled before after (Ran text Memory)))
+      ⊎ ((text : Text) × Shows status spelled before after (Ran text Memory))
+      ⊎ ShowsTeam status spelled before after)
   pub ran : (10 ≤ status) × (status ≤ 16)
-      → (text : Text) × (answer : Answer) × Shows status spelled before after (Ran text answer)
+      → ((text : Text) × (answer : Answer) × Shows status spelled before after (Ran text answer))
+      ⊎ ShowsTeam status spelled before after
   pub not_online : status ≡ 17
       → (place : ℕ) × (why : Why) × (text : Text) × Shows status spelled before after (Judged (Not place why) text)
   pub served : status ≡ 0 → (outcome : Outcome) × Shows status spelled before after outcome
@@ -151,6 +162,16 @@ module _ (status : ℕ) (before after : Outside) where
       × Wrote before after (λ text. Demonstrates size before.devices after.devices (Demonstrated text)))
       ⊎ IsStopped status before after
 
+  -- two agents that are no team are refused; else the text is that of both journals, and the status that of their
+  -- ends; or the call was stopped
+  pub record TeamFollows (first second : Agent) (inline : Bool) : Type 0 where
+    pub refused : (r : TeamRefusal) → team_refusal first second ≡ Some r
+        → Says status 3 (refusal_text (team_input r.side) r.code r.at) before after
+    pub played : team_refusal first second ≡ None
+        → ((one : Answer) × (other : Answer) × (status ≡ team_status one other)
+        × Wrote before after (λ text. IsTeamOf first second inline text one other))
+        ⊎ IsStopped status before after
+
   -- what a replay of the journal finds is told, by its status and its line; or the call was stopped
   abbrev pub JudgedFollows : Agent → Told → Type 0
   JudgedFollows agent told =
@@ -163,7 +184,7 @@ module _ (status : ℕ) (before after : Outside) where
   -- what words come to that are no command, and what each input of a command does
   abbrev pub FollowsItsCause : Option CommandLine → Type 0
   FollowsItsCause None = Answers status 2 before after
-  FollowsItsCause (Some (run agent devices inline from)) =
+  FollowsItsCause (Some (run agent devices inline from workers)) =
       AgentFollows agent (λ a. ScriptsFollow a devices (λ listed. FromFollows a from (λ start.
       RunFollows a start listed inline)))
   FollowsItsCause (Some (check agent)) = AgentFollows agent (λ a. Says status 0 (check_text a) before after)
@@ -176,6 +197,8 @@ module _ (status : ℕ) (before after : Outside) where
       AgentFollows agent (λ a. JournalFollows a journal (λ told.
       Says status 0 (journal_text a (migrated a told.report)) before after))
   FollowsItsCause (Some (demo size)) = DemoFollows size
+  FollowsItsCause (Some (team first second inline)) =
+      AgentFollows first (λ a. AgentFollows second (λ b. TeamFollows a b inline))
 
 abbrev pub StatusesAreExact : Type 0
 StatusesAreExact =

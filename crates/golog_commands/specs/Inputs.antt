@@ -18,7 +18,7 @@ use Rattle.golog_reports.specs.Reads.{journal_of}
 use Rattle.golog_file.specs.Spelled.{SpellsAgent, SpellsWith}
 use Rattle.golog_file.specs.declared.reading.Understood.{Understood}
 use Rattle.golog_commands.specs.declared.outcome.Input.{Input}
-use Rattle.golog_commands.specs.declared.outcome.Input.TheVariants.{Agent as AgentFile, Devices as DevicesFile, Journal as JournalFile, Condition}
+use Rattle.golog_commands.specs.declared.outcome.Input.TheVariants.{Agent as AgentFile, Devices as DevicesFile, Journal as JournalFile, Condition, First, Second}
 use Rattle.golog_commands.specs.declared.ready.Told.{Told}
 
 -- ---- scripts
@@ -111,6 +111,8 @@ input_name AgentFile = codes "agent"
 input_name DevicesFile = codes "devices"
 input_name JournalFile = codes "journal"
 input_name Condition = codes "condition"
+input_name First = codes "first"
+input_name Second = codes "second"
 
 -- how many bytes an input may have
 abbrev pub input_limit : Input → ℕ
@@ -118,6 +120,8 @@ input_limit AgentFile = file_limit
 input_limit DevicesFile = file_limit
 input_limit JournalFile = journal_limit
 input_limit Condition = file_limit
+input_limit First = file_limit
+input_limit Second = file_limit
 
 -- the refusal of an input, with its code and its place or position
 abbrev pub refusal_text : Input → ℕ → ℕ → Text

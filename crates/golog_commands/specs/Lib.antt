@@ -6,3 +6,4 @@ pub mod Writing
 pub mod Exact
 pub mod InWorlds
 pub mod CutShort
+pub mod Teams

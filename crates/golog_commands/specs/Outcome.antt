@@ -26,18 +26,22 @@ use Rattle.golog_file.specs.declared.reading.Understood.{Understood}
 use Rattle.golog_check_text.specs.Counts.{check_text}
 use Rattle.golog_semantics.specs.declared.journal.Verdict.{Verdict}
 use Rattle.golog_semantics.specs.declared.journal.Verdict.TheVariants.{Online, Not}
-use Rattle.golog_words.specs.Commands.{CommandLine, run, check, replay, ask, migrate, demo}
+use Rattle.golog_team.specs.declared.shape.TeamRefusal.{TeamRefusal}
+use Rattle.golog_team.specs.Shapes.{team_refusal}
+use Rattle.golog_words.specs.Commands.{CommandLine, run, check, replay, ask, migrate, demo, team}
 use Rattle.golog_commands.specs.declared.outcome.Input.{Input}
-use Rattle.golog_commands.specs.declared.outcome.Input.TheVariants.{Agent as AgentFile, Devices as DevicesFile, Journal as JournalFile, Condition}
+use Rattle.golog_commands.specs.declared.outcome.Input.TheVariants.{Agent as AgentFile, Devices as DevicesFile, Journal as JournalFile, Condition, First, Second}
 use Rattle.golog_commands.specs.declared.outcome.Outcome.{Outcome}
-use Rattle.golog_commands.specs.declared.outcome.Outcome.TheVariants.{WordsRefused, ReadFault, Refused, Ran, Checked, Judged, Asked, Migrated, Demonstrated}
+use Rattle.golog_commands.specs.declared.outcome.Outcome.TheVariants.{WordsRefused, ReadFault, Refused, Ran, Checked, Judged, Asked, Migrated, Demonstrated, Teamed}
+use Rattle.golog_commands.specs.declared.teams.Pair.{Pair}
 use Rattle.golog_commands.specs.declared.ready.Ready.{Ready}
 use Rattle.golog_commands.specs.declared.ready.Told.{Told}
 use Rattle.golog_commands.specs.declared.ready.Unready.{Unready}
 use Rattle.golog_commands.specs.declared.ready.Unready.TheVariants.{Ended, Memory}
-use Rattle.golog_commands.specs.Inputs.{line, fault_text, input_limit, scripts_for, SpellsScripts, RefusesScripts, SpellsJournal, RefusesJournal, SpellsBoth, ReadsAgent, ReadsScripts, ReadsStart, Reads, Tells, IsUnread}
+use Rattle.golog_commands.specs.Inputs.{line, fault_text, refusal_text, input_limit, scripts_for, SpellsScripts, RefusesScripts, SpellsJournal, RefusesJournal, SpellsBoth, ReadsAgent, ReadsScripts, ReadsStart, Reads, Tells, IsUnread}
 use Rattle.golog_commands.specs.Demos.{Demonstrates}
 use Rattle.golog_commands.specs.Runs.{AreUnserved, IsRunOf}
+use Rattle.golog_commands.specs.Teams.{IsTeamOf, team_input, team_status}
 
 -- ---- what is written, and the status
 
@@ -67,6 +71,7 @@ outcome_text (Judged verdict text) = text
 outcome_text (Asked truth) = truth_line truth
 outcome_text (Migrated text) = text
 outcome_text (Demonstrated text) = text
+outcome_text (Teamed text one other) = text
 
 abbrev pub outcome_status : Outcome → ℕ
 outcome_status WordsRefused = 2
@@ -78,6 +83,7 @@ outcome_status (Judged verdict text) = verdict_status verdict
 outcome_status (Asked truth) = 0
 outcome_status (Migrated text) = 0
 outcome_status (Demonstrated text) = 0
+outcome_status (Teamed text one other) = team_status one other
 
 -- ---- the causes
 
@@ -115,6 +121,16 @@ TruthOf agent told cond outcome = outcome ≡ Asked (truth_after agent told cond
 abbrev pub MigratedOf : Agent → Told → Outcome → Type 0
 MigratedOf agent told outcome = outcome ≡ Migrated (journal_text agent (migrated agent told.report))
 
+-- what two agents come to as a team: the text is that of two journals that fit each other
+abbrev pub TeamOf : Agent → Agent → Bool → Outcome → Type 0
+TeamOf first second inline (Teamed text one other) = IsTeamOf first second inline text one other
+TeamOf first second inline outcome = ⊥
+
+-- two agents that are no team are refused, by the file of one
+abbrev pub TeamBy : Option TeamRefusal → (Outcome → Type 0) → Outcome → Type 0
+TeamBy None Next outcome = Next outcome
+TeamBy (Some r) Next outcome = outcome ≡ Refused (team_input r.side) (refusal_text (team_input r.side) r.code r.at)
+
 -- What is held under names, and how often a call of the files had failed before and after the call.
 module _ (held : Option (List HeldFile)) (faults_before faults_after : ℕ) where
   -- what comes of a file: no such file is held or a call failed, its bytes are refused, or they spell a value
@@ -132,6 +148,12 @@ module _ (held : Option (List HeldFile)) (faults_before faults_after : ℕ) wher
   -- the same, with its theory, over which conditions are read
   abbrev pub OfBoth : Text → (Understood → Outcome → Type 0) → Outcome → Type 0
   OfBoth name = OfFile AgentFile name IsFirstRefusal SpellsBoth
+
+  -- what comes of the two agent files of a team
+  abbrev pub OfTeam : Text → Text → (Agent → Agent → Outcome → Type 0) → Outcome → Type 0
+  OfTeam first second Next =
+      OfFile First first IsFirstRefusal SpellsAgent (λ a.
+      OfFile Second second IsFirstRefusal SpellsAgent (λ b. TeamBy (team_refusal a b) (Next a b)))
 
   -- what comes of the devices file, if there is one; without it there are no scripts
   abbrev pub OfScripts : Agent → Option Text → (List Script → Outcome → Type 0) → Outcome → Type 0
@@ -157,7 +179,7 @@ OfCondition theory agent bytes =
 module _ (held : Option (List HeldFile)) (faults_before faults_after : ℕ) (olds news : List Standing) where
   abbrev pub Comes : Option CommandLine → Outcome → Type 0
   Comes None = λ outcome. outcome ≡ WordsRefused
-  Comes (Some (run agent devices inline from)) =
+  Comes (Some (run agent devices inline from workers)) =
       OfAgent held faults_before faults_after agent (λ a.
       OfScripts held faults_before faults_after a devices (λ listed.
       OfFrom held faults_before faults_after a from (λ start.
@@ -176,6 +198,8 @@ module _ (held : Option (List HeldFile)) (faults_before faults_after : ℕ) (old
       OfAgent held faults_before faults_after agent (λ a.
       OfJournal held faults_before faults_after a journal (MigratedOf a))
   Comes (Some (demo size)) = Demonstrates size olds news
+  Comes (Some (team first second inline)) =
+      OfTeam held faults_before faults_after first second (λ a b. TeamOf a b inline)
 
 -- ---- the call
 
@@ -209,6 +233,7 @@ uses_devices (Judged verdict text) = false
 uses_devices (Asked truth) = false
 uses_devices (Migrated text) = false
 uses_devices (Demonstrated text) = true
+uses_devices (Teamed text one other) = false
 
 -- the devices are as they were, unless they had a part
 abbrev pub IsUntouched : List Standing → List Standing → Outcome → Type 0
@@ -233,12 +258,13 @@ pub record IsReported (status : ℕ) (spelled : Option CommandLine) (before afte
 -- and was given and told nothing; a demo may have served them; the other commands leave them as they were.
 abbrev pub LeavesDevices : Option CommandLine → List Standing → List Standing → Type 0
 LeavesDevices None olds news = ⊤
-LeavesDevices (Some (run agent devices inline from)) olds news = AreUnserved olds news
+LeavesDevices (Some (run agent devices inline from workers)) olds news = AreUnserved olds news
 LeavesDevices (Some (check agent)) olds news = news ≡ olds
 LeavesDevices (Some (replay agent journal)) olds news = news ≡ olds
 LeavesDevices (Some (ask agent journal condition)) olds news = news ≡ olds
 LeavesDevices (Some (migrate agent journal)) olds news = news ≡ olds
 LeavesDevices (Some (demo size)) olds news = ⊤
+LeavesDevices (Some (team first second inline)) olds news = news ≡ olds
 
 -- the head of a run that begins from a journal was written, and no more
 pub record AddsHead (name : Text) (from : Option Text) (before after : Outside) : Type 0 where
@@ -252,13 +278,14 @@ pub record AddsHead (name : Text) (from : Option Text) (before after : Outside) 
 -- What memory that runs out while a command is done leaves written: nothing, or of a run over threads its head.
 abbrev pub LeavesText : Option CommandLine → Outside → Outside → Type 0
 LeavesText None before after = after.taken ≡ before.taken
-LeavesText (Some (run agent devices inline from)) before after =
+LeavesText (Some (run agent devices inline from workers)) before after =
     (after.taken ≡ before.taken) ⊎ ((inline ≡ false) × AddsHead agent from before after)
 LeavesText (Some (check agent)) before after = after.taken ≡ before.taken
 LeavesText (Some (replay agent journal)) before after = after.taken ≡ before.taken
 LeavesText (Some (ask agent journal condition)) before after = after.taken ≡ before.taken
 LeavesText (Some (migrate agent journal)) before after = after.taken ≡ before.taken
 LeavesText (Some (demo size)) before after = after.taken ≡ before.taken
+LeavesText (Some (team first second inline)) before after = after.taken ≡ before.taken
 
 -- memory ran out while a command was done, nothing was written, or of a run over threads the head alone, no write
 -- failed, and no device was served by a run
@@ -275,14 +302,15 @@ CallEnds status spelled before after = IsReported status spelled before after �
 
 -- ---- what the parts of a call come to
 
--- whether the command is a run over threads
+-- whether the command is a run over threads, or of a team, whose sides take turns at a lock
 abbrev pub is_threaded : CommandLine → Bool
-is_threaded (run agent devices inline from) = not inline
+is_threaded (run agent devices inline from workers) = not inline
 is_threaded (check agent) = false
 is_threaded (replay agent journal) = false
 is_threaded (ask agent journal condition) = false
 is_threaded (migrate agent journal) = false
 is_threaded (demo size) = false
+is_threaded (team first second inline) = true
 
 -- where a file is refused or can't be read, and memory didn't run out, this is so of what is said
 abbrev pub IfEnded : Unready → (Outcome → Type 0) → Type 0
@@ -292,6 +320,10 @@ IfEnded Memory P = Unit {0}
 -- nothing comes of a value
 abbrev pub Never : {A : Type 0} → A → Outcome → Type 0
 Never x outcome = ⊥
+
+-- nothing comes of it
+abbrev pub Nothing : Outcome → Type 0
+Nothing outcome = ⊥
 
 -- bytes above the limit of an input, its code, and the limit
 abbrev pub IsTooLong : Input → Text → ℕ → ℕ → Type 0
@@ -308,16 +340,29 @@ abbrev pub CondFails : DraftTheory → Agent → Text → Outcome → Type 0
 CondFails theory agent bytes outcome =
     (text : Text) × (outcome ≡ Refused Condition text) × Tells Condition (RefusesCond theory agent bytes) text
 
+-- what is ready begins from the values that the journal file leaves, if there is one: its agent is this one,
+-- restarted at them
+pub record BeginsFrom (held : Option (List HeldFile)) (own : Agent) (from : Option Text) (ready : Ready)
+    : Type 0 where
+  pub start_so : ReadsStart held own from ready.start
+  pub sorts : IfSome ready.start (AreInSorts own)
+  pub is : ready.agent ≡ started own ready.start
+  pub formed : WellFormed ready.agent
+  pub kept : IfSome ready.start (AreInSorts ready.agent)
+
 -- the files spell an agent, scripts of its devices, and the values that it was restarted at, if it was
 pub record HoldsRun (held : Option (List HeldFile)) (agent : Text) (devices from : Option Text) (ready : Ready)
     : Type 0 where
   pub own : Agent
   pub own_formed : WellFormed own
-  pub is : ready.agent ≡ started own ready.start
-  pub sorts : IfSome ready.start (AreInSorts own)
-  pub formed : WellFormed ready.agent
-  pub kept : IfSome ready.start (AreInSorts ready.agent)
-  pub texts : All HasTexts ready.scripts
   pub agent_so : ReadsAgent held agent own
   pub scripts_so : ReadsScripts held own devices ready.scripts
-  pub start_so : ReadsStart held own from ready.start
+  pub texts : All HasTexts ready.scripts
+  pub begins : BeginsFrom held own from ready
+
+-- the files spell two agents that are a team
+pub record HoldsTeam (held : Option (List HeldFile)) (first second : Text) (pair : Pair) : Type 0 where
+  pub formed : WellFormed pair.first × WellFormed pair.second
+  pub first_so : ReadsAgent held first pair.first
+  pub second_so : ReadsAgent held second pair.second
+  pub unrefused : team_refusal pair.first pair.second ≡ None

@@ -33,8 +33,8 @@ pub fn demo_outcome(alloc: Global, size: u32, report: Report) -> Result<Outcome,
     outcome
 }
 
-// The answer in a report of a program that has ended.
-fn answer_in(report: &Report) -> Answer
+/// The answer in a report of a program that has ended.
+pub(crate) fn answer_in(report: &Report) -> Answer
     requires { has_end report.now.entries ≡ true }
     ensures { Contains report.now.entries (End result) }
 {

@@ -3,6 +3,7 @@ ghost use Rattle.std.specs.Prelude.{◌≡◌};
 ghost use Rattle.golog_semantics.specs.Execution.{status_of as answer_status};
 ghost use Rattle.golog_commands.specs.Inputs.{input_name, input_limit, fault_text};
 ghost use Rattle.golog_commands.specs.Outcome.{outcome_status, outcome_text, truth_line, verdict_status};
+ghost use Rattle.golog_commands.specs.Teams.{team_status};
 
 use golog_base::Bytes;
 use golog_semantics::{Answer, Verdict};
@@ -19,6 +20,10 @@ pub enum Input {
     Journal,
     /// The condition among the words.
     Condition,
+    /// The first agent file of a team.
+    First,
+    /// The second agent file of a team.
+    Second,
 }
 
 impl Input {
@@ -31,6 +36,8 @@ impl Input {
             Input::Devices => "devices",
             Input::Journal => "journal",
             Input::Condition => "condition",
+            Input::First => "first",
+            Input::Second => "second",
         }
     }
 
@@ -40,6 +47,7 @@ impl Input {
     {
         match self {
             Input::Agent | Input::Devices | Input::Condition => 1_048_576,
+            Input::First | Input::Second => 1_048_576,
             Input::Journal => 268_435_456,
         }
     }
@@ -53,6 +61,8 @@ impl Input {
             Input::Devices => b"read fault devices\n",
             Input::Journal => b"read fault journal\n",
             Input::Condition => b"read fault condition\n",
+            Input::First => b"read fault first\n",
+            Input::Second => b"read fault second\n",
         }
     }
 }
@@ -65,20 +75,41 @@ pub enum Outcome {
     /// The file cannot be read.
     ReadFault(Input),
     /// The input is refused: what is said of it.
-    Refused { input: Input, text: Bytes },
+    Refused {
+        input: Input,
+        text: Bytes,
+    },
     /// The program ran: the text of its journal, and its answer. It is made nowhere and stands in the contract alone,
     /// since a run writes each line when its entry is seen.
-    Ran { text: Bytes, answer: Answer },
+    Ran {
+        text: Bytes,
+        answer: Answer,
+    },
     /// The agent file was checked: how much it has.
-    Checked { text: Bytes },
+    Checked {
+        text: Bytes,
+    },
     /// The journal was replayed: what was found of it, and the line that tells it.
-    Judged { verdict: Verdict, text: Bytes },
+    Judged {
+        verdict: Verdict,
+        text: Bytes,
+    },
     /// The truth of the condition was asked for.
     Asked(Truth),
     /// The journal was migrated: its text with the start written out.
-    Migrated { text: Bytes },
+    Migrated {
+        text: Bytes,
+    },
     /// The demo ran: what its journal has.
-    Demonstrated { text: Bytes },
+    Demonstrated {
+        text: Bytes,
+    },
+    /// A team ran: the text of both journals, and the answers of their ends.
+    Teamed {
+        text: Bytes,
+        first: Answer,
+        second: Answer,
+    },
 }
 
 impl Outcome {
@@ -92,12 +123,13 @@ impl Outcome {
             Outcome::Refused { text, .. } | Outcome::Ran { text, .. } => text.as_slice(),
             Outcome::Checked { text } | Outcome::Demonstrated { text } => text.as_slice(),
             Outcome::Judged { text, .. } | Outcome::Migrated { text } => text.as_slice(),
+            Outcome::Teamed { text, .. } => text.as_slice(),
             Outcome::Asked(truth) => truth_line(*truth),
         }
     }
 
-    /// The exit status: 2, 3 or 4 for a refusal, that of the answer for a run, 17 for a journal that is not online,
-    /// and else 0.
+    /// The exit status: 2, 3 or 4 for a refusal, that of the answer for a run, of the first answer that isn't done for
+    /// a team, 17 for a journal that is not online, and else 0.
     pub fn status(&self) -> u8
         ensures { result ≡ outcome_status self.now }
     {
@@ -109,6 +141,7 @@ impl Outcome {
             Outcome::Judged { verdict, .. } => verdict_status(*verdict),
             Outcome::Checked { .. } | Outcome::Asked(_) => 0,
             Outcome::Migrated { .. } | Outcome::Demonstrated { .. } => 0,
+            Outcome::Teamed { first, second, .. } => team_status(*first, *second),
         }
     }
 }
@@ -131,6 +164,18 @@ fn verdict_status(verdict: Verdict) -> u8
     match verdict {
         Verdict::Online(_) => 0,
         Verdict::Not { .. } => 17,
+    }
+}
+
+// The exit status of a team whose programs end with these answers.
+fn team_status(first: Answer, second: Answer) -> u8
+    ensures { result ≡ team_status first second }
+{
+    let status = exit_status(first);
+    if status == 0 {
+        exit_status(second)
+    } else {
+        status
     }
 }
 

@@ -9,9 +9,9 @@ ghost use Rattle.golog_semantics.specs.WellFormed.{WellFormed};
 ghost use Rattle.golog_script.specs.ScriptTexts.{HasTexts};
 ghost use Rattle.golog_file.specs.Conditions.{CondsStayKept, SpellsCond};
 ghost use Rattle.golog_file.specs.Spelled.{IsFirstRefusal};
-ghost use Rattle.golog_commands.specs.Inputs.{Reads, ReadsAgent, ReadsScripts, ReadsStart, RefusesJournal, RefusesScripts, SpellsBoth, SpellsJournal, SpellsScripts, input_limit, refusal_text};
-ghost use Rattle.golog_commands.specs.Outcome.{CondFails, FileFails, HoldsRun, IfEnded, IsTooLong, Never, OfAgent, OfFrom, OfScripts};
-ghost use Rattle.golog_base.specs.Files.{FileHas};
+ghost use Rattle.golog_commands.specs.Inputs.{Reads, ReadsAgent, ReadsScripts, RefusesJournal, RefusesScripts, SpellsBoth, SpellsJournal, SpellsScripts, input_limit, refusal_text};
+ghost use Rattle.golog_commands.specs.Outcome.{BeginsFrom, CondFails, FileFails, HoldsRun, IfEnded, IsTooLong, Never, OfAgent, OfFrom, OfScripts};
+ghost use Rattle.golog_base.specs.Files.{FileHas, file_limit};
 ghost use Rattle.golog_commands.specs.declared.outcome.Input.TheVariants.{Agent as AgentFile, Devices as DevicesFile, Journal as JournalFile};
 ghost use Rattle.golog_commands.specs.declared.outcome.Outcome.TheVariants.{Refused};
 
@@ -126,12 +126,8 @@ fn ready_of<F: Files>(
     ensures texts { IfOk result (λ ready. All HasTexts ready.scripts) }
     ensures scripts { IfOk result (λ ready. ReadsScripts (F.held files.old) agent
         (option_map (λ file. file.now) devices.entry) ready.scripts) }
-    ensures formed { IfOk result (λ ready. WellFormed ready.agent) }
-    ensures is { IfOk result (λ ready. ready.agent ≡ started agent ready.start) }
-    ensures sorts { IfOk result (λ ready. IfSome ready.start (AreInSorts agent)) }
-    ensures kept { IfOk result (λ ready. IfSome ready.start (AreInSorts ready.agent)) }
-    ensures start { IfOk result (λ ready. ReadsStart (F.held files.old) agent
-        (option_map (λ file. file.now) from.entry) ready.start) }
+    ensures begins { IfOk result (BeginsFrom (F.held files.old) agent
+        (option_map (λ file. file.now) from.entry)) }
     ensures unready { IfErr result (λ fault. IfEnded fault
         (OfScripts (F.held files.old) (F.faults files.old) (F.faults files.new) agent
         (option_map (λ file. file.now) devices.entry)
@@ -157,12 +153,8 @@ fn ready_from<F: Files>(
 ) -> Result<Ready, Unready>
     requires { WellFormed agent }
     ensures scripts { IfOk result (λ ready. ready.scripts ≡ scripts) }
-    ensures formed { IfOk result (λ ready. WellFormed ready.agent) }
-    ensures is { IfOk result (λ ready. ready.agent ≡ started agent ready.start) }
-    ensures sorts { IfOk result (λ ready. IfSome ready.start (AreInSorts agent)) }
-    ensures kept { IfOk result (λ ready. IfSome ready.start (AreInSorts ready.agent)) }
-    ensures start { IfOk result (λ ready. ReadsStart (F.held files.old) agent
-        (option_map (λ file. file.now) from.entry) ready.start) }
+    ensures begins { IfOk result (BeginsFrom (F.held files.old) agent
+        (option_map (λ file. file.now) from.entry)) }
     ensures unready { IfErr result (λ fault. IfEnded fault
         (OfFrom (F.held files.old) (F.faults files.old) (F.faults files.new) agent
         (option_map (λ file. file.now) from.entry) Never)) }
@@ -232,6 +224,27 @@ fn without_theory(understood: Understood) -> Agent
     agent
 }
 
+/// The agent that the file of this name spells, one of the two of a team.
+pub fn agent_as<F: Files>(
+    alloc: Global,
+    files: &mut F,
+    input: Input,
+    name: &str,
+) -> Result<Agent, Unready>
+    requires { input_limit input ≡ file_limit }
+    ensures formed { IfOk result WellFormed }
+    ensures reads { IfOk result (ReadsAgent (F.held files.old) name.now) }
+    ensures unready { IfErr result (λ fault. IfEnded fault
+        (FileFails input IsFirstRefusal (F.held files.old) name.now (F.faults files.old) (F.faults files.new))) }
+    ensures held { F.held files.new ≡ F.held files.old }
+    ensures faults { F.faults files.old ≤ F.faults files.new }
+{
+    match understood_as(alloc, files, input, name) {
+        Ok(understood) => Ok(without_theory(understood)),
+        Err(unready) => Err(unready),
+    }
+}
+
 /// The agent that the file of this name spells, with its theory.
 pub fn understood_in<F: Files>(
     alloc: Global,
@@ -247,7 +260,27 @@ pub fn understood_in<F: Files>(
     ensures held { F.held files.new ≡ F.held files.old }
     ensures faults { F.faults files.old ≤ F.faults files.new }
 {
-    match bytes_in(alloc, files, Input::Agent, name) {
+    understood_as(alloc, files, Input::Agent, name)
+}
+
+// The same of a file that is this input.
+fn understood_as<F: Files>(
+    alloc: Global,
+    files: &mut F,
+    input: Input,
+    name: &str,
+) -> Result<Understood, Unready>
+    requires { input_limit input ≡ file_limit }
+    ensures formed { IfOk result (λ understood. WellFormed understood.agent) }
+    ensures kept { IfOk result (λ understood. CondsStayKept understood.theory understood.agent) }
+    ensures reads { IfOk result (λ understood. Reads (F.held files.old) name.now
+        (λ bytes. SpellsBoth bytes understood)) }
+    ensures unready { IfErr result (λ fault. IfEnded fault
+        (FileFails input IsFirstRefusal (F.held files.old) name.now (F.faults files.old) (F.faults files.new))) }
+    ensures held { F.held files.new ≡ F.held files.old }
+    ensures faults { F.faults files.old ≤ F.faults files.new }
+{
+    match bytes_in(alloc, files, input, name) {
         Ok(bytes) => match read_theory_and_agent(alloc, bytes.as_slice()) {
             Ok(understood) => {
                 drop(bytes);
@@ -255,7 +288,7 @@ pub fn understood_in<F: Files>(
             }
             Err(AgentFault::Refused { code, at }) => {
                 drop(bytes);
-                Err(refused(alloc, Input::Agent, code, at))
+                Err(refused(alloc, input, code, at))
             }
             Err(AgentFault::Memory) => {
                 drop(bytes);
@@ -422,7 +455,7 @@ fn add_refusal(text: &mut Bytes, input: Input, code: u8, at: u32) -> Result<(), 
 }
 
 // The refusal of an input.
-fn refused(alloc: Global, input: Input, code: u8, at: u32) -> Unready
+pub(crate) fn refused(alloc: Global, input: Input, code: u8, at: u32) -> Unready
     ensures { IfEnded result (λ outcome. outcome ≡ Refused input (refusal_text input code at)) }
 {
     match refusal_text(alloc, input, code, at) {

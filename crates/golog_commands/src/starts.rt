@@ -1,6 +1,6 @@
 // The values that a run, a replay or a question starts from where a journal gives them, and the
 // head that tells them.
-ghost use Rattle.std.specs.Prelude.{◌≡◌, IfOk, IfErr, IfSome, OnOk, option_map, unwrap_or};
+ghost use Rattle.std.specs.Prelude.{◌≡◌, IfOk, IfErr, IfSome, MatchResult, OnOk, option_map, unwrap_or};
 ghost use Rattle.golog_semantics.specs.InSorts.{AreInSorts};
 ghost use Rattle.golog_semantics.specs.Reports.{IsReport};
 ghost use Rattle.golog_semantics.specs.Restart.{migrated, started, values_left};
@@ -26,7 +26,8 @@ pub fn restart_at(
 ) -> Result<(), NoMemory>
     requires formed { WellFormed agent.old }
     requires sorts { IfSome start.now (AreInSorts agent.old) }
-    ensures started { OnOk result (agent.new ≡ started agent.old start.now) }
+    ensures started { MatchResult result (λ _. agent.new ≡ started agent.old start.now)
+        (λ _. agent.new ≡ agent.old) }
     ensures formed { WellFormed agent.new }
     ensures kept { IfSome start.now (AreInSorts agent.new) }
 {

@@ -6,3 +6,4 @@ pub mod Recording
 pub mod Short
 pub mod Rounds
 pub mod Moments
+pub mod Waiting

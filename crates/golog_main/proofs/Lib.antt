@@ -6,3 +6,6 @@ pub mod Reported
 pub mod Reporting
 pub mod Fresh
 pub mod Searchless
+pub mod Orders
+pub mod Crossing
+pub mod TeamLemmas

@@ -26,6 +26,7 @@ use golog_script::Script;
 use golog_semantics::Report;
 use golog_threads::run_threads;
 use golog_tree::Agent;
+use golog_ways::Expand;
 use std::alloc::Global;
 use std::sync::Wait;
 use std::thread::Threads;
@@ -33,14 +34,16 @@ use std::thread::Threads;
 /// Runs the agent's program without threads, with these scripts for its devices, writes the head of its journal, where
 /// it has a start, and each line when its entry is seen, and answers the exit status. A device that is not among the
 /// scripts has the empty one. Where memory is wanted for it nothing has run, no device was served, and nothing is
-/// written: the head and the pen are made first, so that a run that has begun is written.
-pub fn run_in_rounds<K: Sink, D: Device>(
+/// written: the head and the pen are made first, so that a run that has begun is written. Its searches ask `expand` for
+/// the steps of many programs.
+pub fn run_in_rounds<K: Sink, D: Device, X: Expand>(
     alloc: Global,
     agent: &Agent,
     start: &Option<List<u8>>,
     listed: &[Script],
     out: &mut K,
     devices: &mut [D],
+    expand: X,
 ) -> Result<u8, NoMemory>
     requires formed { WellFormed agent.now }
     requires sorts { IfSome start.now (AreInSorts agent.now) }
@@ -60,7 +63,7 @@ pub fn run_in_rounds<K: Sink, D: Device>(
     let head = head_of(alloc, agent, start)?;
     let pen = Pen::new(alloc, agent)?;
     match begun_with(alloc, agent, listed, devices) {
-        Ok(journal) => Ok(headed_in_rounds(agent, pen, head, journal, out, devices)),
+        Ok(journal) => Ok(headed_in_rounds(agent, pen, head, journal, out, devices, expand)),
         Err(fault) => {
             pen.let_go();
             Err(fault)
@@ -70,7 +73,7 @@ pub fn run_in_rounds<K: Sink, D: Device>(
 
 /// The same with each device on a thread of its own, and the program on this one. Where memory is wanted for these
 /// threads nothing has run either, and the head alone is written.
-pub fn run_on_threads<R: Threads + Wait + Sync, K: Sink, D: Device + Send>(
+pub fn run_on_threads<R: Threads + Wait + Sync, K: Sink, D: Device + Send, X: Expand>(
     rt: &R,
     alloc: Global,
     agent: &Agent,
@@ -78,6 +81,7 @@ pub fn run_on_threads<R: Threads + Wait + Sync, K: Sink, D: Device + Send>(
     listed: &[Script],
     out: &mut K,
     devices: &mut [D],
+    expand: X,
 ) -> Result<u8, NoMemory>
     requires formed { WellFormed agent.now }
     requires sorts { IfSome start.now (AreInSorts agent.now) }
@@ -97,7 +101,9 @@ pub fn run_on_threads<R: Threads + Wait + Sync, K: Sink, D: Device + Send>(
     let head = head_of(alloc, agent, start)?;
     let pen = Pen::new(alloc, agent)?;
     match begun_with(alloc, agent, listed, devices) {
-        Ok(journal) => headed_on_threads(rt, alloc, agent, pen, head, journal, out, devices),
+        Ok(journal) => headed_on_threads(
+            rt, alloc, agent, pen, head, journal, out, devices, expand,
+        ),
         Err(fault) => {
             pen.let_go();
             Err(fault)
@@ -153,13 +159,14 @@ fn in_rounds<D: Device>(
 
 // Writes the head of such a run and then its journal, and answers its exit status. Where a write of the head fails the
 // run goes on to its end, and nothing more is written.
-fn headed_in_rounds<K: Sink, D: Device>(
+fn headed_in_rounds<K: Sink, D: Device, X: Expand>(
     agent: &Agent,
     pen: Pen<'_>,
     head: Bytes,
     journal: Journal,
     out: &mut K,
     devices: &mut [D],
+    expand: X,
 ) -> u8
     requires pen { pen.core ≡ record { agent = agent.now; list = [] } }
     requires agent { journal.agent ≡ agent.now }
@@ -172,8 +179,8 @@ fn headed_in_rounds<K: Sink, D: Device>(
         agent.now head (K.taken out.old) (K.taken out.new) (K.faults out.old) (K.faults out.new) result }
 {
     match write_head(out, head) {
-        Ok(()) => written_in_rounds(agent, pen, journal, out, devices),
-        Err(_) => unwritten(agent, pen, journal, devices),
+        Ok(()) => written_in_rounds(agent, pen, journal, out, devices, expand),
+        Err(_) => unwritten(agent, pen, journal, devices, expand),
     }
 }
 
@@ -190,7 +197,13 @@ fn write_head<K: Sink>(out: &mut K, head: Bytes) -> Result<(), Failed>
 }
 
 // Runs to its end in rounds, and writes nothing of it: the status is that of a write that failed.
-fn unwritten<D: Device>(agent: &Agent, pen: Pen<'_>, journal: Journal, devices: &mut [D]) -> u8
+fn unwritten<D: Device, X: Expand>(
+    agent: &Agent,
+    pen: Pen<'_>,
+    journal: Journal,
+    devices: &mut [D],
+    expand: X,
+) -> u8
     requires pen { pen.core ≡ record { agent = agent.now; list = [] } }
     requires agent { journal.agent ≡ agent.now }
     requires lawful { IsBoardList agent.now journal.entries }
@@ -202,18 +215,19 @@ fn unwritten<D: Device>(agent: &Agent, pen: Pen<'_>, journal: Journal, devices: 
         (standings D.fresh D.meaning devices.old) (standings D.fresh D.meaning devices.new)) }
 {
     let mut nowhere = Nowhere;
-    written_in_rounds(agent, pen, journal, &mut nowhere, devices);
+    written_in_rounds(agent, pen, journal, &mut nowhere, devices, expand);
     WRITE_FAULT
 }
 
 // Writes the journal of such a run, and answers its exit status. What the sink holds then is known of the reference
 // that the scribe gives back.
-fn written_in_rounds<K: Sink, D: Device>(
+fn written_in_rounds<K: Sink, D: Device, X: Expand>(
     agent: &Agent,
     pen: Pen<'_>,
     mut journal: Journal,
     out: &mut K,
     devices: &mut [D],
+    expand: X,
 ) -> u8
     requires pen { pen.core ≡ record { agent = agent.now; list = [] } }
     requires agent { journal.agent ≡ agent.now }
@@ -225,7 +239,7 @@ fn written_in_rounds<K: Sink, D: Device>(
         (standings D.fresh D.meaning devices.old) (standings D.fresh D.meaning devices.new))
         agent.now [] (K.taken out.old) (K.taken out.new) (K.faults out.old) (K.faults out.new) result }
 {
-    let mut scribe = Scribe::new(pen, out);
+    let mut scribe = Scribe::with(pen, out, expand);
     run_inline(&mut scribe, devices, agent, &mut journal);
     drop(journal);
     let status = run_status(scribe.faulted(), scribe.answer());
@@ -235,7 +249,7 @@ fn written_in_rounds<K: Sink, D: Device>(
 
 // The same as in rounds of a run over threads. One whose head could not be written goes on in rounds, for which no
 // memory is wanted.
-fn headed_on_threads<R: Threads + Wait + Sync, K: Sink, D: Device + Send>(
+fn headed_on_threads<R: Threads + Wait + Sync, K: Sink, D: Device + Send, X: Expand>(
     rt: &R,
     alloc: Global,
     agent: &Agent,
@@ -244,6 +258,7 @@ fn headed_on_threads<R: Threads + Wait + Sync, K: Sink, D: Device + Send>(
     journal: Journal,
     out: &mut K,
     devices: &mut [D],
+    expand: X,
 ) -> Result<u8, NoMemory>
     requires formed { WellFormed agent.now }
     requires pen { pen.core ≡ record { agent = agent.now; list = [] } }
@@ -260,13 +275,13 @@ fn headed_on_threads<R: Threads + Wait + Sync, K: Sink, D: Device + Send>(
     ensures unserved { OnErr result (devices.new ≡ devices.old) }
 {
     match write_head(out, head) {
-        Ok(()) => written_on_threads(rt, alloc, agent, pen, journal, out, devices),
-        Err(_) => Ok(unwritten(agent, pen, journal, devices)),
+        Ok(()) => written_on_threads(rt, alloc, agent, pen, journal, out, devices, expand),
+        Err(_) => Ok(unwritten(agent, pen, journal, devices, expand)),
     }
 }
 
 // The same of a run over threads: the boxes of the agent's devices go to threads, and the others stay as they are.
-fn written_on_threads<R: Threads + Wait + Sync, K: Sink, D: Device + Send>(
+fn written_on_threads<R: Threads + Wait + Sync, K: Sink, D: Device + Send, X: Expand>(
     rt: &R,
     alloc: Global,
     agent: &Agent,
@@ -274,6 +289,7 @@ fn written_on_threads<R: Threads + Wait + Sync, K: Sink, D: Device + Send>(
     journal: Journal,
     out: &mut K,
     devices: &mut [D],
+    expand: X,
 ) -> Result<u8, NoMemory>
     requires formed { WellFormed agent.now }
     requires pen { pen.core ≡ record { agent = agent.now; list = [] } }
@@ -290,12 +306,12 @@ fn written_on_threads<R: Threads + Wait + Sync, K: Sink, D: Device + Send>(
     ensures unserved { OnErr result (devices.new ≡ devices.old) }
 {
     let (served, _others) = devices.split_at_mut(agent.devices.len());
-    served_on_threads(rt, alloc, agent, pen, journal, out, served)
+    served_on_threads(rt, alloc, agent, pen, journal, out, served, expand)
 }
 
 // Writes the journal of a run over threads of the agent's devices. Where memory is wanted, nothing has run, and nothing
 // is written.
-fn served_on_threads<R: Threads + Wait + Sync, K: Sink, D: Device + Send>(
+fn served_on_threads<R: Threads + Wait + Sync, K: Sink, D: Device + Send, X: Expand>(
     rt: &R,
     alloc: Global,
     agent: &Agent,
@@ -303,6 +319,7 @@ fn served_on_threads<R: Threads + Wait + Sync, K: Sink, D: Device + Send>(
     journal: Journal,
     out: &mut K,
     devices: &mut [D],
+    expand: X,
 ) -> Result<u8, NoMemory>
     requires formed { WellFormed agent.now }
     requires pen { pen.core ≡ record { agent = agent.now; list = [] } }
@@ -317,7 +334,7 @@ fn served_on_threads<R: Threads + Wait + Sync, K: Sink, D: Device + Send>(
         (K.taken out.old) (K.taken out.new) (K.faults out.old) (K.faults out.new)) }
     ensures unserved { OnErr result (devices.new ≡ devices.old) }
 {
-    let mut scribe = Scribe::new(pen, out);
+    let mut scribe = Scribe::with(pen, out, expand);
     match run_threads(rt, alloc, &mut scribe, devices, agent, journal) {
         Ok(()) => {
             scribe.keeps_rules();

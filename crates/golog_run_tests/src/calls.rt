@@ -6,7 +6,7 @@ ghost use Rattle.golog_device.specs.Slots.{standings, FreshBelow};
 use crate::asserting::same;
 use golog_base::{Bytes, HeldFile, List, MemFiles, MemSink, NoMemory, Sink, Text, both};
 use golog_device::Device;
-use golog_main::{NO_MEMORY, golog, is_threaded, script_devices, serve_inline};
+use golog_main::{NO_MEMORY, Plain, golog, is_threaded, script_devices, serve_inline};
 use golog_words::{WordsFault, order_of};
 use std::alloc::Global;
 use std::process::Abort;
@@ -256,7 +256,7 @@ fn served<K: Sink, D: Device>(
     requires fresh { FreshBelow 16 (standings D.fresh D.meaning devices.old) }
 {
     match order_of(alloc, words) {
-        Ok(order) if !is_threaded(order) => serve_inline(alloc, order, files, out, devices),
+        Ok(order) if !is_threaded(order) => serve_inline(alloc, order, files, out, devices, Plain),
         Err(WordsFault::Memory) => NO_MEMORY,
         _ => NOT_SERVED,
     }

@@ -1,7 +1,9 @@
 mod AskWords
 mod CheckWords
 mod Conditions
+mod Counts
 mod DemoWords
+mod Digits
 mod Meeting
 mod MigrateWords
 mod Orders

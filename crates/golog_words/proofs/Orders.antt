@@ -11,14 +11,15 @@ other_text one other differs = false_from_ne_true (bytes_eq one other) (λ same.
 -- a first word that names no command begins none
 names_none : (first : Text) (words : List Text) → (first ≡ codes "run" → ⊥) → (first ≡ codes "check" → ⊥)
     → (first ≡ codes "replay" → ⊥) → (first ≡ codes "ask" → ⊥) → (first ≡ codes "migrate" → ⊥)
-    → (first ≡ codes "demo" → ⊥) → command_in (first ∷ words) ≡ None
-names_none first words run check replay ask migrate demo =
+    → (first ≡ codes "demo" → ⊥) → (first ≡ codes "team" → ⊥) → command_in (first ∷ words) ≡ None
+names_none first words run check replay ask migrate demo team =
     let is_run = other_text first (codes "run") run in
     let is_check = other_text first (codes "check") check in
     let is_replay = other_text first (codes "replay") replay in
     let is_ask = other_text first (codes "ask") ask in
     let is_migrate = other_text first (codes "migrate") migrate in
     let is_demo = other_text first (codes "demo") demo in
+    let is_team = other_text first (codes "team") team in
     cc
 
 module _ {Word : Type 0} (bytes : Word → Text) where
@@ -26,11 +27,11 @@ module _ {Word : Type 0} (bytes : Word → Text) where
   pub names_one : (words : List Word) (word : Word) (first : Text) → 1 ≤ length words → word ≡ slice_index_or words 0 word
       → first ≡ bytes word → IsSome (command_in (map bytes words)) → (first ≡ codes "run" → ⊥)
       → (first ≡ codes "check" → ⊥) → (first ≡ codes "replay" → ⊥) → (first ≡ codes "ask" → ⊥)
-      → (first ≡ codes "migrate" → ⊥) → (first ≡ codes "demo" → ⊥) → ⊥
-  names_one [] word first some is text spelled run check replay ask migrate demo = absurd (omega arith)
-  names_one (one ∷ words) word first some is text spelled run check replay ask migrate demo =
+      → (first ≡ codes "migrate" → ⊥) → (first ≡ codes "demo" → ⊥) → (first ≡ codes "team" → ⊥) → ⊥
+  names_one [] word first some is text spelled run check replay ask migrate demo team = absurd (omega arith)
+  names_one (one ∷ words) word first some is text spelled run check replay ask migrate demo team =
       let same : first ≡ bytes one = text ∙ ap bytes is in
-      let none = names_none first (map bytes words) run check replay ask migrate demo in
+      let none = names_none first (map bytes words) run check replay ask migrate demo team in
       let no : command_in (bytes one ∷ map bytes words) ≡ None
       = subst (λ (t : Text). command_in (t ∷ map bytes words) ≡ None) same none in
       true≢false (sym spelled ∙ ap is_some no)

@@ -1,10 +1,10 @@
 -- The parts of a command that words spell, in what `clap` found.
 use Rattle.std.proofs.Common.{◌≡◌, ◌∙◌, ap, refl, sym, codes, ℕ, Bool, true, false, true≢false, List, [], ◌∷◌, Option, Some, None, option_map, Bor}
-use Rattle.std.specs.Prelude.{⊤, ◌&&◌, if◌then◌else◌, IsSome, option_and_then}
+use Rattle.std.specs.Prelude.{⊤, ◌&&◌, if◌then◌else◌, IsSome, is_some, option_and_then}
 use Rattle.clap.specs.Words.{found_of, one_text}
 use Rattle.clap.specs.declared.parser.matches.ArgMatches.{ArgMatches}
 use Rattle.golog_base.specs.Numbers.{amount}
-use Rattle.golog_words.specs.Commands.{CommandLine, Text, Said, run, check, replay, ask, migrate, demo, is_file_word, is_size, nothing_said, run_in, run_of, said_by, check_in, replay_in, ask_in, migrate_in, demo_of, demo_in, size_in}
+use Rattle.golog_words.specs.Commands.{CommandLine, Text, Said, run, check, replay, ask, migrate, demo, team, is_file_word, is_size, nothing_said, run_in, run_of, said_by, check_in, replay_in, ask_in, migrate_in, demo_of, demo_in, count_in, size_in, team_of, team_in}
 use Rattle.golog_words.specs.Found.{Finds, text_found}
 use Rattle.golog_words.proofs.Conditions.{holds_under}
 
@@ -27,60 +27,60 @@ flag_is text flag false is set unset = unset is
 
 -- ---- each list of words spells a command of one kind, or none
 
-abbrev Spells : (CommandLine → Type 0) → Option CommandLine → Type 0
+abbrev pub Spells : (CommandLine → Type 0) → Option CommandLine → Type 0
 Spells Is None = ⊤
 Spells Is (Some command) = Is command
 
-abbrev IsRun : CommandLine → Type 0
-IsRun (run agent devices inline from) = ⊤
+abbrev pub IsRun : CommandLine → Type 0
+IsRun (run agent devices inline from workers) = ⊤
 IsRun other = ⊥
 
-abbrev IsCheck : CommandLine → Type 0
+abbrev pub IsCheck : CommandLine → Type 0
 IsCheck (check agent) = ⊤
 IsCheck other = ⊥
 
-abbrev IsReplay : CommandLine → Type 0
+abbrev pub IsReplay : CommandLine → Type 0
 IsReplay (replay agent journal) = ⊤
 IsReplay other = ⊥
 
-abbrev IsAsk : CommandLine → Type 0
+abbrev pub IsAsk : CommandLine → Type 0
 IsAsk (ask agent journal condition) = ⊤
 IsAsk other = ⊥
 
-abbrev IsMigrate : CommandLine → Type 0
+abbrev pub IsMigrate : CommandLine → Type 0
 IsMigrate (migrate agent journal) = ⊤
 IsMigrate other = ⊥
 
-abbrev IsDemo : CommandLine → Type 0
+abbrev pub IsDemo : CommandLine → Type 0
 IsDemo (demo size) = ⊤
 IsDemo other = ⊥
 
 runs_of : (said : Said) (awaits : Bool) (agent : Option Text)
-    → Spells IsRun (if awaits then None else option_map (λ file. run file said.devices said.is_inline said.from) agent)
+    → Spells IsRun (if awaits then None else option_map (λ file. run file said.devices said.is_inline said.from (option_and_then count_in said.workers)) agent)
 runs_of said true agent = tt
 runs_of said false None = tt
 runs_of said false (Some agent) = tt
 
 runs_after : (said : Option Said) → Spells IsRun (option_and_then run_of said)
 runs_after None = tt
-runs_after (Some said) = runs_of said said.awaits_from said.agent
+runs_after (Some said) = runs_of said (is_some said.awaits) said.agent
 
 runs_in : (words : List Text) → Spells IsRun (run_in words)
 runs_in words = runs_after (said_by words nothing_said)
 
-checks_in : (words : List Text) → Spells IsCheck (check_in words)
+pub checks_in : (words : List Text) → Spells IsCheck (check_in words)
 checks_in [] = tt
 checks_in (agent ∷ []) = holds_under (Spells IsCheck) (is_file_word agent) (Some (check agent)) tt (λ _. tt)
 checks_in (agent ∷ other ∷ more) = tt
 
-replays_in : (words : List Text) → Spells IsReplay (replay_in words)
+pub replays_in : (words : List Text) → Spells IsReplay (replay_in words)
 replays_in [] = tt
 replays_in (agent ∷ []) = tt
 replays_in (agent ∷ journal ∷ []) =
     holds_under (Spells IsReplay) (is_file_word agent && is_file_word journal) (Some (replay agent journal)) tt (λ _. tt)
 replays_in (agent ∷ journal ∷ other ∷ more) = tt
 
-asks_in : (words : List Text) → Spells IsAsk (ask_in words)
+pub asks_in : (words : List Text) → Spells IsAsk (ask_in words)
 asks_in [] = tt
 asks_in (agent ∷ []) = tt
 asks_in (agent ∷ journal ∷ []) = tt
@@ -89,14 +89,14 @@ asks_in (agent ∷ journal ∷ condition ∷ []) =
     (Some (ask agent journal condition)) tt (λ _. tt)
 asks_in (agent ∷ journal ∷ condition ∷ other ∷ more) = tt
 
-migrates_in : (words : List Text) → Spells IsMigrate (migrate_in words)
+pub migrates_in : (words : List Text) → Spells IsMigrate (migrate_in words)
 migrates_in [] = tt
 migrates_in (agent ∷ []) = tt
 migrates_in (agent ∷ journal ∷ []) =
     holds_under (Spells IsMigrate) (is_file_word agent && is_file_word journal) (Some (migrate agent journal)) tt (λ _. tt)
 migrates_in (agent ∷ journal ∷ other ∷ more) = tt
 
-demos_in : (words : List Text) → Spells IsDemo (demo_in words)
+pub demos_in : (words : List Text) → Spells IsDemo (demo_in words)
 demos_in [] = tt
 demos_in (word ∷ []) =
     holds_under (λ (size : Option ℕ). Spells IsDemo (demo_of size)) (is_size word) (Some (amount word)) tt (λ _. tt)
@@ -109,11 +109,13 @@ pub record RunParts (found : ArgMatches) (spelled : Option CommandLine) : Type 0
   pub devices : Option Text
   pub is_inline : Bool
   pub from : Option Text
-  pub is : spelled ≡ Some (run agent devices is_inline from)
+  pub workers : Option ℕ
+  pub is : spelled ≡ Some (run agent devices is_inline from workers)
   pub agent_is : text_found found (codes "agent") ≡ Some agent
   pub devices_is : text_found found (codes "devices") ≡ devices
   pub inline_is : one_text (found_of found) (codes "inline") ≡ Some (if is_inline then codes "true" else codes "false")
   pub from_is : text_found found (codes "from") ≡ from
+  pub workers_is : option_and_then count_in (text_found found (codes "workers")) ≡ workers
 
 pub record CheckParts (found : ArgMatches) (spelled : Option CommandLine) : Type 0 where
   pub agent : Text
@@ -150,6 +152,15 @@ pub record DemoParts (found : ArgMatches) (spelled : Option CommandLine) : Type 
   pub word_is : text_found found (codes "size") ≡ Some word
   pub size_is : size_in word ≡ Some size
 
+pub record TeamParts (found : ArgMatches) (spelled : Option CommandLine) : Type 0 where
+  pub first : Text
+  pub second : Text
+  pub is_inline : Bool
+  pub is : spelled ≡ Some (team first second is_inline)
+  pub first_is : text_found found (codes "agent") ≡ Some first
+  pub second_is : text_found found (codes "devices") ≡ Some second
+  pub inline_is : one_text (found_of found) (codes "inline") ≡ Some (if is_inline then codes "true" else codes "false")
+
 -- what is spelled was found
 abbrev FindsIt : ArgMatches → Option CommandLine → Type 0
 FindsIt found spelled = (command : CommandLine) → spelled ≡ Some command → Finds found command
@@ -162,8 +173,19 @@ module _ (found : ArgMatches) where
   made Is Made (Some command) kind some finds make = make command refl kind (finds command refl)
 
   run_parts_of : (spelled : Option CommandLine) (command : CommandLine) → spelled ≡ Some command → IsRun command → Finds found command → RunParts found spelled
-  run_parts_of spelled (run a d i f) is kind h =
-      record { agent = a; devices = d; is_inline = i; from = f; is = is; agent_is = h.0; devices_is = h.1; inline_is = h.2; from_is = h.3 }
+  run_parts_of spelled (run a d i f w) is kind h = record {
+    agent = a;
+    devices = d;
+    is_inline = i;
+    from = f;
+    workers = w;
+    is = is;
+    agent_is = h.0;
+    devices_is = h.1;
+    inline_is = h.2;
+    from_is = h.3;
+    workers_is = h.4;
+  }
   run_parts_of spelled other is kind h = absurd kind
 
   check_parts_of : (spelled : Option CommandLine) (command : CommandLine) → spelled ≡ Some command → IsCheck command → Finds found command → CheckParts found spelled
@@ -210,3 +232,14 @@ module _ (found : ArgMatches) where
   pub demo_parts : (words : List Text) → IsSome (demo_in words) → FindsIt found (demo_in words) → DemoParts found (demo_in words)
   demo_parts words some finds =
       made IsDemo (DemoParts found (demo_in words)) (demo_in words) (demos_in words) some finds (demo_parts_of (demo_in words))
+
+  -- a team's words are those of a run
+  team_parts_of : (spelled : Option CommandLine) → IsSome (option_and_then team_of spelled) → FindsIt found spelled
+      → TeamParts found (option_and_then team_of spelled)
+  team_parts_of (Some (run a (Some b) i None None)) some finds =
+      let h = finds (run a (Some b) i None None) refl in
+      record { first = a; second = b; is_inline = i; is = refl; first_is = h.0; second_is = h.1; inline_is = h.2 }
+  team_parts_of other some finds = absurd (true≢false (sym some))
+
+  pub team_parts : (words : List Text) → IsSome (team_in words) → FindsIt found (run_in words) → TeamParts found (team_in words)
+  team_parts words some finds = team_parts_of (run_in words) some finds

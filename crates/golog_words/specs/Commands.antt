@@ -1,6 +1,8 @@
 -- The commands, and which words spell them.
-use Rattle.std.specs.Prelude.{ℕ, ◌==◌, ◌&&◌, nat_le, Bool, true, false, not, if◌then◌else◌, List, [], ◌∷◌, Option, None, Some, is_some, option_map, option_and_then, codes, bytes_eq}
+use Rattle.std.specs.Prelude.{ℕ, ◌≤◌, ◌==◌, ◌&&◌, nat_le, Bool, true, false, not, if◌then◌else◌, List, [], ◌∷◌, Option, None, Some, IfSome, is_some, option_map, option_and_then, codes, bytes_eq, ⊤}
 use Rattle.golog_base.specs.Numbers.{amount, is_natural}
+use Rattle.golog_words.specs.declared.said.Awaited.{Awaited}
+use Rattle.golog_words.specs.declared.said.Awaited.TheVariants.{Journal, Count}
 
 -- the bytes of a word
 abbrev pub Text : Type 0
@@ -8,12 +10,18 @@ Text = List ℕ
 
 -- what a command asks for
 pub data CommandLine : Type 0 where
-  run : (agent : Text) (devices : Option Text) (is_inline : Bool) (from : Option Text) → CommandLine
+  run : (agent : Text) (devices : Option Text) (is_inline : Bool) (from : Option Text) (workers : Option ℕ) → CommandLine
   check : (agent : Text) → CommandLine
   replay : (agent journal : Text) → CommandLine
   ask : (agent journal condition : Text) → CommandLine
   migrate : (agent journal : Text) → CommandLine
   demo : (size : ℕ) → CommandLine
+  team : (first second : Text) (is_inline : Bool) → CommandLine
+
+-- Where a command says how many workers its searches have, these are from 1 to 16.
+abbrev pub WorkersFit : CommandLine → Type 0
+WorkersFit (run agent devices is_inline from workers) = IfSome workers (λ count. (1 ≤ count) × (count ≤ 16))
+WorkersFit other = ⊤
 
 -- A file word is not empty and does not begin with `-`.
 abbrev pub is_file_word : Text → Bool
@@ -26,6 +34,24 @@ is_inline word = bytes_eq word (codes "--inline")
 abbrev pub is_from : Text → Bool
 is_from word = bytes_eq word (codes "--from")
 
+abbrev pub is_workers : Text → Bool
+is_workers word = bytes_eq word (codes "--workers")
+
+-- the digits of a number from 1 to this one, without leading zeros
+abbrev pub is_up_to : ℕ → Text → Bool
+is_up_to most word = nat_le (amount word) most && nat_le 1 (amount word) && is_natural word
+
+-- the number that such digits spell
+abbrev pub up_to : ℕ → Text → Option ℕ
+up_to most word = if is_up_to most word then Some (amount word) else None
+
+-- A search has from 1 to 16 workers.
+abbrev pub is_count : Text → Bool
+is_count word = is_up_to 16 word
+
+abbrev pub count_in : Text → Option ℕ
+count_in word = up_to 16 word
+
 -- what words behind `run` have said
 pub record Said : Type 0 where
   -- the file of the agent, and that of the devices' scripts
@@ -34,11 +60,14 @@ pub record Said : Type 0 where
   pub is_inline : Bool
   -- the file of the journal from which it begins
   pub from : Option Text
-  -- The last word was `--from`, whose file is named by the next one.
-  pub awaits_from : Bool
+  -- the digits of the number of workers
+  pub workers : Option Text
+  -- what the next word tells, where the last one was `--from` or `--workers`
+  pub awaits : Option Awaited
 
 abbrev pub nothing_said : Said
-nothing_said = record { agent = None; devices = None; is_inline = false; from = None; awaits_from = false }
+nothing_said =
+    record { agent = None; devices = None; is_inline = false; from = None; workers = None; awaits = None }
 
 -- One more file word names the agent, and behind it the devices' scripts.
 abbrev pub with_file : Said → Text → Option Said
@@ -53,34 +82,48 @@ with_inline said = if said.is_inline then None else Some (record said { is_inlin
 
 -- `--from` stands there once, before the word that names its file.
 abbrev pub with_from : Said → Option Said
-with_from said = if is_some said.from then None else Some (record said { awaits_from = true })
+with_from said = if is_some said.from then None else Some (record said { awaits = Some Journal })
 
--- the file that `--from` awaits
-abbrev pub with_awaited : Said → Text → Option Said
-with_awaited said word = if is_file_word word then Some (record said { from = Some word; awaits_from = false }) else None
+-- `--workers` stands there once, before the word that tells how many.
+abbrev pub with_workers : Said → Option Said
+with_workers said = if is_some said.workers then None else Some (record said { awaits = Some Count })
+
+-- what is awaited: the file behind `--from`, the number behind `--workers`
+abbrev pub with_awaited : Awaited → Said → Text → Option Said
+with_awaited Journal said word = if is_file_word word then Some (record said { from = Some word; awaits = None }) else None
+with_awaited Count said word = if is_count word then Some (record said { workers = Some word; awaits = None }) else None
+
+-- a word where nothing is awaited
+abbrev pub with_word : Said → Text → Option Said
+with_word said word =
+    if is_file_word word then with_file said word
+    else if is_inline word then with_inline said
+    else if is_from word then with_from said
+    else if is_workers word then with_workers said
+    else None
+
+-- the same where this is awaited, or nothing
+abbrev pub more_where : Option Awaited → Said → Text → Option Said
+more_where None said word = with_word said word
+more_where (Some awaited) said word = with_awaited awaited said word
 
 -- what is said with one more word, if it may stand there
 abbrev pub said_more : Said → Text → Option Said
-said_more said word =
-    if said.awaits_from then with_awaited said word
-    else if is_file_word word then with_file said word
-    else if is_inline word then with_inline said
-    else if is_from word then with_from said
-    else None
+said_more said word = more_where said.awaits said word
 
 -- what the words say behind what was said
 abbrev pub said_by : List Text → Said → Option Said
 said_by [] said = Some said
 said_by (word ∷ words) said = option_and_then (said_by words) (said_more said word)
 
--- the run that was asked for, where an agent was named and no file is awaited
+-- the run that was asked for, where an agent was named and nothing is awaited
 abbrev pub run_of : Said → Option CommandLine
 run_of said =
-    if said.awaits_from then None
-    else option_map (λ agent. run agent said.devices said.is_inline said.from) said.agent
+    if is_some said.awaits then None
+    else option_map (λ agent. run agent said.devices said.is_inline said.from (option_and_then count_in said.workers)) said.agent
 
--- Behind `run` stand one or two file words, `--inline` at most once, and `--from` with a file word behind it at most
--- once, in any place among them.
+-- Behind `run` stand one or two file words, `--inline` at most once, `--from` with a file word behind it at most once,
+-- and `--workers` with a number from 1 to 16 behind it at most once, in any place among them.
 abbrev pub run_in : List Text → Option CommandLine
 run_in words = option_and_then run_of (said_by words nothing_said)
 
@@ -109,13 +152,12 @@ migrate_in (agent ∷ journal ∷ []) =
     if is_file_word agent && is_file_word journal then Some (migrate agent journal) else None
 migrate_in words = None
 
--- the digits of a number from 1 to 200, without leading zeros
+-- A demo has from 1 to 200 levels.
 abbrev pub is_size : Text → Bool
-is_size word = nat_le (amount word) 200 && nat_le 1 (amount word) && is_natural word
+is_size word = is_up_to 200 word
 
--- the number that a size's digits spell
 abbrev pub size_in : Text → Option ℕ
-size_in word = if is_size word then Some (amount word) else None
+size_in word = up_to 200 word
 
 abbrev pub demo_of : Option ℕ → Option CommandLine
 demo_of (Some size) = Some (demo size)
@@ -125,6 +167,15 @@ demo_of None = None
 abbrev pub demo_in : List Text → Option CommandLine
 demo_in (word ∷ []) = demo_of (size_in word)
 demo_in words = None
+
+-- a run with two files that begins from no journal, and says no number of workers, as a team of these
+abbrev pub team_of : CommandLine → Option CommandLine
+team_of (run first (Some second) is_inline None None) = Some (team first second is_inline)
+team_of command = None
+
+-- Behind `team` stand two file words, and `--inline` at most once, in any place among them.
+abbrev pub team_in : List Text → Option CommandLine
+team_in words = option_and_then team_of (run_in words)
 
 -- The command that the words spell, if they spell one: the first word says what it does.
 abbrev pub command_in : List Text → Option CommandLine
@@ -136,4 +187,5 @@ command_in (first ∷ words) =
     else if bytes_eq first (codes "ask") then ask_in words
     else if bytes_eq first (codes "migrate") then migrate_in words
     else if bytes_eq first (codes "demo") then demo_in words
+    else if bytes_eq first (codes "team") then team_in words
     else None

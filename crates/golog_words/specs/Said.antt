@@ -10,5 +10,6 @@ said_of kept = record {
   devices = option_map (λ name. name.now) kept.devices;
   is_inline = kept.inline;
   from = option_map (λ name. name.now) kept.from;
-  awaits_from = kept.awaits_from;
+  workers = option_map (λ word. word.now) kept.workers;
+  awaits = kept.awaits;
 }

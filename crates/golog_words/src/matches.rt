@@ -23,7 +23,12 @@ pub(crate) fn run_matches<'w>(alloc: Global, words: &'w [String]) -> Result<ArgM
                 .long("inline")
                 .action(ArgAction::SetTrue),
         )?
-        .arg(Arg::new(alloc, "from").long("from").action(ArgAction::Set))?;
+        .arg(Arg::new(alloc, "from").long("from").action(ArgAction::Set))?
+        .arg(
+            Arg::new(alloc, "workers")
+                .long("workers")
+                .action(ArgAction::Set),
+        )?;
     command.try_get_matches_from(words)
 }
 

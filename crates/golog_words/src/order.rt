@@ -14,6 +14,8 @@ pub enum Order<'w> {
         inline: bool,
         /// The name of the journal file whose values it begins from, if there is one.
         from: Option<&'w str>,
+        /// How many workers its searches have, if they have some: 1 to 16.
+        workers: Option<u8>,
     },
     /// Checks an agent file.
     Check {
@@ -47,6 +49,15 @@ pub enum Order<'w> {
     Demo {
         /// How many levels it has.
         size: u32,
+    },
+    /// Runs two agents, each the other's device.
+    Team {
+        /// The first agent file's name.
+        first: &'w str,
+        /// The second agent file's name.
+        second: &'w str,
+        /// Whether they have their steps in turn.
+        inline: bool,
     },
 }
 

@@ -2,21 +2,22 @@
 // order.
 ghost use Rattle.std.specs.Prelude.{◌≡◌, Some, IsSome, IfOk, drop, map, string_bytes};
 ghost use Rattle.golog_words.specs.Answers.{Answers, command_of};
-ghost use Rattle.golog_words.specs.Commands.{run_in, check_in, replay_in, ask_in, migrate_in, demo_in, command_in};
+ghost use Rattle.golog_words.specs.Commands.{WorkersFit, run_in, check_in, replay_in, ask_in, migrate_in, demo_in, team_in, command_in};
 
 use crate::command::is_command;
 use crate::matches::{
     ask_matches, check_matches, demo_matches, migrate_matches, replay_matches, run_matches,
 };
 use crate::order::{Order, WordsFault};
-use crate::size::size_in;
+use crate::size::{count_of, size_in};
 use golog_base::NoMemory;
 use std::alloc::Global;
 
 /// The order that the words give, without the program's name before them. They are refused exactly where they
 /// are no command, for which no memory is wanted.
 pub fn order_of<'w>(alloc: Global, words: &'w [String]) -> Result<Order<'w>, WordsFault>
-    ensures { Answers result (command_in (map string_bytes words.entry.now)) }
+    ensures answers { Answers result (command_in (map string_bytes words.entry.now)) }
+    ensures workers { IfOk result (λ order. WorkersFit (command_of order)) }
 {
     if !is_command(words) {
         return Err(WordsFault::Refused);
@@ -40,6 +41,7 @@ fn read<'w>(alloc: Global, words: &'w [String]) -> Result<Order<'w>, NoMemory>
         "ask" => read_ask(alloc, words),
         "migrate" => read_migrate(alloc, words),
         "demo" => read_demo(alloc, words),
+        "team" => read_team(alloc, words),
         _ => unreachable!(),
     }
 }
@@ -56,6 +58,7 @@ fn read_run<'w>(alloc: Global, words: &'w [String]) -> Result<Order<'w>, NoMemor
         devices: found.get_str("devices"),
         inline: found.get_flag("inline"),
         from: found.get_str("from"),
+        workers: count_of(found.get_str("workers")),
     })
 }
 
@@ -121,5 +124,20 @@ fn read_demo<'w>(alloc: Global, words: &'w [String]) -> Result<Order<'w>, NoMemo
     let word = found.get_str("size").unwrap();
     Ok(Order::Demo {
         size: size_in(word).unwrap(),
+    })
+}
+
+// What may stand behind `team` may stand behind `run`: the second agent where the devices' scripts do.
+fn read_team<'w>(alloc: Global, words: &'w [String]) -> Result<Order<'w>, NoMemory>
+    requires { IsSome (team_in (drop 1 (map string_bytes words.now))) }
+    ensures { IfOk result (λ order. team_in (drop 1 (map string_bytes words.entry.now)) ≡ Some (command_of order)) }
+{
+    let Ok(named) = run_matches(alloc, words) else {
+        return Err(NoMemory);
+    };
+    Ok(Order::Team {
+        first: named.get_str("agent").unwrap(),
+        second: named.get_str("devices").unwrap(),
+        inline: named.get_flag("inline"),
     })
 }

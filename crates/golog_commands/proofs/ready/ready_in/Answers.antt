@@ -12,7 +12,7 @@ returns-in-Ok-clause-ready g c =
     let e = c.ready_of.ensures in
     let same = c.in-Ok.ensures.held in
     run-held (g.F.Files.held c.args.files.now) c.args.agent.now (option_map (λ file. file.now) c.args.devices) (option_map (λ file. file.now) c.args.from) c.in-Ok.agent c.ready_of.result
-    c.in-Ok.ensures.formed c.in-Ok.ensures.reads e.texts (rw same at e.scripts) e.formed e.is e.sorts e.kept (rw same at e.start)
+    c.in-Ok.ensures.formed c.in-Ok.ensures.reads e.texts (rw same at e.scripts) (rw same at e.begins)
 
 pub returns-in-Ok-clause-unready : goal.returns-in-Ok-clause-unready
 returns-in-Ok-clause-unready g c =

@@ -16,8 +16,8 @@ returns-in-Ok-clause-scripts g c =
     scripts-ready (ReadsScripts (g.F.Files.held c.args.files.now) c.args.agent (option_map (λ file. file.now) c.args.devices)) c.in-Ok.scripts c.ready_from.result
     c.in-Ok.ensures.reads c.ready_from.ensures.scripts
 
-pub returns-in-Ok-clause-start : goal.returns-in-Ok-clause-start
-returns-in-Ok-clause-start g c = rw c.in-Ok.ensures.held at c.ready_from.ensures.start
+pub returns-in-Ok-clause-begins : goal.returns-in-Ok-clause-begins
+returns-in-Ok-clause-begins g c = rw c.in-Ok.ensures.held at c.ready_from.ensures.begins
 
 pub returns-in-Ok-clause-unready : goal.returns-in-Ok-clause-unready
 returns-in-Ok-clause-unready g c =

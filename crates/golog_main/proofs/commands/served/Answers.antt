@@ -1,7 +1,8 @@
-use Rattle.std.proofs.Common.{Some, refl}
+use Rattle.std.proofs.Common.{Some, IfOk, refl}
 use Rattle.golog_words.specs.Commands.{check, replay, ask, migrate}
-use Rattle.golog_commands.specs.Outcome.{outside}
+use Rattle.golog_commands.specs.Outcome.{IsReported, outside}
 use Rattle.golog_commands.proofs.Reporting.{demo-reported, on-err, outcome-nothing, plain-reported}
+use Rattle.golog_main.proofs.Orders.{of-rounds}
 use Rattle.golog_main.proofs.commands.served.Goals as goal
 
 pub returns-in-Check-clause-reported : goal.returns-in-Check-clause-reported
@@ -58,6 +59,14 @@ returns-in-Demo-clause-reported g c =
 
 pub returns-in-Demo-clause-nothing : goal.returns-in-Demo-clause-nothing
 returns-in-Demo-clause-nothing g c = outcome-nothing c.demonstrated.result c.report_if-in-Demo.result _ _ _ _ c.report_if-in-Demo.ensures
+
+pub returns-in-Run-clause-reported : goal.returns-in-Run-clause-reported
+returns-in-Run-clause-reported g c =
+    let means = outside g.F.Files.held g.F.Files.faults g.K.Sink.taken g.K.Sink.faults g.D.Device.fresh g.D.Device.meaning in
+    let before = means c.args.files.now c.args.out.now c.args.devices.now in
+    let after = means c.over_rounds.new.files c.over_rounds.new.out c.over_rounds.new.devices in
+    of-rounds (λ spelled. IfOk c.over_rounds.result (λ status. IsReported status spelled before after)) c.args.order _ _ _ _ _ c.in-Run.is c.requires.way
+    c.over_rounds.ensures.reported
 
 pub returns-in-Run-clause-left : goal.returns-in-Run-clause-left
 returns-in-Run-clause-left g c = rw c.in-Run.is c.over_rounds.ensures.unserved

@@ -29,12 +29,12 @@ returns g c =
     let taken = g.K.Sink.taken in
     let faults = g.K.Sink.faults in
     let outlet = same-outlet _ _ c.run_inline.ensures.same.same_outlet in
-    let base = ap (λ (o : Outlet). o.base) outlet ∙ ap taken c.new-scribe.ensures.base in
-    let count = ap (λ (o : Outlet). o.faults) outlet ∙ ap faults c.new-scribe.ensures.base in
-    let name = c.into_sink-out.ensures.same_reference ∙ ap (λ (o : Outlet). o.name) outlet ∙ c.new-scribe.ensures.same_reference in
+    let base = ap (λ (o : Outlet). o.base) outlet ∙ ap taken c.with-scribe.ensures.base in
+    let count = ap (λ (o : Outlet). o.faults) outlet ∙ ap faults c.with-scribe.ensures.base in
+    let name = c.into_sink-out.ensures.same_reference ∙ ap (λ (o : Outlet). o.name) outlet ∙ c.with-scribe.ensures.same_reference in
     let value = c.into_sink-out.ensures.value in
-    let has = c.run_inline.ensures.stands (c.new-scribe.ensures.stands (ap (λ (p : Course). p.list) c.requires.pen)) in
-    let same = c.run_inline.ensures.same.same_agent ∙ ap (λ (p : Course). p.agent) (c.new-scribe.ensures.core ∙ c.requires.pen) in
+    let has = c.run_inline.ensures.stands (c.with-scribe.ensures.stands (ap (λ (p : Course). p.list) c.requires.pen)) in
+    let same = c.run_inline.ensures.same.same_agent ∙ ap (λ (p : Course). p.agent) (c.with-scribe.ensures.core ∙ c.requires.pen) in
     let ended = ap has_end c.run_inline.ensures.whole ∙ whole-ended agent board c.run_inline.ensures.ran.whole in
     scribe-writes _ _ _ _ (RunsOn agent true before (stand c.args.devices.now) (stand c.run_inline.new.devices)) agent last.driver.core.agent last.driver.core.list last.driver.record.faulted c.answer.result c.run_status-status.result
     (written-of last.driver.core.agent last.driver.core.list last.driver.record.faulted _ _ _ _ _ _ _ _ base (sym (ap taken value) ∙ ap taken (learned name assumption)) count (sym (ap faults value) ∙ ap faults (learned name assumption)) has)

@@ -1,4 +1,6 @@
-use Rattle.std.proofs.Common.{◌∙◌, map, string_bytes, drop}
+use Rattle.std.proofs.Common.{◌∙◌, ap, map, string_bytes, drop}
+use Rattle.std.specs.Prelude.{option_and_then}
+use Rattle.golog_words.specs.Commands.{count_in}
 use Rattle.golog_words.proofs.Parts.{run_parts, is_there, is_text, flag_is}
 use Rattle.golog_words.proofs.reading.read_run.Goals as goal
 
@@ -15,4 +17,5 @@ returns c =
       c.get_str-2.ensures ∙ parts.devices_is,
       flag_is _ _ _ parts.inline_is c.get_flag.ensures.value c.get_flag.ensures.other,
       c.get_str-3.ensures ∙ parts.from_is,
+      c.count_of.ensures ∙ ap (option_and_then count_in) c.get_str-4.ensures ∙ parts.workers_is,
     ) parts.is

@@ -4,7 +4,7 @@ use Rattle.golog_semantics.specs.Journal.{Journal, has_end, longest}
 use Rattle.golog_journal.specs.declared.lead.Led.{Led}
 use Rattle.golog_journal.specs.declared.lead.Led.TheVariants as led
 use Rattle.golog_journal.specs.Boards.{IsBoardList}
-use Rattle.golog_agent.specs.Waiting.{waits}
+use Rattle.golog_lead.specs.Waiting.{waits}
 use Rattle.golog_lead.proofs.Minds.{outlet-still, takes-as}
 use Rattle.golog_agent.proofs.Turning.{lead-so, lead-turn, mind_of, turn-leads, whole-behind}
 use Rattle.golog_agent.proofs.scribe.ScribeLead.turn.Goals as goal

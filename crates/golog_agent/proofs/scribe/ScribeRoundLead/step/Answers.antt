@@ -1,6 +1,6 @@
 use Rattle.std.proofs.Common.{refl, ap}
 use Rattle.golog_lead.proofs.Minds.{outlet-still, takes-as}
-use Rattle.golog_agent.specs.Waiting.{waits}
+use Rattle.golog_lead.specs.Waiting.{waits}
 use Rattle.golog_agent.proofs.Leading.{alone-so}
 use Rattle.golog_agent.proofs.Turning.{lead-turn, mind_of, turn-leads}
 use Rattle.golog_agent.proofs.scribe.ScribeRoundLead.step.Goals as goal

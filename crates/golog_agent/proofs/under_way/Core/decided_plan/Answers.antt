@@ -13,7 +13,7 @@ use Rattle.golog_agent.proofs.Planning.{ahead-plan, blocked-waits, none-ahead}
 use Rattle.golog_agent.proofs.under_way.Core.decided_plan.Goals as goal
 
 pub returns-in-Ok-Some-clause-plan : goal.returns-in-Ok-Some-clause-plan
-returns-in-Ok-Some-clause-plan c =
+returns-in-Ok-Some-clause-plan g c =
     let now = c.args.self.now in
     subst (PlanIs now.agent now.list) (sym c.planned.ensures)
     (ahead-plan now.agent now.list c.keeps_rules.ensures.under_way c.requires.room c.requires.answered c.requires.settled c.may_be_answered.result
@@ -21,26 +21,26 @@ returns-in-Ok-Some-clause-plan c =
     (subst (IsAhead now.agent (values_after now.agent now.list) (left_after now.agent now.list) true) c.in-Ok-Some.field-0-is c.in-Ok-Some.ensures.ahead))
 
 pub blocked_plan-requires-clause-settled : goal.blocked_plan-requires-clause-settled
-blocked_plan-requires-clause-settled c = subst (λ (v : Course). is_settled v.agent v.list ≡ true) (sym c.ahead.ensures.same) c.requires.settled
+blocked_plan-requires-clause-settled g c = subst (λ (v : Course). is_settled v.agent v.list ≡ true) (sym c.ahead.ensures.same) c.requires.settled
 
 pub blocked_plan-requires-clause-answered : goal.blocked_plan-requires-clause-answered
-blocked_plan-requires-clause-answered c = subst (λ (v : Course). is_unanswered v.agent v.list ≡ false) (sym c.ahead.ensures.same) c.requires.answered
+blocked_plan-requires-clause-answered g c = subst (λ (v : Course). is_unanswered v.agent v.list ≡ false) (sym c.ahead.ensures.same) c.requires.answered
 
 pub blocked_plan-requires-clause-room : goal.blocked_plan-requires-clause-room
-blocked_plan-requires-clause-room c = subst (λ (v : Course). is_full v.list ≡ false) (sym c.ahead.ensures.same) c.requires.room
+blocked_plan-requires-clause-room g c = subst (λ (v : Course). is_full v.list ≡ false) (sym c.ahead.ensures.same) c.requires.room
 
 pub blocked_plan-requires-clause-quiet : goal.blocked_plan-requires-clause-quiet
-blocked_plan-requires-clause-quiet c = sym c.is_quiet.ensures ∙ c.if-is_quiet.true
+blocked_plan-requires-clause-quiet g c = sym c.is_quiet.ensures ∙ c.if-is_quiet.true
 
 pub blocked_plan-requires-clause-unended : goal.blocked_plan-requires-clause-unended
-blocked_plan-requires-clause-unended c =
+blocked_plan-requires-clause-unended g c =
     let now = c.args.self.now in
     subst (λ (v : Course). final v.agent (values_after v.agent v.list) Must (left_after v.agent v.list) ≡ false) (sym c.ahead.ensures.same)
     (none-ahead now.agent now.list
     (subst (IsAhead now.agent (values_after now.agent now.list) (left_after now.agent now.list) true) c.in-Ok-None.field-0-is c.in-Ok-None.ensures.ahead)).0
 
 pub blocked_plan-requires-clause-stepless : goal.blocked_plan-requires-clause-stepless
-blocked_plan-requires-clause-stepless c =
+blocked_plan-requires-clause-stepless g c =
     let now = c.args.self.now in
     subst (λ (v : Course). is_empty (moves v.agent (values_after v.agent v.list) Must (left_after v.agent v.list)) ≡ true) (sym c.ahead.ensures.same)
     (ap is_empty
@@ -48,10 +48,10 @@ blocked_plan-requires-clause-stepless c =
     (subst (IsAhead now.agent (values_after now.agent now.list) (left_after now.agent now.list) true) c.in-Ok-None.field-0-is c.in-Ok-None.ensures.ahead)).1)
 
 pub returns-in-Ok-None-clause-plan : goal.returns-in-Ok-None-clause-plan
-returns-in-Ok-None-clause-plan c = subst (λ (v : Course). PlanIs v.agent v.list c.blocked_plan.result) c.ahead.ensures.same c.blocked_plan.ensures
+returns-in-Ok-None-clause-plan g c = subst (λ (v : Course). PlanIs v.agent v.list c.blocked_plan.result) c.ahead.ensures.same c.blocked_plan.ensures
 
 pub returns-in-Ok-None-2-clause-plan : goal.returns-in-Ok-None-2-clause-plan
-returns-in-Ok-None-2-clause-plan c =
+returns-in-Ok-None-2-clause-plan g c =
     let now = c.args.self.now in
     blocked-waits now.agent now.list c.keeps_rules.ensures.under_way c.requires.room c.requires.answered c.requires.settled
     (subst (IsAhead now.agent (values_after now.agent now.list) (left_after now.agent now.list) true) c.in-Ok-None.field-0-is c.in-Ok-None.ensures.ahead)

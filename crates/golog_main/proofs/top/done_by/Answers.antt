@@ -1,8 +1,8 @@
-use Rattle.std.proofs.Common.{Some}
+use Rattle.std.proofs.Common.{Some, rules}
 use Rattle.golog_words.specs.Answers.{command_of}
 use Rattle.golog_commands.specs.Outcome.{outside}
 use Rattle.golog_commands.proofs.Reporting.{no-more-faults, nothing-left}
-use Rattle.golog_main.proofs.top.done.Goals as goal
+use Rattle.golog_main.proofs.top.done_by.Goals as goal
 
 pub returns-in_default-clause-nothing : goal.returns-in_default-clause-nothing
 returns-in_default-clause-nothing g c =
@@ -12,3 +12,9 @@ returns-in_default-clause-nothing g c =
 
 pub returns-in_default-clause-no_fault : goal.returns-in_default-clause-no_fault
 returns-in_default-clause-no_fault g c = no-more-faults _ _ _ _ c.served.result c.served.ensures.nothing
+
+pub returns-in-Run-default-default-false-default-default-clause-nothing : goal.returns-in-Run-default-default-false-default-default-clause-nothing
+returns-in-Run-default-default-false-default-default-clause-nothing g c =
+    let here = c.in-Run-default-default-false-default-default in
+    let said = rw here.is at c.over_threads.ensures.nothing here.workers in
+    rw here.is (search rules)

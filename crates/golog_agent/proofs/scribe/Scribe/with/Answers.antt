@@ -1,6 +1,6 @@
 use Rattle.std.proofs.Common.{sym, ap}
 use Rattle.golog_lead.proofs.Writing.{first-written}
-use Rattle.golog_agent.proofs.scribe.Scribe.new.Goals as goal
+use Rattle.golog_agent.proofs.scribe.Scribe.with.Goals as goal
 
 pub returns-clause-stands : goal.returns-clause-stands
 returns-clause-stands g c = λ none.
