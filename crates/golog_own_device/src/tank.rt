@@ -1,10 +1,9 @@
 //! A device: a tank of nine litres that is filled by the litre and says how full it is.
-ghost use Rattle.std.specs.Prelude.{◌≡◌, true, IfOk, length};
-ghost use Rattle.golog_device.specs.Slots.{standings, FreshBelow};
+ghost use Rattle.std.specs.Prelude.{◌≡◌, true, IfOk};
 
+use crate::slots::Maker;
 use golog_base::{Bytes, List, NoMemory};
 use golog_device::{Begun, Device, Idle, Served};
-use golog_main::DEVICES;
 use std::alloc::Global;
 
 /// How many readings a tank can give: the text of each is made before the run.
@@ -83,16 +82,12 @@ impl Device for Tank {
     }
 }
 
-/// As many tanks as the top call takes. The agent's devices are the first of them.
-pub fn tanks(alloc: Global) -> Result<Vec<Tank>, NoMemory>
-    ensures as_many { IfOk result (λ devices. length devices.items ≡ 16) }
-    ensures fresh { IfOk result (λ devices. FreshBelow 16
-        (standings ⟦<Tank as Device>⟧.fresh ⟦<Tank as Device>⟧.meaning devices.items)) }
-{
-    let mut devices = Vec::new(alloc);
-    for _ in 0..DEVICES {
-        let tank = Tank::new(alloc)?;
-        devices.push(tank)?;
+/// Makes tanks.
+#[derive(Drop)]
+pub struct Tanks;
+
+impl Maker<Tank> for Tanks {
+    fn device(&self, alloc: Global) -> Result<Tank, NoMemory> {
+        Tank::new(alloc)
     }
-    Ok(devices)
 }
