@@ -1,5 +1,5 @@
-//! Runs, checks, replays and asks agent files: `golog run AGENT [DEVICES] [--inline]`, `golog check AGENT`,
-//! `golog replay AGENT JOURNAL`, `golog ask AGENT JOURNAL CONDITION`, `golog demo N`.
+//! Runs, checks, replays and asks agent files, alone or as a team: the command `golog`, whose words
+//! `golog_words::order_of` reads.
 //!
 //! `main` makes `FileFiles` and `OutSink` over the runtime and sixteen script devices, takes the
 //! words without the program's name (`words_of`), calls `golog` on a thread with a stack of 1 GiB
