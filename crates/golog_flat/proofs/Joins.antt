@@ -11,8 +11,8 @@ use Rattle.golog_semantics.specs.Truth.{Values, and_of, both, either, not_of, or
 use Rattle.golog_semantics.proofs.Tests.{and_both}
 use Rattle.golog_known.proofs.Folds.{and_of-range, and_of-take, both-Yes, or_of-range, or_of-take}
 use Rattle.golog_flat.specs.declared.check.Check.{Check}
-use Rattle.golog_flat.specs.Checks.{Tells, check_fits, check_truth}
-use Rattle.golog_flat.specs.Making.{TellJoined, all_or_one, joined, joins_all, turned}
+use Rattle.golog_flat.specs.Checks.{Tells, check_fits, check_truth, turned}
+use Rattle.golog_flat.specs.Making.{TellJoined, all_or_one, joined, joins_all}
 use Rattle.golog_flat.proofs.Parts.{fits-both, fits-either, truth-both, truth-either}
 
 pub ok-then : {A E : Type 0} (P Q : A → Type 0) → ((a : A) → P a → Q a) → (r : Result A E) → IfOk r P → IfOk r Q

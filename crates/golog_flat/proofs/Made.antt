@@ -1,7 +1,8 @@
 -- Checks made of conditions, by the parts of these.
 use Rattle.std.proofs.Common.{◌≡◌, ℕ, ◌<◌, ◌≤◌, Bool, true, false, not, ◌==◌, ◌&&◌, List, [], length, map, take, get_or, refl, sym, ap, ◌∙◌, subst}
-use Rattle.std.specs.Prelude.{nat_lt, slice_index, slice_set}
+use Rattle.std.specs.Prelude.{if◌then◌else◌, nat_le, nat_lt, slice_index, slice_set}
 use Rattle.std.specs.List.{list_all, range_with_len}
+use Rattle.std.proofs.lemmas.Bool.{le-leb, lt-leb, ltb-false, ltb-true}
 use Rattle.std.proofs.lemmas.List.{take_all}
 use Rattle.std.proofs.lemmas.List.Folds.{list_all-map}
 use Rattle.std.proofs.lemmas.List.Sums.{AllPass-from_list_all}
@@ -13,8 +14,8 @@ use Rattle.golog_tree.specs.declared.cond.Cond.TheVariants as cond
 use Rattle.golog_tree.specs.declared.cond.Truth.{Truth}
 use Rattle.golog_tree.specs.declared.cond.Truth.TheVariants.{Yes, No, Unknown}
 use Rattle.golog_tree.specs.Ground.{fluent_no, sort_size}
-use Rattle.golog_semantics.specs.Fits.{Scope, bool_sort, cond_fits, cond_step as fits_step, is_sort, nothing_bound, term_fits, term_step as fits_term}
-use Rattle.golog_semantics.specs.Truth.{Env, Values, arg_value, comparison_of, cond_step, env_of, not_of, term_step, truth, truth_of, value_of}
+use Rattle.golog_semantics.specs.Fits.{Scope, bool_sort, cond_fits, cond_step as fits_step, is_range, is_sort, nothing_bound, term_fits, term_step as fits_term}
+use Rattle.golog_semantics.specs.Truth.{Env, Values, arg_value, comparison_of, cond_step, env_of, is_known, not_of, term_step, truth, truth_of, value_of}
 use Rattle.golog_semantics.proofs.CondByParts as conds
 use Rattle.golog_semantics.proofs.Tests.{and_cases}
 use Rattle.golog_known.specs.Fits.{CondFitsAt, FluentFitsAt}
@@ -25,8 +26,8 @@ use Rattle.golog_flat.specs.declared.check.Check.TheVariants as kind
 use Rattle.golog_flat.specs.declared.check.Check.TheOpen.{Other}
 use Rattle.golog_flat.specs.declared.check.Check.TheFolds.{fold-roll-Check}
 use Rattle.golog_flat.specs.declared.sides.Side.{Side}
-use Rattle.golog_flat.specs.Checks.{Tells, check_fits, check_step, check_truth, fits_step as check_fits_step}
-use Rattle.golog_flat.specs.Making.{EqualFits, IsMadeOf, IsSide, Stands, TellJoined, all_or_one, cond_joined, cond_over, cond_turned, joined, joins_all, side_value, turned}
+use Rattle.golog_flat.specs.Checks.{Tells, check_fits, check_step, check_truth, fits_step as check_fits_step, turned}
+use Rattle.golog_flat.specs.Making.{EqualFits, IsMadeOf, IsSide, Stands, TellJoined, all_or_one, cond_joined, cond_order, cond_over, cond_turned, joined, joins_all, side_value}
 use Rattle.golog_flat.proofs.Joins.{joined-fits, joined-truth, turned-joined}
 
 module _ (agent : Agent) where
@@ -115,11 +116,54 @@ module _ (agent : Agent) where
       ∙ ap (λ v. comparison_of (λ a b. a == b) v (value_of agent values u env)) (h.same values)
       ∙ ap (λ v. comparison_of (λ a b. a == b) (side_value values one) v) (k.same values))
 
+  -- what is not below is at most: so it is where both are known, and else both are unknown
+  not-below : (a b : ℕ) → not_of (comparison_of nat_lt b a) ≡ comparison_of nat_le a b
+  not-below a b = at (is_known a) (is_known b) (nat_lt b a) (nat_le a b) (le-not (nat_lt b a) refl)
+    where
+      le-not : (x : Bool) → nat_lt b a ≡ x → nat_le a b ≡ not x
+      le-not true e = lt-leb a b (ltb-true b a e)
+      le-not false e = le-leb a b (ltb-false b a e)
+
+      at : (k l x y : Bool) → y ≡ not x → not_of (if l && k then truth x else Unknown) ≡ (if k && l then truth y else Unknown)
+      at true true true y e = ap truth (sym e)
+      at true true false y e = ap truth (sym e)
+      at true false x y e = refl
+      at false true x y e = refl
+      at false false x y e = refl
+
   turned-not : (negated : Bool) (t : Truth) → turned (not negated) t ≡ turned negated (not_of t)
   turned-not true Yes = refl
   turned-not true No = refl
   turned-not true Unknown = refl
   turned-not false t = refl
+
+  truth-less : (values : Values) (sort : ℕ) (t u : Term) (env : Env) → truth_of agent values (cond.Less sort t u) env ≡ comparison_of nat_lt (value_of agent values t env) (value_of agent values u env)
+  truth-less values sort t u env = ap (λ (f : Env → Truth). f env) (conds.fold-less (Env → Truth) (Env → ℕ) (cond_step agent values) (term_step agent values) sort t u)
+
+  truth-at_most : (values : Values) (sort : ℕ) (t u : Term) (env : Env) → truth_of agent values (cond.AtMost sort t u) env ≡ comparison_of nat_le (value_of agent values t env) (value_of agent values u env)
+  truth-at_most values sort t u env = ap (λ (f : Env → Truth). f env) (conds.fold-at_most (Env → Truth) (Env → ℕ) (cond_step agent values) (term_step agent values) sort t u)
+
+  module _ (sort : ℕ) (t u : Term) (env : Env) (negated : Bool) (one other : Side) (h : IsSide agent t env one) (k : IsSide agent u env other) (check : Check) where
+    pub made-less : Tells agent (λ values. turned negated (comparison_of nat_lt (side_value values one) (side_value values other))) check → IsMadeOf agent (cond.Less sort t u) env negated check
+    made-less told =
+        made-as (cond.Less sort t u) env negated check (λ values. comparison_of nat_lt (side_value values one) (side_value values other)) told
+        (λ values.
+        truth-less values sort t u env
+        ∙ ap (λ v. comparison_of nat_lt v (value_of agent values u env)) (h.same values)
+        ∙ ap (λ v. comparison_of nat_lt (side_value values one) v) (k.same values))
+
+    pub made-at_most : Tells agent (λ values. turned (not negated) (comparison_of nat_lt (side_value values other) (side_value values one))) check → IsMadeOf agent (cond.AtMost sort t u) env negated check
+    made-at_most told = record {
+      fits = told.fits;
+      same = λ values.
+          told.same values
+          ∙ turned-not negated (comparison_of nat_lt (side_value values other) (side_value values one))
+          ∙ ap (turned negated)
+          (not-below (side_value values one) (side_value values other)
+          ∙ sym (truth-at_most values sort t u env
+          ∙ ap (λ v. comparison_of nat_le v (value_of agent values u env)) (h.same values)
+          ∙ ap (λ v. comparison_of nat_le (side_value values one) v) (k.same values)));
+    }
 
   pub made-not : (c : Cond) (env : Env) (negated : Bool) (check : Check) → IsMadeOf agent c env (not negated) check → IsMadeOf agent (cond.Not c) env negated check
   made-not c env negated check h = record {
@@ -162,6 +206,19 @@ module _ (agent : Agent) where
       let sides = sym (ap (λ (test : Test). test f.scope) (conds.fold-equal Test Sorted (fits_step agent) (fits_term agent) sort t u)) ∙ f.fits in
       let both = and_cases (is_sort agent sort && term_fits agent t f.scope sort) (term_fits agent u f.scope sort) sides in
       let first = and_cases (is_sort agent sort) (term_fits agent t f.scope sort) both.0 in
+      record {
+        one_fits = record { scope = f.scope; sort = sort; fits = first.1; set = f.set };
+        other_fits = record { scope = f.scope; sort = sort; fits = both.1; set = f.set };
+      }
+
+  order-sides : (strict : Bool) (sort : ℕ) (t u : Term) (scope : Scope) → cond_fits agent (cond_order strict sort t u) scope ≡ (is_range agent sort && term_fits agent t scope sort && term_fits agent u scope sort)
+  order-sides true sort t u scope = ap (λ (test : Test). test scope) (conds.fold-less Test Sorted (fits_step agent) (fits_term agent) sort t u)
+  order-sides false sort t u scope = ap (λ (test : Test). test scope) (conds.fold-at_most Test Sorted (fits_step agent) (fits_term agent) sort t u)
+
+  pub order-fits : (strict : Bool) (sort : ℕ) (t u : Term) (env : Env) → CondFitsAt agent (cond_order strict sort t u) env → EqualFits agent t u env
+  order-fits strict sort t u env f =
+      let both = and_cases (is_range agent sort && term_fits agent t f.scope sort) (term_fits agent u f.scope sort) (sym (order-sides strict sort t u f.scope) ∙ f.fits) in
+      let first = and_cases (is_range agent sort) (term_fits agent t f.scope sort) both.0 in
       record {
         one_fits = record { scope = f.scope; sort = sort; fits = first.1; set = f.set };
         other_fits = record { scope = f.scope; sort = sort; fits = both.1; set = f.set };

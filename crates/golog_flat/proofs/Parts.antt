@@ -59,6 +59,29 @@ module _ {A : Type 0} (lenient : Bool) (f : A → Truth) where
   holds-or [] = refl
   holds-or (x ∷ xs) = holds-either lenient (f x) (or_of (map f xs)) ∙ ap (λ b. holds_by lenient (f x) || b) (holds-or xs)
 
+-- what holds only where something else is so does not hold where that isn't
+pub not-so : (b : Bool) {r : Bool} → (b ≡ true → r ≡ true) → r ≡ false → b ≡ false
+not-so true f e = sym (f refl) ∙ e
+not-so false f e = refl
+
+-- what does not hold where the unknown does is false
+pub told-no : (t : Truth) → holds_by true t ≡ false → No ≡ t
+told-no Yes e = absurd (cc)
+told-no No e = refl
+told-no Unknown e = absurd (cc)
+
+-- what holds where the unknown does not is true
+pub told-yes : (t : Truth) → holds_by false t ≡ true → Yes ≡ t
+told-yes Yes e = refl
+told-yes No e = absurd (cc)
+told-yes Unknown e = absurd (cc)
+
+-- what holds with the unknown alone is unknown
+pub told-unknown : (t : Truth) → holds_by true t ≡ true → holds_by false t ≡ false → Unknown ≡ t
+told-unknown Yes e k = absurd (cc)
+told-unknown No e k = absurd (cc)
+told-unknown Unknown e k = refl
+
 -- whether it holds in a mode
 pub holds-mode : (m : Mode) (t : Truth) → holds_by (holds m Unknown) t ≡ holds m t
 holds-mode Must Yes = refl
@@ -116,6 +139,10 @@ module _ (agent : Agent) (values : Values) (lenient : Bool) (parts : List Check)
 
   pub one-holds : (part : Check) → i < length parts → part ≡ get_or parts i part → So part ≡ true → true ≡ So (check.Either parts)
   one-holds part h e k = sym (either-holds agent values lenient parts ∙ list_any_at So parts i part h (ap So (sym e) ∙ k))
+
+  -- each part of a conjunction that holds does
+  pub all-holds : (part : Check) → i < length parts → part ≡ get_or parts i part → So (check.Both parts) ≡ true → So part ≡ true
+  all-holds part h e k = ap So e ∙ AllPass-from_list_all So parts (sym (both-holds agent values lenient parts) ∙ k) i part h
 
   pub all-more : (part : Check) → i < length parts → part ≡ get_or parts i part → So part ≡ true → list_all So (take i parts) ≡ true → list_all So (take (i + 1) parts) ≡ true
   all-more part h e k d = list_all_more So parts i part h ∙ and_both (list_all So (take i parts)) (So (get_or parts i part)) d (ap So (sym e) ∙ k)

@@ -9,7 +9,7 @@ use Rattle.golog_tree.specs.Ground.{ground_fluents}
 use Rattle.golog_semantics.specs.Fits.{cond_fits, nothing_bound}
 use Rattle.golog_semantics.specs.Truth.{Values, and_of, comparison_of, env_of, not_of, or_of, truth, truth_of}
 use Rattle.golog_flat.specs.declared.check.Check.{Check}
-use Rattle.golog_flat.specs.declared.check.Check.TheOpen.{Check-F, Known, Is, IsNot, Equals, Differs, Both, Either, Other}
+use Rattle.golog_flat.specs.declared.check.Check.TheOpen.{Check-F, Known, Is, IsNot, Equals, Differs, Order, Both, Either, Other}
 use Rattle.golog_flat.specs.declared.check.Check.TheFolds.{fold-Check}
 
 -- what is unknown holds or not, as said
@@ -17,6 +17,16 @@ abbrev pub holds_by : Bool → Truth → Bool
 holds_by lenient Yes = true
 holds_by lenient No = false
 holds_by lenient Unknown = lenient
+
+-- what is so, or its negation
+abbrev pub turned : Bool → Truth → Truth
+turned true t = not_of t
+turned false t = t
+
+-- the one value is above the other, or below it
+abbrev pub ordered : Bool → ℕ → ℕ → Truth
+ordered true one other = comparison_of nat_lt other one
+ordered false one other = comparison_of nat_lt one other
 
 -- the truth of a check at values, given that of its parts
 abbrev pub check_step : Agent → Values → Check-F Truth → Truth
@@ -26,6 +36,8 @@ check_step agent values (IsNot place) = not_of (comparison_of nat_lt 0 (slice_in
 check_step agent values (Equals place value) = comparison_of (λ a b. a == b) (slice_index values place) value
 check_step agent values (Differs place value) =
     not_of (comparison_of (λ a b. a == b) (slice_index values place) value)
+check_step agent values (Order place value above negated) =
+    turned negated (ordered above (slice_index values place) value)
 check_step agent values (Both parts) = and_of parts
 check_step agent values (Either parts) = or_of parts
 check_step agent values (Other c) = truth_of agent values c (env_of [])
@@ -45,6 +57,7 @@ fits_step agent (Is place) = is_place agent place
 fits_step agent (IsNot place) = is_place agent place
 fits_step agent (Equals place value) = is_place agent place
 fits_step agent (Differs place value) = is_place agent place
+fits_step agent (Order place value above negated) = is_place agent place
 fits_step agent (Both parts) = list_all (λ fits. fits) parts
 fits_step agent (Either parts) = list_all (λ fits. fits) parts
 fits_step agent (Other c) = cond_fits agent c nothing_bound

@@ -7,18 +7,13 @@ use Rattle.golog_tree.specs.declared.cond.Cond.{Cond}
 use Rattle.golog_tree.specs.declared.cond.Cond.TheVariants as cond
 use Rattle.golog_tree.specs.declared.cond.Truth.{Truth}
 use Rattle.golog_semantics.specs.Fits.{cond_fits, nothing_bound}
-use Rattle.golog_semantics.specs.Truth.{Env, Values, and_of, env_of, not_of, or_of, truth_of, value_of}
+use Rattle.golog_semantics.specs.Truth.{Env, Values, and_of, env_of, or_of, truth_of, value_of}
 use Rattle.golog_known.specs.Fits.{CondFitsAt, TermFitsAt}
 use Rattle.golog_flat.specs.declared.check.Check.{Check}
 use Rattle.golog_flat.specs.declared.check.Check.TheVariants as check
 use Rattle.golog_flat.specs.declared.sides.Side.{Side}
 use Rattle.golog_flat.specs.declared.sides.Side.TheVariants.{Value, At}
-use Rattle.golog_flat.specs.Checks.{Tells, check_fits, check_truth, is_place}
-
--- what is so, or its negation
-abbrev pub turned : Bool → Truth → Truth
-turned true t = not_of t
-turned false t = t
+use Rattle.golog_flat.specs.Checks.{Tells, check_fits, check_truth, is_place, turned}
 
 -- the value of a side
 abbrev pub side_value : Values → Side → ℕ
@@ -55,6 +50,11 @@ abbrev pub cond_joined : Bool → List Cond → Cond
 cond_joined true conds = cond.And conds
 cond_joined false conds = cond.Or conds
 
+-- that one term is below the other, or at most the other
+abbrev pub cond_order : Bool → ℕ → Term → Term → Cond
+cond_order true sort one other = cond.Less sort one other
+cond_order false sort one other = cond.AtMost sort one other
+
 -- the condition with each constant of the sort for the variable, or with some one
 abbrev pub cond_over : Bool → ℕ → ℕ → Cond → Cond
 cond_over true var sort body = cond.ForAll var sort body
@@ -81,7 +81,7 @@ abbrev pub cond_turned : Bool → Cond → Cond
 cond_turned true c = cond.Not c
 cond_turned false c = c
 
--- both sides of an equality can be evaluated
+-- both sides of a comparison can be evaluated
 pub record EqualFits (agent : Agent) (one other : Term) (env : Env) : Type 0 where
   pub one_fits : TermFitsAt agent one env
   pub other_fits : TermFitsAt agent other env

@@ -13,9 +13,22 @@ pub enum Check {
     /// It is not.
     IsNot(u32),
     /// It has the value.
-    Equals { place: u32, value: u8 },
+    Equals {
+        place: u32,
+        value: u8,
+    },
     /// It has another value.
-    Differs { place: u32, value: u8 },
+    Differs {
+        place: u32,
+        value: u8,
+    },
+    /// Its value is below this one, or above it, or is not.
+    Order {
+        place: u32,
+        value: u8,
+        above: bool,
+        negated: bool,
+    },
     /// All of these hold.
     Both(List<Check>),
     /// One of these holds.

@@ -4,18 +4,18 @@ ghost use Rattle.golog_semantics.specs.Fits.{cond_fits, nothing_bound};
 ghost use Rattle.golog_tree.specs.Ground.{IsCountable};
 ghost use Rattle.golog_semantics.specs.WellFormed.{WellFormed};
 ghost use Rattle.golog_flat.specs.Checks.{IsCheckOf};
-ghost use Rattle.golog_flat.specs.Making.{EqualFits, IsMadeOf, Stands, cond_joined, cond_over, cond_turned, joins_all as all_joined};
+ghost use Rattle.golog_flat.specs.Making.{EqualFits, IsMadeOf, Stands, cond_joined, cond_order, cond_over, cond_turned, joins_all as all_joined};
 
 use crate::check::Check;
 use crate::joining::joined;
 use crate::making::{Making, Stop};
-use crate::sides::{equality_check, place_of, plain_check, side_of, truth_check};
+use crate::sides::{equality_check, order_check, place_of, plain_check, side_of, truth_check};
 use golog_base::{Boxed, List, NoMemory};
 use golog_known::Env;
 use golog_tree::{Agent, Cond, Term, copy_cond, sort_size};
 use std::alloc::Global;
 
-/// A binder is put in where the condition below it then has fewer parts.
+/// A binder of a condition that is asked of many states is put in where the condition below it then has fewer parts.
 const MOST_PARTS: u32 = 64;
 
 /// How many parts a condition has where each binder is put in; the greatest `u32` stands for itself and all above. It
@@ -94,6 +94,31 @@ impl<'a> Making<'a> {
         equality_check(one, other, negated)
     }
 
+    /// That one of two terms is below the other, or at most the other, where each is a constant, a variable or a
+    /// fluent, and not both are fluents.
+    fn order(
+        &self,
+        strict: bool,
+        sort: u32,
+        one: &Term,
+        other: &Term,
+        env: &Env,
+        negated: bool,
+    ) -> Result<Check, Stop>
+        requires { EqualFits self.now.agent.now one.now other.now env.now }
+        ensures { IfOk result (IsMadeOf self.now.agent.now (cond_order strict sort one.now other.now) env.now negated) }
+    {
+        // What the sort is matters to the contract alone.
+        let _ = sort;
+        let one = side_of(self.agent, one, env)?;
+        let other = side_of(self.agent, other, env)?;
+        if strict {
+            order_check(one, other, negated)
+        } else {
+            order_check(other, one, !negated)
+        }
+    }
+
     /// The check of a condition, or of its negation, where its variables have these values.
     #[cycle(flat)]
     fn check_of(&self, cond: &Cond, env: &Env, negated: bool, bound: bool) -> Result<Check, Stop>
@@ -121,8 +146,10 @@ impl<'a> Making<'a> {
                 Ok(truth_check(place, negated))
             }
             Cond::Equal { sort, one, other } => self.equality(*sort, one, other, env, negated),
-            Cond::Less { .. } => Err(Stop::Bound),
-            Cond::AtMost { .. } => Err(Stop::Bound),
+            Cond::Less { sort, one, other } => self.order(true, *sort, one, other, env, negated),
+            Cond::AtMost { sort, one, other } => {
+                self.order(false, *sort, one, other, env, negated)
+            }
             Cond::Not(body) => self.of_negation(body.get(), env, negated, bound),
             Cond::And(conds) => self.of_parts(true, conds.as_slice(), env, negated, bound),
             Cond::Or(conds) => self.of_parts(false, conds.as_slice(), env, negated, bound),
@@ -196,7 +223,7 @@ impl<'a> Making<'a> {
         // Whether a variable is bound outside matters to the contract alone: below, one is.
         let _ = bound;
         let size = sort_size(self.agent, sort);
-        if size.saturating_mul(parts_of(self.agent, body)) >= MOST_PARTS {
+        if size.saturating_mul(parts_of(self.agent, body)) >= self.most_parts {
             return Err(Stop::Bound);
         }
         let all = joins_all(universal, negated);
@@ -216,7 +243,25 @@ impl Check {
         requires closed { IsTrue (cond_fits agent.now cond.now nothing_bound) }
         ensures { IfOk result (IsCheckOf agent.now cond.now) }
     {
-        let making = Making { alloc, agent };
+        Check::within(alloc, agent, cond, MOST_PARTS)
+    }
+
+    /// The same. Binders are put in where that makes fewer parts than are said.
+    pub fn within(
+        alloc: Global,
+        agent: &Agent,
+        cond: &Cond,
+        most_parts: u32,
+    ) -> Result<Check, NoMemory>
+        requires agent { WellFormed agent.now }
+        requires closed { IsTrue (cond_fits agent.now cond.now nothing_bound) }
+        ensures { IfOk result (IsCheckOf agent.now cond.now) }
+    {
+        let making = Making {
+            alloc,
+            agent,
+            most_parts,
+        };
         match making.check_of(cond, &Env::new(), false, false) {
             Ok(check) => Ok(check),
             Err(Stop::Memory) => Err(NoMemory),

@@ -3,7 +3,7 @@ ghost use Rattle.std.specs.Prelude.{◌≡◌, ◌==◌, nat_lt};
 ghost use Rattle.golog_semantics.specs.Modes.{holds};
 ghost use Rattle.golog_semantics.specs.Truth.{comparison_of, not_of};
 ghost use Rattle.golog_tree.specs.declared.cond.Truth.TheVariants.{Unknown};
-ghost use Rattle.golog_flat.specs.Checks.{holds_by};
+ghost use Rattle.golog_flat.specs.Checks.{holds_by, ordered, turned};
 
 use golog_known::UNKNOWN;
 use golog_semantics::Mode;
@@ -67,5 +67,29 @@ pub fn is_other(one: u8, other: u8, lenient: bool) -> bool
         lenient
     } else {
         one != other
+    }
+}
+
+/// Whether the one value is below the other, or is not.
+pub fn is_below(one: u8, other: u8, negated: bool, lenient: bool) -> bool
+    ensures { result ≡ holds_by lenient (turned negated (comparison_of nat_lt one other)) }
+{
+    if one == UNKNOWN || other == UNKNOWN {
+        lenient
+    } else if negated {
+        !(one < other)
+    } else {
+        one < other
+    }
+}
+
+/// Whether the one value is below the other, or above it, or is not.
+pub fn is_ordered(one: u8, other: u8, above: bool, negated: bool, lenient: bool) -> bool
+    ensures { result ≡ holds_by lenient (turned negated (ordered above one other)) }
+{
+    if above {
+        is_below(other, one, negated, lenient)
+    } else {
+        is_below(one, other, negated, lenient)
     }
 }

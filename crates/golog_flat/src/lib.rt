@@ -5,9 +5,12 @@
 //! exactly where the condition does; and what an effect writes makes of any values those after the
 //! step. A check is made by a walk down the condition with the values of the variables that are bound
 //! outside, so nothing is put into a condition. A negation goes down to the ground fluents. Where the
-//! walk comes to an order of numbers, an equality of two fluents or a term that is computed, the
-//! condition stands as it is, if no variable is bound outside it; else the outermost binder does, and
-//! so where a binder with each constant put in has 64 parts or more.
+//! walk comes to a comparison of two fluents or a term that is computed, the condition stands as it
+//! is, if no variable is bound outside it; else the outermost binder does, and so where a binder with
+//! each constant put in has too many parts: 64 (`Check::of`), or as many as are said
+//! (`Check::within`). Of a disjunction those parts are passed over without a call that are
+//! conjunctions whose first or last part says of one fluent what isn't so: most parts of a binder
+//! that was put in.
 //!
 //! An effect is made by `advance` of golog_progress from values that are all 0 and from values that
 //! are all unknown: plain causes make of a ground fluent one value or leave what it was, so exactly

@@ -10,6 +10,8 @@ use std::alloc::Global;
 pub(crate) struct Making<'a> {
     pub alloc: Global,
     pub agent: &'a Agent,
+    /// A binder is put in where the condition below it then has fewer parts.
+    pub most_parts: u32,
     ghost countable: { IsCountable agent.now },
 }
 

@@ -4,8 +4,8 @@ ghost use Rattle.golog_tree.specs.Ground.{IsCountable, fluent_no as spec_fluent_
 ghost use Rattle.golog_tree.specs.declared.agent.Agent.{Agent as AnyAgent};
 ghost use Rattle.golog_semantics.specs.Truth.{arg_value, comparison_of, truth};
 ghost use Rattle.golog_known.specs.Fits.{FluentFitsAt, TermFitsAt};
-ghost use Rattle.golog_flat.specs.Checks.{Tells, is_place};
-ghost use Rattle.golog_flat.specs.Making.{IsSide, side_fits, side_value, turned};
+ghost use Rattle.golog_flat.specs.Checks.{Tells, is_place, ordered, turned};
+ghost use Rattle.golog_flat.specs.Making.{IsSide, side_fits, side_value};
 
 use crate::check::Check;
 use crate::making::Stop;
@@ -113,6 +113,49 @@ pub fn equality_check(one: Side, other: Side, negated: bool) -> Result<Check, St
         (Side::Value(one), Side::Value(other)) => values_check(one, other, negated),
         (Side::At(place), Side::Value(value)) => Ok(value_check(place, value, negated)),
         (Side::Value(value), Side::At(place)) => Ok(value_check(place, value, negated)),
+        (Side::At(_), Side::At(_)) => Err(Stop::Bound),
+    }
+}
+
+/// That the value of the ground fluent is below this one, or above it, or is not.
+fn place_order(place: u32, value: u8, above: bool, negated: bool) -> Check
+    ensures { (agent : AnyAgent) → is_place agent place ≡ true
+        → Tells agent (λ values. turned negated (ordered above (slice_index values place) value)) result }
+{
+    Check::Order {
+        place,
+        value,
+        above,
+        negated,
+    }
+}
+
+/// That the one value is below the other, or that it is not, where both are known.
+fn values_order(one: u8, other: u8, negated: bool) -> Result<Check, Stop>
+    ensures { IfOk result (λ check. (agent : AnyAgent)
+        → side_fits agent (Side.Value one) ≡ true → side_fits agent (Side.Value other) ≡ true
+        → Tells agent (λ values. turned negated (comparison_of nat_lt
+        (side_value values (Side.Value one)) (side_value values (Side.Value other)))) check) }
+{
+    if one == UNKNOWN || other == UNKNOWN {
+        Err(Stop::Bound)
+    } else if negated {
+        Ok(Check::Known(!(one < other)))
+    } else {
+        Ok(Check::Known(one < other))
+    }
+}
+
+/// That the one side is below the other, or that it is not, where a check can say so.
+pub fn order_check(one: Side, other: Side, negated: bool) -> Result<Check, Stop>
+    ensures { IfOk result (λ check. (agent : AnyAgent) → side_fits agent one ≡ true → side_fits agent other ≡ true
+        → Tells agent (λ values. turned negated
+        (comparison_of nat_lt (side_value values one) (side_value values other))) check) }
+{
+    match (one, other) {
+        (Side::Value(one), Side::Value(other)) => values_order(one, other, negated),
+        (Side::At(place), Side::Value(value)) => Ok(place_order(place, value, false, negated)),
+        (Side::Value(value), Side::At(place)) => Ok(place_order(place, value, true, negated)),
         (Side::At(_), Side::At(_)) => Err(Stop::Bound),
     }
 }

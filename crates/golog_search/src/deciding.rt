@@ -11,6 +11,7 @@ ghost use Rattle.golog_semantics.specs.Search.{final, nest_limit};
 ghost use Rattle.golog_semantics.specs.InSorts.{AreInSorts};
 ghost use Rattle.golog_semantics.specs.Ways.{is_empty};
 ghost use Rattle.golog_semantics.specs.WellFormed.{WellFormed};
+ghost use Rattle.golog_ways.specs.Ready.{AreReady};
 ghost use Rattle.golog_search.specs.Decided.{IsAhead, IsDecided, decision, stepping as after_step};
 ghost use Rattle.golog_search.specs.Kept.{KeepsRun};
 ghost use Rattle.golog_search.specs.Steady.{steady};
@@ -26,7 +27,9 @@ use golog_find::NEST_LIMIT;
 use golog_progress::State;
 use golog_semantics::{Mode, Move};
 use golog_tree::{Agent, Prog, nest};
-use golog_ways::{Expand, Keep, Plain, Reach, Stop, Walk, first_move, is_final, reach_of};
+use golog_ways::{
+    Expand, Keep, Plain, Reach, Ready, Stop, Walk, first_move_with, is_final, reach_of,
+};
 use std::alloc::Global;
 
 /// Whether what a step leaves nests too deep; that is known not to be so, or is measured.
@@ -59,6 +62,34 @@ fn stays_shallow(prog: &Prog, shallow: bool) -> bool
     shallow && steady(prog).is_some()
 }
 
+/// The end or the first step, where one is certain. The conditions that are made ready are asked by their checks.
+fn look_ahead_with<X: Expand>(
+    alloc: Global,
+    agent: &Agent,
+    prog: &Prog,
+    blocks: &Searches<'_, X>,
+    shallow: bool,
+    ready: &[Ready],
+) -> Result<Option<Decision>, NoMemory>
+    requires agent { WellFormed agent.now }
+    requires program { IsTrue (fits agent.now prog.now) }
+    requires sorts { AreInSorts agent.now blocks.now.state.now }
+    requires told { AreTold agent.now blocks.now.state.now blocks.now.told.now }
+    requires shallow { shallow ≡ true → nest prog.now ≤ nest_limit }
+    requires checked { AreReady agent.now ready.now }
+    ensures { IfOk result (IsAhead agent.now blocks.now.state.now prog.now blocks.now.bounded) }
+{
+    if is_final(alloc, agent, Mode::Must, prog, blocks.state)? {
+        return Ok(Some(Decision::Final));
+    }
+    match first_move_with(alloc, agent, blocks, prog, blocks.state.values(), ready) {
+        Ok(Some(step)) => Ok(Some(stepping(step, stays_shallow(prog, shallow)))),
+        Ok(None) => Ok(None),
+        Err(Stop::Fuel) => Ok(Some(Decision::Fuel)),
+        Err(Stop::Memory) => Err(NoMemory),
+    }
+}
+
 /// The end or the first step, where one is certain.
 fn look_ahead<X: Expand>(
     alloc: Global,
@@ -74,15 +105,7 @@ fn look_ahead<X: Expand>(
     requires shallow { shallow ≡ true → nest prog.now ≤ nest_limit }
     ensures { IfOk result (IsAhead agent.now blocks.now.state.now prog.now blocks.now.bounded) }
 {
-    if is_final(alloc, agent, Mode::Must, prog, blocks.state)? {
-        return Ok(Some(Decision::Final));
-    }
-    match first_move(alloc, agent, blocks, prog, blocks.state.values()) {
-        Ok(Some(step)) => Ok(Some(stepping(step, stays_shallow(prog, shallow)))),
-        Ok(None) => Ok(None),
-        Err(Stop::Fuel) => Ok(Some(Decision::Fuel)),
-        Err(Stop::Memory) => Err(NoMemory),
-    }
+    look_ahead_with(alloc, agent, prog, blocks, shallow, &[])
 }
 
 /// Why a program that certainly neither ends nor steps is blocked, where no end is near either.
@@ -255,7 +278,7 @@ pub fn decide_step(
 /// What `decide_step` tells. Where the program is known to nest no deeper than 2,048, what a step leaves is
 /// measured only where it may nest deeper than the program. Whether the runs that are under way go through is
 /// asked of the keep, all of whose earlier calls were with this agent. Whoever expands lists the steps of many states of
-/// a search at once.
+/// a search at once. The conditions that are made ready are asked by their checks.
 pub fn decide_step_of<X: Expand, K: Keep>(
     alloc: Global,
     agent: &Agent,
@@ -264,12 +287,14 @@ pub fn decide_step_of<X: Expand, K: Keep>(
     shallow: bool,
     keep: &mut K,
     expand: &X,
+    ready: &[Ready],
 ) -> Result<Option<Decision>, NoMemory>
     requires agent { WellFormed agent.now }
     requires program { IsTrue (fits agent.now prog.now) }
     requires sorts { AreInSorts agent.now state.now }
     requires shallow { shallow ≡ true → nest prog.now ≤ nest_limit }
     requires serves { K.serves keep.old agent.now }
+    requires checked { AreReady agent.now ready.now }
     ensures ahead { IfOk result (IsAhead agent.now state.now prog.now true) }
     ensures serves { K.serves keep.new agent.now }
 {
@@ -281,7 +306,7 @@ pub fn decide_step_of<X: Expand, K: Keep>(
         told: runs,
         expand,
     };
-    look_ahead(alloc, agent, prog, &blocks, shallow)
+    look_ahead_with(alloc, agent, prog, &blocks, shallow, ready)
 }
 
 /// What `decide` tells of a program that certainly neither ends nor steps. Whoever expands lists the steps of many

@@ -3,8 +3,8 @@
 //! `decide` goes by golog_ways' `is_final`, `first_move` and `reach_of` in the order of the answer:
 //! may it end for certain, is there a first certain step, and if neither, might it step or end were
 //! more known, or is a step possible at all. Its two halves stand by themselves: `decide_step` (the
-//! end or the step; `decide_step_of` where the program is known not to nest too deep) and
-//! `decide_blocked` (why there is neither, with searches of its own). `first_move` and `reach_of`
+//! end or the step; `decide_step_of` where the program is known not to nest too deep, and some
+//! conditions are made ready) and `decide_blocked` (why there is neither, with searches of its own). `first_move` and `reach_of`
 //! ask `Searches` for the steps of blocks, which searches each at the values of the state, within
 //! the block's fuel or, for `decide_unbounded`, without bounds. Where a search wants more than its
 //! fuel `decide` answers `Fuel`, and the program is heavy then; `heavy` tells that by itself. Of

@@ -5,5 +5,6 @@ pub mod InWorlds
 pub mod Lacking
 pub mod Open
 pub mod Reach
+pub mod Ready
 pub mod Searched
 pub mod Walks

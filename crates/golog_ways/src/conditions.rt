@@ -6,16 +6,20 @@ ghost use Rattle.golog_fronts.specs.Closed.{IsClosed};
 ghost use Rattle.golog_fronts.specs.Precondition.{precondition as precondition_of};
 
 use crate::here::Here;
+use crate::ready::ready_truth;
 use golog_known::{Env, value};
 use golog_tree::{Arg, Cond, Prog, Truth};
 
 impl<'a, 'v> Here<'a, 'v> {
-    /// The truth of a condition with no free variable.
+    /// The truth of a condition with no free variable: by its check where it is made ready.
     pub fn truth(&self, cond: &Cond) -> Truth
         requires { IsTrue (cond_fits self.now.agent.now cond.now nothing_bound) }
         ensures { result ≡ truth_of self.now.agent.now self.now.values.now cond.now (env_of []) }
     {
-        value(self.agent, cond, &Env::new(), self.values)
+        match ready_truth(self.agent, self.ready, cond, self.values) {
+            Some(truth) => truth,
+            None => value(self.agent, cond, &Env::new(), self.values),
+        }
     }
 
     /// The truth of the precondition of an action at these constants.

@@ -17,8 +17,9 @@
 //! `first_move` goes to the first part first and, where that has no certain step, asks whether it
 //! may end or step; nothing is listed. It and `reach_of` stop for want of fuel only where a block
 //! at the front wants more: in Must, or in Near where it stands in the higher part of a `prio`
-//! (`first_move`), or anywhere (`reach_of`). What a step leaves copies the parts beside the path to
-//! what stepped, and of a `pick` or a call the body.
+//! (`first_move`), or anywhere (`reach_of`). `first_move_with` answers the same, and asks those
+//! conditions by their checks that `ready_of` has made ready (`ready`). What a step leaves copies the
+//! parts beside the path to what stepped, and of a `pick` or a call the body.
 //!
 //! The recursions end as those of golog_fronts do. Its calls are exported here too.
 //!
@@ -31,8 +32,8 @@
 //! state (`Node`), and asks the checks of many kept steps (`NumberedFront`, `Asked`). `Plain` does one
 //! after another.
 //!
-//! The layers above use `first_move` and `reach_of` (golog_search) and `is_final` (golog_search,
-//! golog_find), with programs that `IsClosed` (golog_fronts, specs/Closed); `ways_of` and
+//! The layers above use `first_move_with` and `reach_of` (golog_search), `ready_of` (golog_agent) and
+//! `is_final` (golog_search, golog_find), with programs that `IsClosed` (golog_fronts, specs/Closed); `ways_of` and
 //! `state_after` (golog_find); `goes_through` and `Keep` (golog_search, golog_watch). `first`,
 //! `any`, `flip` and `has_front_block` are for whoever searches no block: of the other crates the
 //! tests alone call them.
@@ -53,6 +54,7 @@ mod placing;
 mod programs;
 mod reaches;
 mod reaching;
+mod ready;
 mod single;
 mod without;
 
@@ -68,7 +70,8 @@ pub use golog_semantics::Mode;
 pub use keep::{Keep, Walk};
 pub use listing::ways_of;
 pub use modes::{flip, holds};
-pub use moving::first_move;
+pub use moving::{first_move, first_move_with};
 pub use programs::{any, first, is_final};
 pub use reaches::Reach;
 pub use reaching::reach_of;
+pub use ready::{Ready, ready_of};

@@ -1,10 +1,11 @@
-// `first_move`, the first certain step of a program: the first part is asked first, and nothing is
-// listed.
+// `first_move` and `first_move_with`, the first certain step of a program: the first part is asked first, and
+// nothing is listed.
 ghost use Rattle.std.specs.Prelude.{◌≡◌, false, IfOk, IfErr, length};
 ghost use Rattle.golog_tree.specs.Ground.{ground_fluents};
 ghost use Rattle.golog_fronts.specs.Closed.{IsFit, IsClosed};
 ghost use Rattle.golog_ways.specs.FirstMove.{IsFirst};
 ghost use Rattle.golog_ways.specs.Lacking.{StopsAt};
+ghost use Rattle.golog_ways.specs.Ready.{AreReady};
 ghost use Rattle.golog_ways.specs.Walks.{IsReadyWithin, IsFirstWithin, FirstStops};
 
 use crate::answering::{Blocks, Stop};
@@ -12,6 +13,7 @@ use crate::following::Following;
 use crate::here::{Here, Within};
 use crate::modes::holds;
 use crate::placing::{before, first_beside, over, second_beside, under};
+use crate::ready::Ready;
 use golog_fronts::body_of;
 use golog_semantics::{Mode, Move};
 use golog_tree::{Agent, Arg, Cond, Prog, Truth, Way, put_arg, sort_size};
@@ -35,10 +37,33 @@ pub fn first_move<B: Blocks>(
     ensures fuel { IfErr result
         (StopsAt agent.now (B.wants blocks.now agent.now values.now) false prog.now) }
 {
+    first_move_with(alloc, agent, blocks, prog, values, &[])
+}
+
+/// The same. The conditions that are made ready are asked by their checks.
+pub fn first_move_with<B: Blocks>(
+    alloc: Global,
+    agent: &Agent,
+    blocks: &B,
+    prog: &Prog,
+    values: &[u8],
+    ready: &[Ready],
+) -> Result<Option<Move>, Stop>
+    requires fit { IsFit agent.now }
+    requires closed { IsClosed agent.now prog.now }
+    requires whole { length values.now ≡ length (ground_fluents agent.now) }
+    requires ready { B.ready blocks.now agent.now values.now }
+    requires checked { AreReady agent.now ready.now }
+    ensures first { IfOk result
+        (IsFirst agent.now (B.moves blocks.now agent.now values.now) values.now prog.now) }
+    ensures fuel { IfErr result
+        (StopsAt agent.now (B.wants blocks.now agent.now values.now) false prog.now) }
+{
     let here = Here {
         alloc,
         agent,
         values,
+        ready,
     };
     let within = Within { here, blocks };
     within.first_move(prog)

@@ -41,6 +41,7 @@ pub fn is_final(
         alloc,
         agent,
         values: state.values(),
+        ready: &[],
     };
     here.can_end(mode, prog)
 }

@@ -39,6 +39,7 @@ pub fn reach_of<B: Blocks>(
         alloc,
         agent,
         values,
+        ready: &[],
     };
     let within = Within { here, blocks };
     within.reach_of(prog)

@@ -5,8 +5,8 @@ use Rattle.golog_semantics.specs.Truth.{Values, comparison_of}
 use Rattle.golog_flat.specs.declared.check.Check.{Check}
 use Rattle.golog_flat.specs.declared.sides.Side.{Side}
 use Rattle.golog_flat.specs.declared.sides.Side.TheVariants.{Value}
-use Rattle.golog_flat.specs.Checks.{Tells}
-use Rattle.golog_flat.specs.Making.{side_fits, side_value, turned}
+use Rattle.golog_flat.specs.Checks.{Tells, turned}
+use Rattle.golog_flat.specs.Making.{side_fits, side_value}
 use Rattle.golog_flat.proofs.sides.equality_check.Goals as goal
 
 -- the check tells whether the two sides are equal

@@ -1,5 +1,7 @@
 use Rattle.std.proofs.Common.{◌≡◌, ℕ, List, IfOk, length, ap, ◌∙◌, subst}
+use Rattle.std.proofs.lemmas.List.Elements.{All-nil}
 use Rattle.golog_semantics.specs.Search.{final}
+use Rattle.golog_ways.specs.Ready.{IsReady}
 use Rattle.golog_ways.proofs.InWorlds.{end_in_worlds}
 use Rattle.golog_fronts.proofs.WellFormedFits.{well_formed_fits}
 use Rattle.golog_ways.proofs.programs.is_final.Goals as goal
@@ -9,6 +11,9 @@ invariant_of-here-clause-fit c = well_formed_fits c.args.agent.now c.requires.ag
 
 pub invariant_of-here-clause-whole : goal.invariant_of-here-clause-whole
 invariant_of-here-clause-whole c = ap length c.values.ensures ∙ c.requires.sorts.whole
+
+pub invariant_of-here-clause-checked : goal.invariant_of-here-clause-checked
+invariant_of-here-clause-checked c = All-nil (IsReady c.args.agent.now)
 
 pub returns : goal.returns
 returns c =

@@ -1,4 +1,4 @@
-use Rattle.std.proofs.Common.{◌<◌, length, sym, ap, ◌∙◌, subst, rules, arith, refl}
+use Rattle.std.proofs.Common.{◌<◌, true, false, length, sym, ap, ◌∙◌, subst, rules, arith, refl}
 use Rattle.std.specs.Prelude.{IfOk}
 use Rattle.golog_tree.specs.declared.cond.Cond.TheVariants as cond
 use Rattle.golog_tree.specs.Ground.{sort_size}
@@ -8,7 +8,7 @@ use Rattle.golog_tree.specs.Ground.{fluent_no}
 use Rattle.golog_known.specs.Fits.{CondFitsAt}
 use Rattle.golog_semantics.specs.Truth.{arg_value}
 use Rattle.golog_flat.specs.Making.{IsMadeOf, Stands}
-use Rattle.golog_flat.proofs.Made.{Told, ToldAt, each-fits, equal-fits, is-fits, made-each, made-is, made-not, made-parts, made-plain, no-parts, stands-bound, stands-not, stands-part}
+use Rattle.golog_flat.proofs.Made.{Told, ToldAt, each-fits, equal-fits, is-fits, made-each, made-is, made-not, made-parts, made-plain, no-parts, order-fits, stands-bound, stands-not, stands-part}
 use Rattle.golog_flat.proofs.Joins.{ok-then, range-more, take-more}
 use Rattle.golog_flat.proofs.making.Making.+flat.Goals as goal
 
@@ -33,6 +33,16 @@ pub by_parts-equality-requires : goal.by_parts-equality-requires
 by_parts-equality-requires t c =
     let agent = c.args.self.now.agent.now in
     equal-fits agent c.in-Equal.sort c.in-Equal.one c.in-Equal.other c.args.env.now (subst (λ d. CondFitsAt agent d c.args.env.now) c.in-Equal.is c.requires.fits)
+
+pub by_parts-order-requires : goal.by_parts-order-requires
+by_parts-order-requires t c =
+    let agent = c.args.self.now.agent.now in
+    order-fits agent true c.in-Less.sort c.in-Less.one c.in-Less.other c.args.env.now (subst (λ d. CondFitsAt agent d c.args.env.now) c.in-Less.is c.requires.fits)
+
+pub by_parts-order-requires-in-AtMost : goal.by_parts-order-requires-in-AtMost
+by_parts-order-requires-in-AtMost t c =
+    let agent = c.args.self.now.agent.now in
+    order-fits agent false c.in-AtMost.sort c.in-AtMost.one c.in-AtMost.other c.args.env.now (subst (λ d. CondFitsAt agent d c.args.env.now) c.in-AtMost.is c.requires.fits)
 
 pub of_negation-check_of-requires : goal.of_negation-check_of-requires
 of_negation-check_of-requires t c =

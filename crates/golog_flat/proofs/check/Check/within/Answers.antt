@@ -2,7 +2,7 @@ use Rattle.std.proofs.Common.{false, subst}
 use Rattle.std.proofs.lemmas.Bool.{false≢true}
 use Rattle.golog_flat.specs.Making.{IsMadeOf}
 use Rattle.golog_flat.proofs.Parts.{closed_fits}
-use Rattle.golog_flat.proofs.check.Check.of.Goals as goal
+use Rattle.golog_flat.proofs.check.Check.within.Goals as goal
 
 pub invariant_of-making : goal.invariant_of-making
 invariant_of-making c = record { countable = c.requires.agent.countable }
