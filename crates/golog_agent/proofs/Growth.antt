@@ -1,77 +1,46 @@
 -- What is kept of a program under way, with one more entry.
-use Rattle.std.proofs.Common.{◌≡◌, ℕ, ◌<◌, Bool, true, false, not, ◌&&◌, ◌||◌, List, [], ◌∷◌, ◌++◌, length, Option, Some, None, refl, sym, ap, ◌∙◌, subst, arith}
-use Rattle.std.specs.Prelude.{slice_get, option_and_then, unwrap_or, nat_lt}
-use Rattle.std.specs.List.{list_any}
-use Rattle.std.specs.Option.{option_map_or}
+use Rattle.std.proofs.Common.{◌≡◌, ℕ, true, not, ◌&&◌, List, [], ◌∷◌, ◌++◌, length, Option, None, refl, sym, ap, ◌∙◌, subst}
+use Rattle.std.specs.Prelude.{unwrap_or, nat_lt}
 use Rattle.std.proofs.lemmas.Bool.{and_parts}
-use Rattle.std.proofs.lemmas.Option.{slice_get_within}
-use Rattle.std.proofs.lemmas.List.Elements.{Contains-push, Contains-append_left}
-use Rattle.golog_base.proofs.Bools.{or-false}
 use Rattle.golog_tree.specs.declared.agent.Agent.{Agent}
-use Rattle.golog_tree.specs.declared.agent.ActionItem.{ActionItem}
 use Rattle.golog_tree.specs.declared.prog.Prog.{Prog}
-use Rattle.golog_tree.specs.declared.prog.Label.{Label}
 use Rattle.golog_tree.specs.declared.prog.Label.TheVariants.{Do as Doing}
-use Rattle.golog_tree.specs.Ground.{Ground, ground_actions}
 use Rattle.golog_semantics.specs.declared.journal.Entry.{Entry}
-use Rattle.golog_semantics.specs.declared.journal.Entry.TheVariants.{Do, Test, Exo, Sense, Rest, Close, End}
+use Rattle.golog_semantics.specs.declared.journal.Entry.TheVariants.{Do}
 use Rattle.golog_semantics.specs.declared.journal.Answer.{Answer}
-use Rattle.golog_semantics.specs.declared.journal.PlacedRun.{PlacedRun}
 use Rattle.golog_semantics.specs.declared.Mode.TheVariants.{Must}
 use Rattle.golog_semantics.specs.Search.{final}
-use Rattle.golog_semantics.specs.Ways.{is_empty}
-use Rattle.golog_semantics.specs.Journal.{Journal, action_item, commands, count, has_end, is_end, is_settled, limit}
+use Rattle.golog_semantics.specs.Journal.{Journal, count, is_settled, limit}
 use Rattle.golog_semantics.specs.Progress.{values_after, left_after}
 use Rattle.golog_semantics.specs.WellFormed.{WellFormed}
-use Rattle.golog_semantics.specs.Online.{IsOnlineSoFar, first_fault, is_first, is_result, keeps_step}
-use Rattle.golog_semantics.specs.OneMore.{and_then}
+use Rattle.golog_semantics.specs.Online.{IsOnlineSoFar, first_fault, is_first, keeps_step}
 use Rattle.golog_semantics.specs.InlineText.{report_of}
-use Rattle.golog_semantics.specs.Reports.{fits_entry, is_device, is_exogenous, is_value}
 use Rattle.golog_semantics.specs.Blocks.{moves}
-use Rattle.golog_semantics.proofs.Grown.{entries_grow, progress_grows}
+use Rattle.golog_semantics.proofs.Grown.{progress_grows}
 use Rattle.golog_semantics.proofs.LeftFits.{left_after-fits}
 use Rattle.golog_semantics.proofs.NoFaults.{so_far-no-fault}
 use Rattle.golog_semantics.proofs.OnlineSorts.{online_stays}
-use Rattle.golog_progress.specs.Entries.{EntryFits, EntriesFit}
+use Rattle.golog_progress.specs.Entries.{EntriesFit}
 use Rattle.golog_journal.specs.Boards.{AgentJournal, IsBoardList}
-use Rattle.golog_journal.proofs.Lawful.{lawful-last, lawful-parts}
 use Rattle.golog_journal.proofs.Serving.{well_formed_serves}
 use Rattle.golog_agent.specs.Configuration.{Configuration, IsSound, configuration_after, with_entry}
-use Rattle.golog_lead.specs.Keeping.{EndsBy, KeepsRules}
-use Rattle.golog_agent.specs.Keeping.{IsUnderWay, KeepsUp, held_by, ended_by}
+use Rattle.golog_lead.specs.Keeping.{KeepsRules, ended_by}
+use Rattle.golog_agent.specs.Keeping.{IsUnderWay, KeepsUp, held_by}
 use Rattle.golog_agent.specs.declared.held.Held.{Held}
 use Rattle.golog_lead.specs.Courses.{Course}
 use Rattle.golog_agent.proofs.Awaiting.{awaits-after}
 use Rattle.golog_agent.proofs.StepsKept.{keeps_its_step}
 use Rattle.golog_lead.proofs.BegunRuns.{online-grows}
+use Rattle.golog_lead.proofs.Growing.{ends-after, first-rules, next-fits}
+use Rattle.golog_lead.proofs.Taking.{seen_as}
 
 module _ (agent : Agent) (journal : Journal) where
-  -- ---- an entry of the agent
-
-  within : (test : ActionItem → Bool) (action : ℕ) → option_map_or test (action_item agent action) false ≡ true → action < length (ground_actions agent)
-  within test action h = go (slice_get (ground_actions agent) action) refl
-    where
-      go : (o : Option Ground) → slice_get (ground_actions agent) action ≡ o → action < length (ground_actions agent)
-      go (Some at) e = slice_get_within (ground_actions agent) action at e
-      go None e = absurd (let k = sym (ap (λ o. option_map_or test (option_and_then (λ (at : Ground). slice_get agent.actions at.0) o) false) e) ∙ h in cc)
-
-  entry-of-agent : (e : Entry) → fits_entry agent journal e ≡ true → EntryFits agent e
-  entry-of-agent (Do action) h = within (λ (item : ActionItem). is_empty item.posters) action h
-  entry-of-agent (Exo p action) h = within (λ (item : ActionItem). not (is_empty item.posters)) action (and_parts (is_device agent p) (is_exogenous agent action) h).1
-  entry-of-agent (Sense p at f v) h =
-      (and_parts (is_device agent p) (is_value agent f v) (and_parts (is_device agent p && is_value agent f v) (list_any (is_result agent journal at f) (commands agent p journal)) h).0).1
-  entry-of-agent Test h = tt
-  entry-of-agent (Rest p t) h = tt
-  entry-of-agent (Close p r t) h = tt
-  entry-of-agent (End a) h = tt
-
   -- ---- the configuration
 
   module _ (known : Configuration) (so : known ≡ configuration_after agent journal) where
     pub entries-fit : (e : Entry) → IsBoardList agent (journal ++ e ∷ []) → EntriesFit known.agent (e ∷ [])
     entries-fit e lawful =
-        subst (λ (k : Configuration). EntriesFit k.agent (e ∷ [])) (sym so)
-        (entry-of-agent e (lawful-parts agent journal e (lawful-last agent journal e lawful)).of_agent, tt)
+        subst (λ (k : Configuration). EntriesFit k.agent (e ∷ [])) (sym so) (next-fits agent journal e lawful)
 
     pub sound : IsUnderWay agent journal → IsSound known
     sound u =
@@ -92,21 +61,6 @@ module _ (agent : Agent) (journal : Journal) where
       ap (λ k. with_entry k e new) so
       ∙ ap (λ values. known_as values (unwrap_or new (left_after agent journal))) (sym (progress_grows agent journal e).values)
       ∙ ap (known_as (values_after agent (journal ++ e ∷ []))) (sym is)
-
-  -- ---- the end
-
-  others : (ended : Option Answer) (e : Entry) → is_end e ≡ false → EndsBy journal ended → EndsBy (and_then journal e) ended
-  others None e none h = (entries_grow journal e).end ∙ ap (λ b. has_end journal || b) none ∙ or-false (has_end journal) ∙ h
-  others (Some a) e none h = Contains-append_left journal (e ∷ []) (End a) h
-
-  ends-after : (ended : Option Answer) (e : Entry) → EndsBy journal ended → EndsBy (and_then journal e) (ended_by ended e)
-  ends-after ended (End a) h = Contains-push journal (End a)
-  ends-after ended (Do a) h = others ended (Do a) refl h
-  ends-after ended Test h = others ended Test refl h
-  ends-after ended (Exo p a) h = others ended (Exo p a) refl h
-  ends-after ended (Sense p at f v) h = others ended (Sense p at f v) refl h
-  ends-after ended (Rest p t) h = others ended (Rest p t) refl h
-  ends-after ended (Close p r t) h = others ended (Close p r t) refl h
 
   -- ---- a step
 
@@ -131,7 +85,7 @@ module _ (agent : Agent) (journal : Journal) where
         awaits = awaits-after agent journal awaited e (well_formed_serves agent u.formed) u.lawful
             (λ action same. settled-step (values_after agent journal) (left_after agent journal) action
             (subst (λ x. keeps_step agent journal (values_after agent journal) (left_after agent journal) x ≡ true) same (keeps_its_step agent journal e h))) k.awaits;
-        ends = ends-after ended e k.ends;
+        ends = ends-after agent journal ended e k.ends;
       }
 
 -- the same of equal values
@@ -142,10 +96,6 @@ kept-as j k c d a b e f kj dc ba fe h =
     (subst (λ x. KeepsUp j.agent j.entries x b f) (sym dc)
     (subst (λ x. KeepsUp j.agent j.entries c x f) (sym ba)
     (subst (λ x. KeepsUp j.agent j.entries c a x) (sym fe) h)))
-
--- as contracts see it
-abbrev pub seen_as : Agent → Journal → Course
-seen_as agent list = record { agent = agent; list = list }
 
 pub lawful-inside : (agent : Agent) (list : Journal) (value : Course) (e : Entry) → seen_as agent list ≡ value → IsBoardList value.agent (value.list ++ e ∷ []) → IsBoardList agent (list ++ e ∷ [])
 lawful-inside agent list value e is lawful = subst (λ (v : Course). IsBoardList v.agent (v.list ++ e ∷ [])) (sym is) lawful
@@ -169,9 +119,6 @@ pub kept-same : (agent : Agent) (list : Journal) (known later : Configuration) (
 kept-same agent list known later awaited ended same h = subst (λ k. KeepsUp agent list k awaited ended) (sym same) h
 
 -- ---- before any entry
-
-first-rules : (agent : Agent) → IsBoardList agent []
-first-rules agent = record { lawful = refl; room = omega arith }
 
 first-online : (agent : Agent) → IsOnlineSoFar agent (report_of agent [])
 unfolding first_fault

@@ -28,20 +28,21 @@ use Rattle.golog_semantics.specs.Online.{IsOnlineSoFar, is_first, keeps_step, ma
 use Rattle.golog_semantics.specs.InlineText.{report_of}
 use Rattle.golog_journal.specs.Growing.{Sight}
 use Rattle.golog_lead.specs.Short.{EndsShort, IsShort}
-use Rattle.golog_agent.specs.declared.driver.Stepped.{Stepped}
-use Rattle.golog_agent.specs.declared.driver.Stepped.TheVariants.{Step, Waiting, Ended}
+use Rattle.golog_lead.specs.declared.stepped.Stepped.{Stepped}
+use Rattle.golog_lead.specs.declared.stepped.Stepped.TheVariants.{Step, Waiting, Ended}
 use Rattle.golog_agent.specs.Leading.{AddsOneAlone, LeadsAlone}
 use Rattle.golog_lead.specs.Keeping.{KeepsRules}
 use Rattle.golog_lead.specs.Run.{is_step_entry}
 use Rattle.golog_agent.specs.Laws.{lead_stays}
 use Rattle.golog_lead.specs.Waiting.{takes_no_step, waits}
 use Rattle.golog_lead.specs.Courses.{Course}
-use Rattle.golog_agent.specs.Turns.{CommitsEnd, CommitsStep, EndStood, MayAnswer, StillWaits, TurnIs}
+use Rattle.golog_lead.specs.Seeing.{CommitsStep, EndStood}
+use Rattle.golog_agent.specs.Turns.{CommitsEnd, MayAnswer, StillWaits, TurnIs}
 use Rattle.golog_lead.proofs.StepEntries.{each-step}
 use Rattle.golog_agent.proofs.Awaiting.{any-and}
 use Rattle.golog_agent.proofs.StepsKept.{keeps_its_step, step-unended}
 use Rattle.golog_lead.proofs.BegunRuns.{keeps-rules}
-use Rattle.golog_agent.proofs.Turning.{alone-grows, alone-stays}
+use Rattle.golog_lead.proofs.Turning.{alone-grows, alone-stays}
 
 -- ---- the answer where a step may be taken
 

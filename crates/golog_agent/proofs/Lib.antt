@@ -1,15 +1,12 @@
 mod StepsKept
 mod Awaiting
 mod Growth
-mod Resting
 mod Planning
 mod Fueling
 mod Committing
 mod Taking
-mod Boarding
 mod Turning
-mod Copying
-mod Placing
 mod Leading
 mod Stepping
 mod KeptDecision
+pub mod Crossing

@@ -35,8 +35,8 @@ use Rattle.golog_agent.proofs.Awaiting.{and-false, any-and, settled-none, settle
 use Rattle.golog_agent.specs.Planned.{IsNextStep, PlanIs}
 use Rattle.golog_lead.specs.Courses.{Course}
 use Rattle.golog_lead.specs.Waiting.{has_no_step, takes_no_step, waits}
-use Rattle.golog_agent.proofs.Growth.{seen_as}
-use Rattle.golog_agent.proofs.Resting.{rest-is-answered}
+use Rattle.golog_lead.proofs.Taking.{seen_as}
+use Rattle.golog_lead.proofs.Resting.{rest-is-answered}
 
 all-but-one : (f : ℕ → Bool) (d : ℕ) → f d ≡ false → (a n : ℕ) → a ≤ d → d < a + n → list_all f (range_with_len a n) ≡ false
 all-but-one f d h a zero low high = absurd (omega (arith, low, high))

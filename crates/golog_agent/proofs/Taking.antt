@@ -1,78 +1,32 @@
 -- Taking what devices have posted, entry by entry.
-use Rattle.std.proofs.Common.{◌≡◌, ℕ, zero, suc, ◌+◌, ◌<◌, Bool, true, false, [], ◌∷◌, ◌++◌, length, take, drop, get_or, None, refl, sym, ap, ◌∙◌, subst, arith, append_assoc}
+use Rattle.std.proofs.Common.{◌≡◌, ℕ, ◌+◌, ◌<◌, true, false, [], ◌∷◌, ◌++◌, length, take, get_or, None, sym, ◌∙◌}
 use Rattle.std.specs.List.{list_any}
-use Rattle.std.proofs.lemmas.Bool.{or_parts}
-use Rattle.std.proofs.lemmas.List.{append-nil, take_more, take-append-drop}
-use Rattle.golog_semantics.specs.declared.journal.Entry.{Entry}
-use Rattle.golog_semantics.specs.declared.journal.Entry.TheVariants.{Do, Test, Exo, Sense, Rest, Close, End}
 use Rattle.golog_semantics.specs.Journal.{Journal, count, limit}
 use Rattle.golog_semantics.specs.Progress.{left_after}
+use Rattle.golog_semantics.specs.declared.journal.Entry.{Entry}
 use Rattle.golog_journal.specs.Boards.{IsBoardList}
 use Rattle.golog_journal.specs.Leading.{is_of_program}
 use Rattle.golog_lead.specs.Keeping.{KeepsRules, begun_by}
 use Rattle.golog_lead.specs.Run.{is_step_entry}
 use Rattle.golog_lead.specs.Courses.{Course}
 use Rattle.golog_agent.proofs.Committing.{device-left, device-online}
-use Rattle.golog_device.proofs.Asked.{lawful-prefix}
 use Rattle.golog_lead.proofs.BegunRuns.{begun-none}
-use Rattle.golog_agent.proofs.Growth.{seen_as}
+use Rattle.golog_lead.proofs.Taking.{no-step, taken-lawful, taken-of-device}
 
-any-at : (p : Entry → Bool) (xs : Journal) (i : ℕ) (d : Entry) → list_any p xs ≡ false → i < length xs → p (get_or xs i d) ≡ false
-any-at p [] i d h inside = absurd (omega (arith, inside))
-any-at p (x ∷ xs) zero d h inside = (or_parts (p x) (list_any p xs) h).0
-any-at p (x ∷ xs) (suc i) d h inside = any-at p xs i d (or_parts (p x) (list_any p xs) h).1 (omega (arith, inside))
+module _ (first : Course) (entries : Journal) (i : ℕ) (d : Entry) (inside : i < length entries) (course : Course)
+    (so : course ≡ record { agent = first.agent; list = first.list ++ take i entries }) where
+  pub taken-online : IsBoardList first.agent (first.list ++ entries) → list_any is_of_program entries ≡ false → KeepsRules course.agent course.list (get_or entries i d)
+  taken-online h devices =
+      device-online course.agent course.list (get_or entries i d) (taken-of-device first entries i d inside devices) (taken-lawful first entries i d inside course so h)
 
--- an entry of a device is no step
-no-step : (e : Entry) → is_of_program e ≡ false → is_step_entry e ≡ false
-no-step (Do a) h = absurd (cc)
-no-step Test h = absurd (cc)
-no-step (Exo p a) h = refl
-no-step (Sense p at f v) h = refl
-no-step (Rest p t) h = refl
-no-step (Close p r t) h = refl
-no-step (End a) h = refl
+  pub taken-left : list_any is_of_program entries ≡ false → left_after course.agent (course.list ++ get_or entries i d ∷ []) ≡ left_after course.agent course.list
+  taken-left devices = device-left course.agent course.list (get_or entries i d) (taken-of-device first entries i d inside devices)
 
--- none of them is taken
-pub taken-none : (first : Course) (entries : Journal) → first ≡ record { agent = first.agent; list = first.list ++ take 0 entries }
-taken-none first entries = ap (seen_as first.agent) (sym (append-nil first.list))
+  taken-no-step : list_any is_of_program entries ≡ false → is_step_entry (get_or entries i d) ≡ false
+  taken-no-step devices = no-step (get_or entries i d) (taken-of-device first entries i d inside devices)
 
-module _ (first : Course) (entries : Journal) (i : ℕ) (d : Entry) (inside : i < length entries) where
-  abbrev e : Entry
-  e = get_or entries i d
+  pub taken-room : list_any is_of_program entries ≡ false → is_step_entry (get_or entries i d) ≡ true → count course.list < limit
+  taken-room devices step = absurd (let k = sym (taken-no-step devices) ∙ step in cc)
 
-  one-more : (first.list ++ take i entries) ++ e ∷ [] ≡ first.list ++ take (i + 1) entries
-  one-more = append_assoc first.list (take i entries) (e ∷ []) ∙ ap (λ xs. first.list ++ xs) (sym (take_more entries i d inside))
-
-  split : first.list ++ entries ≡ (first.list ++ take (i + 1) entries) ++ drop (i + 1) entries
-  split =
-      ap (λ xs. first.list ++ xs) (sym (take-append-drop (i + 1) entries))
-      ∙ sym (append_assoc first.list (take (i + 1) entries) (drop (i + 1) entries))
-
-  more-lawful : IsBoardList first.agent (first.list ++ entries) → IsBoardList first.agent ((first.list ++ take i entries) ++ e ∷ [])
-  more-lawful h =
-      subst (IsBoardList first.agent) (sym one-more)
-      (lawful-prefix first.agent (first.list ++ take (i + 1) entries) (drop (i + 1) entries) (subst (IsBoardList first.agent) split h))
-
-  module _ (course : Course) (so : course ≡ record { agent = first.agent; list = first.list ++ take i entries }) where
-    pub taken-lawful : IsBoardList first.agent (first.list ++ entries) → IsBoardList course.agent (course.list ++ get_or entries i d ∷ [])
-    taken-lawful h = subst (λ (c : Course). IsBoardList c.agent (c.list ++ get_or entries i d ∷ [])) (sym so) (more-lawful h)
-
-    pub taken-online : IsBoardList first.agent (first.list ++ entries) → list_any is_of_program entries ≡ false → KeepsRules course.agent course.list (get_or entries i d)
-    taken-online h devices = device-online course.agent course.list (get_or entries i d) (any-at is_of_program entries i d devices inside) (taken-lawful h)
-
-    pub taken-left : list_any is_of_program entries ≡ false → left_after course.agent (course.list ++ get_or entries i d ∷ []) ≡ left_after course.agent course.list
-    taken-left devices = device-left course.agent course.list (get_or entries i d) (any-at is_of_program entries i d devices inside)
-
-    taken-no-step : list_any is_of_program entries ≡ false → is_step_entry (get_or entries i d) ≡ false
-    taken-no-step devices = no-step (get_or entries i d) (any-at is_of_program entries i d devices inside)
-
-    pub taken-room : list_any is_of_program entries ≡ false → is_step_entry (get_or entries i d) ≡ true → count course.list < limit
-    taken-room devices step = absurd (let k = sym (taken-no-step devices) ∙ step in cc)
-
-    pub taken-run : list_any is_of_program entries ≡ false → None ≡ begun_by course.agent course.list (get_or entries i d)
-    taken-run devices = sym (begun-none course.agent course.list (get_or entries i d) (taken-no-step devices))
-
-    -- one more is taken
-    pub taken-more : (later : Course) → later ≡ record { agent = course.agent; list = course.list ++ get_or entries i d ∷ [] }
-        → later ≡ record { agent = first.agent; list = first.list ++ take (i + 1) entries }
-    taken-more later is = is ∙ ap (λ (c : Course). seen_as c.agent (c.list ++ get_or entries i d ∷ [])) so ∙ ap (seen_as first.agent) one-more
+  pub taken-run : list_any is_of_program entries ≡ false → None ≡ begun_by course.agent course.list (get_or entries i d)
+  taken-run devices = sym (begun-none course.agent course.list (get_or entries i d) (taken-no-step devices))

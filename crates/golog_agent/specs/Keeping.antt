@@ -2,7 +2,7 @@
 use Rattle.std.specs.Prelude.{◌≡◌, ◌≢◌, ℕ, ◌<◌, ◌==◌, Option, Some, None, option_map, option_and_then, if◌then◌else◌, [], ◌∷◌, length}
 use Rattle.golog_tree.specs.declared.agent.Agent.{Agent}
 use Rattle.golog_semantics.specs.declared.journal.Entry.{Entry}
-use Rattle.golog_semantics.specs.declared.journal.Entry.TheVariants.{Do, Sense, End}
+use Rattle.golog_semantics.specs.declared.journal.Entry.TheVariants.{Do, Sense}
 use Rattle.golog_semantics.specs.declared.journal.Answer.{Answer}
 use Rattle.golog_semantics.specs.Journal.{Journal, Command, held_commands}
 use Rattle.golog_semantics.specs.Online.{IsOnlineSoFar}
@@ -41,11 +41,6 @@ abbrev pub held_by : Agent → ℕ → Option Held → Entry → Option Held
 held_by agent count held (Do action) = option_map (held_at count) (held_of agent action)
 held_by agent count held (Sense poster place fluent value) = unless_told place held
 held_by agent count held _ = held
-
--- the answer of the end, after one more entry
-abbrev pub ended_by : Option Answer → Entry → Option Answer
-ended_by ended (End answer) = Some answer
-ended_by ended _ = ended
 
 module _ (agent : Agent) (journal : Journal) where
   -- a well-formed agent, and an online execution of it so far

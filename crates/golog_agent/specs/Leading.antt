@@ -7,14 +7,12 @@ use Rattle.golog_semantics.specs.declared.journal.Answer.{Answer}
 use Rattle.golog_semantics.specs.Inline.{lead}
 use Rattle.golog_semantics.specs.Online.{IsOnlineSoFar}
 use Rattle.golog_semantics.specs.InlineText.{report_of}
-use Rattle.golog_journal.specs.declared.lead.Led.{Led}
-use Rattle.golog_journal.specs.declared.lead.Led.TheVariants as led
 use Rattle.golog_journal.specs.Growing.{Sight}
 use Rattle.golog_lead.specs.Short.{EndsShort, IsShort}
-use Rattle.golog_agent.specs.declared.driver.Stepped.{Stepped}
-use Rattle.golog_agent.specs.declared.driver.Stepped.TheVariants.{Step, Waiting, Ended}
+use Rattle.golog_lead.specs.declared.stepped.Stepped.{Stepped}
 use Rattle.golog_lead.specs.Run.{is_step_entry}
-use Rattle.golog_agent.specs.Turns.{CommitsEnd, CommitsStep, EndStood, StillWaits, TurnIs}
+use Rattle.golog_lead.specs.Seeing.{CommitsStep, EndStood}
+use Rattle.golog_agent.specs.Turns.{CommitsEnd, StillWaits, TurnIs}
 
 -- the turn is that of the program in a round, or memory or fuel was wanted
 abbrev pub LeadsAlone : Type 0
@@ -38,9 +36,3 @@ pub record AddsOne (old new : Sight) : Type 0 where
 
 abbrev pub AddsOneAlone : Type 0
 AddsOneAlone = (old new : Sight) → old.alone ≡ true → AddsOne old new
-
--- whether the program has ended, by what came of its turn
-abbrev pub led_for : Stepped → Led
-led_for Step = led.More
-led_for Waiting = led.More
-led_for (Ended answer) = led.Ended

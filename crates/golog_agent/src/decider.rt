@@ -18,7 +18,7 @@ use golog_search::{Decision, decide_blocked, decide_step_of};
 use golog_semantics::{Entry, Mode};
 use golog_tree::{Agent, Prog, copy_prog};
 use golog_watch::Watches;
-use golog_ways::Expand;
+use golog_ways::{Expand, Ready, ready_of};
 use std::alloc::Global;
 use std::marker::Model;
 use std::mem;
@@ -54,7 +54,8 @@ fn standing(decided: &Option<Decision>) -> Option<Option<Decision>>
     }
 }
 
-/// What was decided ahead and is not committed, and the watches of the runs that are under way.
+/// What was decided ahead and is not committed, the watches of the runs that are under way, and the conditions of the
+/// agent's program that are made ready.
 #[derive(Drop)]
 pub(crate) struct Ahead {
     /// The values at which it was decided what the program left does next, where that is kept.
@@ -62,6 +63,7 @@ pub(crate) struct Ahead {
     /// What was decided there.
     decision: Option<Decision>,
     watches: Watches,
+    ready: List<Ready>,
 }
 
 /// The values that are known of an agent and the program left, with what was decided there and is not committed.
@@ -84,21 +86,25 @@ impl<'a> Model for Decider<'a> {
     ghost use Rattle.golog_tree.specs.contracts.cond.Term as term;
     ghost use Rattle.golog_tree.specs.contracts.prog.Prog as program;
     ghost use Rattle.golog_tree.specs.contracts.prog.Way as way;
+    ghost use Rattle.golog_flat.specs.contracts.check.Check as check;
     ghost use Rattle.golog_tree.specs.Nest.{nest};
     ghost use Rattle.golog_semantics.specs.Search.{nest_limit};
     ghost use Rattle.golog_search.specs.Decided.{IsAhead};
     ghost use Rattle.golog_watch.specs.Watched.{AreWatches};
+    ghost use Rattle.golog_ways.specs.Ready.{AreReady};
 
     ghost Value = { Configuration };
 
-    ghost coded = { Prim.hlevel (codes, cond.the_row.coded, term.the_row.coded, program.the_row.coded, way.the_row.coded) };
+    ghost coded = { Prim.hlevel
+        (codes, cond.the_row.coded, term.the_row.coded, program.the_row.coded, way.the_row.coded, check.the_row.coded) };
 
     ghost view = { λ decider. record { agent = decider.agent.now; values = decider.state; left = decider.left } };
 
     ghost invariant = { λ decider.
         (decider.shallow ≡ true → nest decider.left ≤ nest_limit)
         × IfSome decider.ahead.at (λ values. IsAhead decider.agent.now values decider.left true decider.ahead.decision)
-        × AreWatches decider.agent.now decider.ahead.watches };
+        × AreWatches decider.agent.now decider.ahead.watches
+        × AreReady decider.agent.now decider.ahead.ready };
 }
 
 impl<'a> Decider<'a> {
@@ -118,6 +124,7 @@ impl<'a> Decider<'a> {
                 at: None,
                 decision: None,
                 watches,
+                ready: ready_of(alloc, agent),
             },
         })
     }
@@ -198,6 +205,7 @@ impl<'a> Decider<'a> {
                 self.shallow,
                 &mut self.ahead.watches,
                 expand,
+                self.ahead.ready.as_slice(),
             )
         }
     }

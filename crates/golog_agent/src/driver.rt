@@ -13,29 +13,18 @@ ghost use Rattle.golog_lead.specs.Keeping.{begun_by, KeepsRules};
 ghost use Rattle.golog_agent.specs.Planned.{IsNextStep};
 ghost use Rattle.golog_lead.specs.Recording.{Records};
 ghost use Rattle.golog_lead.specs.Run.{is_step_entry};
-ghost use Rattle.golog_semantics.specs.Inline.{entry_for};
 ghost use Rattle.golog_agent.specs.UnderWay.{left_of, step_run};
-ghost use Rattle.golog_agent.specs.Turns.{AttemptIs, CommitGives, Follows, IsCurrent, IsOver, MayAnswer, TurnIs};
+ghost use Rattle.golog_lead.specs.Seeing.{CommitGives, Follows, IsCurrent, IsOver};
+ghost use Rattle.golog_agent.specs.Turns.{AttemptIs, MayAnswer, TurnIs};
 
 use crate::plan::Plan;
 use crate::under_way::Core;
 use golog_base::List;
 use golog_journal::{Board, Commit};
-use golog_lead::{Record, UnderWay};
+use golog_lead::{Record, Stepped, UnderWay, entry_of};
 use golog_semantics::{Answer, Entry, Move};
 use golog_tree::{Label, Prog};
 use golog_ways::{Expand, Plain};
-
-/// What came of a turn of a runner.
-#[derive(Clone, Copy, Debug, PartialEq, Eq)]
-pub enum Stepped {
-    /// It committed an action or a test.
-    Step,
-    /// It committed nothing: the program waits for a device.
-    Waiting,
-    /// The program has ended with this answer.
-    Ended(Answer),
-}
 
 /// A program under way, and what records its entries: it copies what devices post, and commits what is decided at
 /// the whole list that it has seen.
@@ -55,16 +44,6 @@ fn parts_of(step: Option<Move>) -> (Option<Prog>, Option<List<Label>>)
     match step {
         Some(step) => (Some(step.left), step.run),
         None => (None, None),
-    }
-}
-
-/// The entry of a step.
-fn entry_of(label: Label) -> Entry
-    ensures { result ≡ entry_for label }
-{
-    match label {
-        Label::Do(action) => Entry::Do { action },
-        Label::Quiet => Entry::Test,
     }
 }
 

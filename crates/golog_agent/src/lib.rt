@@ -13,7 +13,8 @@
 //! core. Its turn copies all that it lacks in batches of 64, decides with no turn held, and commits
 //! at the length of what it has seen; where that has become longer it begins again, with what it
 //! decided if the values are the same. Each failed attempt has made the journal longer, which has
-//! at most 1,048,593 entries, so a turn returns. Who lists the steps of many programs while a block
+//! at most 1,048,593 entries, so a turn returns. A decider has made the conditions of the agent's
+//! program ready (`ready_of` of golog_ways), which it asks at each step. Who lists the steps of many programs while a block
 //! is searched is a driver's too (`Expand` of golog_ways): `Plain` for a runner, and for a scribe
 //! what it is made with. No clause names it.
 //!
@@ -37,8 +38,7 @@ mod runner;
 mod scribe;
 mod under_way;
 
-pub use driver::Stepped;
-pub use golog_lead::{RoundLead, run_inline};
+pub use golog_lead::{RoundLead, Stepped, run_inline};
 pub use laws::leads_alone;
 pub use pen::Pen;
 pub use runner::Runner;

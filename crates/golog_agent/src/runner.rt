@@ -7,14 +7,13 @@ ghost use Rattle.golog_semantics.specs.WellFormed.{WellFormed};
 ghost use Rattle.golog_journal.specs.Growing.{program};
 ghost use Rattle.golog_journal.specs.Leading.{IsBehind};
 ghost use Rattle.golog_agent.specs.Keeping.{IsUnderWay};
-ghost use Rattle.golog_agent.specs.Leading.{led_for};
 ghost use Rattle.golog_agent.specs.Turns.{TurnIs};
 
-use crate::driver::{Driver, Stepped};
+use crate::driver::Driver;
 use crate::under_way::Core;
 use golog_base::{NoMemory, both};
 use golog_journal::{Board, Lead, Led, Report};
-use golog_lead::{Kept, RoundLead};
+use golog_lead::{Kept, RoundLead, Stepped, led_by};
 use golog_tree::Agent;
 use golog_ways::Plain;
 use std::alloc::Global;
@@ -44,16 +43,6 @@ impl<'a> Model for Runner<'a> {
 
     ghost invariant = { λ runner. IsKept runner.driver.core.agent runner.driver.core.list
         runner.driver.record.entries runner.driver.record.runs };
-}
-
-/// Whether the program has ended, by what came of its turn.
-pub(crate) fn led_by(stepped: Stepped) -> Led
-    ensures { result ≡ led_for stepped }
-{
-    match stepped {
-        Stepped::Ended(_) => Led::Ended,
-        Stepped::Step | Stepped::Waiting => Led::More,
-    }
 }
 
 impl<'a> Runner<'a> {

@@ -10,11 +10,10 @@ ghost use Rattle.golog_agent.specs.Turns.{TurnIs};
 ghost use Rattle.golog_lead.specs.Written.{HasWritten};
 
 use crate::Pen;
-use crate::driver::{Driver, Stepped};
-use crate::runner::led_by;
+use crate::driver::Driver;
 use golog_base::Sink;
 use golog_journal::{Board, Lead, Led};
-use golog_lead::{Printed, RoundLead};
+use golog_lead::{Printed, RoundLead, Stepped, led_by};
 use golog_semantics::Answer;
 use golog_ways::{Expand, Plain};
 use std::snapshot::Snapshot;

@@ -12,7 +12,7 @@ ghost use Rattle.golog_semantics.specs.WellFormed.{WellFormed};
 ghost use Rattle.golog_search.specs.Decided.{IsAhead};
 ghost use Rattle.golog_journal.specs.Boards.{IsBoardList};
 ghost use Rattle.golog_lead.specs.Keeping.{EndsBy, KeepsRules};
-ghost use Rattle.golog_agent.specs.Keeping.{ended_by, IsUnderWay};
+ghost use Rattle.golog_agent.specs.Keeping.{IsUnderWay};
 ghost use Rattle.golog_agent.specs.Planned.{PlanIs, IsNextStep};
 
 use crate::decider::Decider;
@@ -20,7 +20,7 @@ use crate::held::{Held, held_after};
 use crate::plan::{Plan, planned};
 use golog_base::{NoMemory, both};
 use golog_journal::Counts;
-use golog_lead::UnderWay;
+use golog_lead::{UnderWay, ended_after};
 use golog_progress::State;
 use golog_search::Decision;
 use golog_semantics::{Answer, Entry, Mode, Move};
@@ -60,21 +60,6 @@ impl<'a> Model for Core<'a> {
 
     ghost invariant = { λ core.
         KeepsUp core.counts.agent core.counts.entries core.decider core.held core.ended };
-}
-
-/// How the program ended, after one more entry.
-fn ended_after(ended: Option<Answer>, entry: Entry) -> Option<Answer>
-    ensures { result ≡ ended_by ended entry }
-{
-    match entry {
-        Entry::End { answer } => Some(answer),
-        Entry::Do { .. }
-        | Entry::Test
-        | Entry::Exo { .. }
-        | Entry::Sense { .. }
-        | Entry::Rest { .. }
-        | Entry::Close { .. } => ended,
-    }
 }
 
 impl<'a> Core<'a> {

@@ -5,7 +5,7 @@ pub mod WrittenLines
 pub mod RunsFit
 pub mod Writing
 pub mod Recorded
-mod Printing
+pub mod Printing
 mod OneTurn
 pub mod Adding
 mod Serving
@@ -16,3 +16,10 @@ mod Following
 mod Rounding
 mod Ending
 pub mod Minds
+pub mod Boarding
+pub mod Copying
+pub mod Placing
+pub mod Resting
+pub mod Growing
+pub mod Taking
+pub mod Turning

@@ -43,7 +43,7 @@ prefix-behind was now is text line whole (n, within, added) = (
 
 -- ---- what is written
 
-written-as : (text same : Text) (was is : Option Text) (before after : ℕ) (faulted : Bool) → same ≡ text → IsWritten text was is before after faulted → IsWritten same was is before after faulted
+pub written-as : (text same : Text) (was is : Option Text) (before after : ℕ) (faulted : Bool) → same ≡ text → IsWritten text was is before after faulted → IsWritten same was is before after faulted
 written-as text same was is before after faulted e w = subst (λ t. IsWritten t was is before after faulted) (sym e) w
 
 -- nothing
@@ -58,7 +58,7 @@ written-first text was before none = record {
 
 module _ (text line : Text) (was now is : Option Text) (before between after : ℕ) (so_far : IsWritten text was now before between false) (counted : between ≤ after) where
   -- a line more
-  written-next : is ≡ and_then_bytes now line → after ≡ between → IsWritten (text ++ line) was is before after false
+  pub written-next : is ≡ and_then_bytes now line → after ≡ between → IsWritten (text ++ line) was is before after false
   written-next added still = record {
     whole = λ no. added ∙ ap (λ t. and_then_bytes t line) (so_far.whole refl) ∙ and_then-append was text line;
     no_fault = λ no. still ∙ so_far.no_fault refl;
@@ -68,7 +68,7 @@ module _ (text line : Text) (was now is : Option Text) (before between after : �
   }
 
   -- a write that fails
-  written-cut : AddsPrefix now is line → Rose between after → IsWritten (text ++ line) was is before after true
+  pub written-cut : AddsPrefix now is line → Rose between after → IsWritten (text ++ line) was is before after true
   written-cut prefix rose = record {
     whole = λ no. absurd (cc);
     no_fault = λ no. absurd (cc);
@@ -78,7 +78,7 @@ module _ (text line : Text) (was now is : Option Text) (before between after : �
   }
 
 -- more is to be written, and nothing more is
-written-more : (text more : Text) (was is : Option Text) (before after : ℕ) → IsWritten text was is before after true → IsWritten (text ++ more) was is before after true
+pub written-more : (text more : Text) (was is : Option Text) (before after : ℕ) → IsWritten text was is before after true → IsWritten (text ++ more) was is before after true
 written-more text more was is before after w = record {
   whole = λ no. absurd (cc);
   no_fault = λ no. absurd (cc);

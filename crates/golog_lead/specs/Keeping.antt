@@ -15,6 +15,11 @@ abbrev pub EndsBy : Journal → Option Answer → Type 0
 EndsBy journal None = has_end journal ≡ false
 EndsBy journal (Some answer) = Contains journal (End answer)
 
+-- the answer of the end, after one more entry
+abbrev pub ended_by : Option Answer → Entry → Option Answer
+ended_by ended (End answer) = Some answer
+ended_by ended _ = ended
+
 module _ (agent : Agent) (journal : Journal) where
   -- the run that begins with the entry after these
   abbrev pub begun_by : Entry → Option (List Label)

@@ -7,3 +7,4 @@ pub mod Short
 pub mod Rounds
 pub mod Moments
 pub mod Waiting
+pub mod Seeing

@@ -19,6 +19,7 @@ mod record;
 mod round_lead;
 mod rounds;
 mod runs;
+mod stepped;
 mod under_way;
 
 pub use kept::Kept;
@@ -26,4 +27,5 @@ pub use printed::Printed;
 pub use record::Record;
 pub use round_lead::RoundLead;
 pub use rounds::run_inline;
+pub use stepped::{Stepped, ended_after, entry_of, led_by};
 pub use under_way::UnderWay;

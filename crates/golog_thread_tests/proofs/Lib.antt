@@ -1,4 +1,3 @@
-mod Crossing
 mod FirstTurns
 mod Looking
 mod Posting

@@ -1,8 +1,9 @@
 use denote.Param.Send.{sendable}
-use Rattle.std.proofs.Common.{◌≡◌, [], ap, subst}
+use Rattle.std.proofs.Common.{rules, ◌≡◌, [], ap, sym, ◌∙◌, subst}
 use Rattle.std.specs.Prelude.{IfOk}
 use Rattle.golog_lead.specs.Courses.{Course}
-use Rattle.golog_thread_tests.proofs.Crossing.{runner_send}
+use Rattle.golog_agent.proofs.Crossing.{runner_send}
+use Rattle.golog_team.proofs.Crossing.{agent_sync}
 use Rattle.golog_thread_tests.proofs.sides.told_by.Goals as goal
 
 pub told_of-requires-clause-leads : goal.told_of-requires-clause-leads
@@ -18,4 +19,10 @@ told_of-requires-clause-leads g c κs within =
     }
 
 pub told_of-requires-send-M : goal.told_of-requires-send-M
-told_of-requires-send-M g c κs within = search (runner_send, sendable) depth 20 fits 100000
+told_of-requires-send-M g c κs within = search (runner_send agent_sync, sendable) depth 20 fits 100000
+
+pub told_of-requires-clause-matched : goal.told_of-requires-clause-matched
+told_of-requires-clause-matched g c κs within =
+    let told = c.in_ok-team_refusal.ensures in
+    let none = sym c.is_some.ensures ∙ c.if-is_some.false in
+    (c.unrefused_match.ensures c.args.agent.now c.args.agent.now (search rules)).0

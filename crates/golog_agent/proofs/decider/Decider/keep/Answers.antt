@@ -16,4 +16,5 @@ invariant_of-self c =
           (subst (λ values. IfSome c.copied-at.result (λ copy. copy ≡ values)) c.values.ensures c.copied-at.ensures)
           (subst (λ (v : Configuration). IsAhead v.agent v.values v.left true c.args.ahead) (sym c.self.view_is) c.requires))),
       c.self.invariant.2,
+      c.self.invariant.3,
     )

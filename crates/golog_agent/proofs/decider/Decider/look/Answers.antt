@@ -1,8 +1,10 @@
 use Rattle.std.proofs.Common.{true, Option, Some, sym, ap, ◌∙◌, subst}
-use Rattle.std.specs.Prelude.{IfOk, IsTrue}
+use Rattle.std.specs.Prelude.{IfOk, IsTrue, List}
 use Rattle.golog_semantics.specs.ProgFits.{fits}
 use Rattle.golog_semantics.specs.InSorts.{AreInSorts}
 use Rattle.golog_semantics.specs.WellFormed.{WellFormed}
+use Rattle.golog_ways.specs.declared.ready.Ready.{Ready}
+use Rattle.golog_ways.specs.Ready.{AreReady}
 use Rattle.golog_search.specs.declared.decision.Decision.{Decision}
 use Rattle.golog_search.specs.Decided.{IsAhead}
 use Rattle.golog_agent.specs.Configuration.{Configuration}
@@ -23,6 +25,9 @@ decide_step_of-requires-clause-shallow g c = c.self.invariant.0
 
 pub decide_step_of-requires-clause-serves : goal.decide_step_of-requires-clause-serves
 decide_step_of-requires-clause-serves g c = c.self.invariant.2
+
+pub decide_step_of-requires-clause-checked : goal.decide_step_of-requires-clause-checked
+decide_step_of-requires-clause-checked g c = subst (λ (ready : List Ready). AreReady c.self.inside.agent.now ready) (sym c.as_slice.ensures) c.self.invariant.3
 
 pub returns-then-here-clause-ahead : goal.returns-then-here-clause-ahead
 returns-then-here-clause-ahead g c =

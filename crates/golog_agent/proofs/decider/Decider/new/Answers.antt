@@ -9,4 +9,5 @@ invariant_of-result c = (
   λ e. absurd (cc),
   tt,
   subst (λ r. IfOk r (λ ws. (agent : Agent) → AreWatches agent ws)) c.in_ok-state.ensures.parts.1 c.new.ensures c.args.agent.now,
+  c.ready_of.ensures,
 )

@@ -1,5 +1,5 @@
 use Rattle.std.proofs.Common.{refl}
-use Rattle.golog_agent.proofs.Copying.{batch-lawful, batch-of-devices, copies-done, copies-first, copies-next, copies-shorter}
+use Rattle.golog_lead.proofs.Copying.{batch-lawful, batch-of-devices, copies-done, copies-first, copies-next, copies-shorter}
 use Rattle.golog_lead.proofs.Recorded.{records-same, records-then}
 use Rattle.golog_agent.proofs.driver.Driver.catch_up.Goals as goal
 

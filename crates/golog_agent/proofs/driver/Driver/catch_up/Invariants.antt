@@ -1,7 +1,7 @@
 use Rattle.std.proofs.Common.{◌-◌, length}
 use Rattle.golog_semantics.specs.Journal.{longest}
 use Rattle.golog_lead.specs.Recording.{Records}
-use Rattle.golog_agent.proofs.Copying.{Copies}
+use Rattle.golog_lead.proofs.Copying.{Copies}
 use Rattle.golog_agent.proofs.driver.Driver.catch_up.Given as goal
 
 -- whether entries are still lacking; the others are recorded

@@ -1,7 +1,7 @@
 use Rattle.std.proofs.Common.{sym, subst}
 use Rattle.golog_lead.specs.Courses.{Course}
-use Rattle.golog_agent.specs.Turns.{IsOver}
-use Rattle.golog_agent.proofs.Placing.{may-commit, moved-over, moved-overtaken, taken-commits, taken-lawful, taken-over, taken-whole}
+use Rattle.golog_lead.specs.Seeing.{IsOver}
+use Rattle.golog_lead.proofs.Placing.{may-commit, moved-over, moved-overtaken, taken-commits, taken-lawful, taken-over, taken-whole}
 use Rattle.golog_lead.proofs.BegunRuns.{step-counts}
 use Rattle.golog_lead.proofs.Recorded.{records-same}
 use Rattle.golog_agent.proofs.driver.Driver.commit.Goals as goal

@@ -1,6 +1,8 @@
 use Rattle.std.proofs.Common.{refl}
 use Rattle.golog_agent.proofs.Committing.{end-left, end-online}
-use Rattle.golog_agent.proofs.Stepping.{end-commits}
+use Rattle.golog_lead.specs.Waiting.{waits}
+use Rattle.golog_agent.specs.Turns.{MayAnswer}
+use Rattle.golog_lead.proofs.Turning.{end-commits}
 use Rattle.golog_agent.proofs.driver.Driver.commit_end.Goals as goal
 
 pub commit-requires-clause-online : goal.commit-requires-clause-online
@@ -11,7 +13,7 @@ commit-requires-clause-left g c = end-left c.args.self.now.core.agent c.args.sel
 
 pub returns-then-commit-clause-attempt : goal.returns-then-commit-clause-attempt
 returns-then-commit-clause-attempt g c =
-    end-commits c.args.self.now.core (g.B.Board.sight c.args.board.now) (g.B.Board.sight c.commit.new.board) c.requires.current c.args.answer c.commit.result
+    end-commits waits MayAnswer c.args.self.now.core (g.B.Board.sight c.args.board.now) (g.B.Board.sight c.commit.new.board) c.requires.current c.args.answer c.commit.result
     c.if-commit.true c.requires.goes_on c.requires.answered c.commit.ensures.commits
 
 pub commit-requires-clause-run : goal.commit-requires-clause-run

@@ -1,4 +1,7 @@
-use Rattle.golog_agent.proofs.Stepping.{entry-commits, entry-left, entry-online, entry-own, entry-room, entry-run}
+use Rattle.golog_lead.specs.Waiting.{waits}
+use Rattle.golog_agent.specs.Turns.{MayAnswer}
+use Rattle.golog_lead.proofs.Turning.{entry-commits}
+use Rattle.golog_agent.proofs.Stepping.{entry-left, entry-online, entry-own, entry-room, entry-run}
 use Rattle.golog_agent.proofs.driver.Driver.commit_step.Goals as goal
 
 pub commit-requires-clause-of_program : goal.commit-requires-clause-of_program
@@ -15,7 +18,7 @@ commit-requires-clause-left g c = entry-left c.args.self.now.core.agent c.args.s
 
 pub returns-then-commit-clause-attempt : goal.returns-then-commit-clause-attempt
 returns-then-commit-clause-attempt g c =
-    entry-commits c.args.self.now.core.agent c.args.self.now.core.list c.args.step c.requires.next c.entry_of.result c.entry_of.ensures
+    entry-commits waits MayAnswer c.args.step.label c.entry_of.result c.entry_of.ensures
     (g.B.Board.sight c.args.board.now) (g.B.Board.sight c.commit.new.board) c.commit.result c.if-commit.true c.commit.ensures.commits
 
 pub commit-requires-clause-run : goal.commit-requires-clause-run

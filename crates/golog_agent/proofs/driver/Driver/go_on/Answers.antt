@@ -1,14 +1,19 @@
 use Rattle.std.proofs.Common.{refl, sym, ap, ◌∙◌, subst}
 use Rattle.golog_agent.specs.Planned.{IsNextStep}
 use Rattle.golog_lead.specs.Courses.{Course}
-use Rattle.golog_agent.specs.Turns.{IsCurrent, IsOver, MayAnswer}
+use Rattle.golog_lead.specs.Seeing.{IsCurrent, IsOver}
+use Rattle.golog_agent.specs.Turns.{MayAnswer}
+use Rattle.golog_lead.specs.Waiting.{waits}
 use Rattle.golog_agent.proofs.Stepping.{plan-answers, plan-steps, plan-waits}
-use Rattle.golog_agent.proofs.Turning.{current-over}
+use Rattle.golog_lead.proofs.Turning.{attempt-waits, current-over}
 use Rattle.golog_lead.proofs.Recorded.{records-as, records-same}
 use Rattle.golog_agent.proofs.driver.Driver.go_on.Goals as goal
 
 pub returns-in-Wait-clause-attempt : goal.returns-in-Wait-clause-attempt
-returns-in-Wait-clause-attempt g c = plan-waits c.args.self.now.core (g.B.Board.sight c.args.board.now) c.requires.current c.plan.result c.plan.ensures.plan c.in-Wait.is c.requires.goes_on
+returns-in-Wait-clause-attempt g c =
+    let sight = g.B.Board.sight c.args.board.now in
+    attempt-waits waits MayAnswer c.args.self.now.core sight sight c.requires.current c.requires.goes_on
+    (plan-waits c.args.self.now.core c.plan.result c.plan.ensures.plan c.in-Wait.is)
 
 pub returns-in-Wait-clause-behind : goal.returns-in-Wait-clause-behind
 returns-in-Wait-clause-behind g c =
@@ -24,7 +29,7 @@ commit_end-requires-clause-current g c = subst (λ (v : Course). IsCurrent v (g.
 pub commit_end-requires-clause-answered : goal.commit_end-requires-clause-answered
 commit_end-requires-clause-answered g c =
     subst (λ (v : Course). MayAnswer v.agent v.list c.in-End.answer) (sym c.plan.ensures.same)
-    (plan-answers c.args.self.now.core (g.B.Board.sight c.args.board.now) c.requires.current c.plan.result c.plan.ensures.plan c.in-End.answer c.in-End.is)
+    (plan-answers c.args.self.now.core c.plan.result c.plan.ensures.plan c.in-End.answer c.in-End.is)
 
 pub commit_step-requires-clause-current : goal.commit_step-requires-clause-current
 commit_step-requires-clause-current g c = subst (λ (v : Course). IsCurrent v (g.B.Board.sight c.args.board.now)) (sym c.plan.ensures.same) c.requires.current
@@ -32,7 +37,7 @@ commit_step-requires-clause-current g c = subst (λ (v : Course). IsCurrent v (g
 pub commit_step-requires-clause-next : goal.commit_step-requires-clause-next
 commit_step-requires-clause-next g c =
     subst (λ (v : Course). IsNextStep v.agent v.list c.in-Step.step) (sym c.plan.ensures.same)
-    (plan-steps c.args.self.now.core (g.B.Board.sight c.args.board.now) c.requires.current c.plan.result c.plan.ensures.plan c.in-Step.step c.in-Step.is)
+    (plan-steps c.args.self.now.core c.plan.result c.plan.ensures.plan c.in-Step.step c.in-Step.is)
 
 pub returns-in-Wait-clause-recorded : goal.returns-in-Wait-clause-recorded
 returns-in-Wait-clause-recorded g c = records-same g.R.Record.outlet g.R.Record.stands c.args.self.now.core c.plan.new.self c.args.self.now.record c.plan.ensures.same

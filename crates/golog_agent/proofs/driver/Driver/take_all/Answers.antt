@@ -1,6 +1,7 @@
 use Rattle.std.proofs.Common.{refl}
 use Rattle.golog_semantics.specs.declared.journal.Entry.TheVariants.{Do}
-use Rattle.golog_agent.proofs.Taking.{taken-lawful, taken-left, taken-more, taken-none, taken-online, taken-room, taken-run}
+use Rattle.golog_lead.proofs.Taking.{taken-lawful, taken-more, taken-none}
+use Rattle.golog_agent.proofs.Taking.{taken-left, taken-online, taken-room, taken-run}
 use Rattle.golog_lead.proofs.Recorded.{records-same, records-then}
 use Rattle.golog_agent.proofs.driver.Driver.take_all.Goals as goal
 

@@ -1,5 +1,7 @@
 use Rattle.std.proofs.Common.{refl}
-use Rattle.golog_agent.proofs.Turning.{attempts-first, attempts-next, attempts-shorter, attempts-turn, attempts-whole}
+use Rattle.golog_lead.specs.Waiting.{waits}
+use Rattle.golog_agent.specs.Turns.{MayAnswer}
+use Rattle.golog_lead.proofs.Turning.{attempts-first, attempts-next, attempts-shorter, attempts-turn, attempts-whole}
 use Rattle.golog_lead.proofs.Recorded.{records-same, records-then}
 use Rattle.golog_agent.proofs.driver.Driver.turn.Goals as goal
 
@@ -12,7 +14,7 @@ loop-stepped-init g c = record {
 pub loop-stepped-preserved : goal.loop-stepped-preserved
 loop-stepped-preserved g c = record {
   attempts =
-      attempts-next c.args.self.now.core (g.B.Board.sight c.args.board.now) c.loop-stepped.self.core c.attempt.new.self.core (g.B.Board.sight c.loop-stepped.board) (g.B.Board.sight c.attempt.new.board)
+      attempts-next waits MayAnswer c.args.self.now.core (g.B.Board.sight c.args.board.now) c.loop-stepped.self.core c.attempt.new.self.core (g.B.Board.sight c.loop-stepped.board) (g.B.Board.sight c.attempt.new.board)
       c.loop-stepped.invariant.attempts c.attempt.ensures.same
       c.attempt.result c.in_default.is c.attempt.ensures.attempt c.attempt.ensures.behind;
   recorded =
@@ -22,20 +24,18 @@ loop-stepped-preserved g c = record {
 
 pub returns-in-Some-clause-turn : goal.returns-in-Some-clause-turn
 returns-in-Some-clause-turn g c =
-    attempts-turn c.args.self.now.core (g.B.Board.sight c.args.board.now) c.loop-stepped.self.core c.attempt.new.self.core (g.B.Board.sight c.loop-stepped.board) (g.B.Board.sight c.attempt.new.board)
-    c.loop-stepped.invariant.attempts c.attempt.ensures.same
+    attempts-turn waits MayAnswer (g.B.Board.sight c.args.board.now) (g.B.Board.sight c.loop-stepped.board) (g.B.Board.sight c.attempt.new.board)
+    c.loop-stepped.invariant.attempts.held c.loop-stepped.invariant.attempts.follows
     c.attempt.result c.in-Some.stepped c.in-Some.is c.attempt.ensures.attempt
 
 pub loop-stepped-smaller : goal.loop-stepped-smaller
 loop-stepped-smaller g c =
-    attempts-shorter c.args.self.now.core (g.B.Board.sight c.args.board.now) c.loop-stepped.self.core c.attempt.new.self.core (g.B.Board.sight c.loop-stepped.board) (g.B.Board.sight c.attempt.new.board)
-    c.loop-stepped.invariant.attempts c.attempt.ensures.same
+    attempts-shorter waits MayAnswer (g.B.Board.sight c.args.board.now) (g.B.Board.sight c.loop-stepped.board) (g.B.Board.sight c.attempt.new.board)
     c.attempt.result c.in_default.is c.attempt.ensures.attempt
 
 pub returns-in-Some-clause-whole : goal.returns-in-Some-clause-whole
 returns-in-Some-clause-whole g c =
-    attempts-whole c.args.self.now.core (g.B.Board.sight c.args.board.now) c.loop-stepped.self.core c.attempt.new.self.core (g.B.Board.sight c.loop-stepped.board) (g.B.Board.sight c.attempt.new.board)
-    c.loop-stepped.invariant.attempts c.attempt.ensures.same
+    attempts-whole c.attempt.new.self.core (g.B.Board.sight c.attempt.new.board)
     c.attempt.result c.in-Some.stepped c.in-Some.is c.attempt.ensures.whole
 
 pub returns-in-Some-clause-recorded : goal.returns-in-Some-clause-recorded

@@ -1,7 +1,7 @@
 use Rattle.std.proofs.Common.{◌-◌, length}
 use Rattle.golog_semantics.specs.Journal.{longest}
 use Rattle.golog_lead.specs.Recording.{Records}
-use Rattle.golog_agent.proofs.Turning.{Attempts}
+use Rattle.golog_lead.proofs.Turning.{Attempts}
 use Rattle.golog_agent.proofs.driver.Driver.turn.Given as goal
 
 -- others have added entries, which are recorded, and nothing was committed yet

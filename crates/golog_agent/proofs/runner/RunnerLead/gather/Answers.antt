@@ -2,8 +2,9 @@ use Rattle.std.proofs.Common.{◌≤◌, length, sym, ap, ◌∙◌, subst}
 use Rattle.golog_semantics.specs.Journal.{Journal, longest}
 use Rattle.golog_journal.specs.Boards.{IsBoardList}
 use Rattle.golog_lead.specs.Courses.{Course}
-use Rattle.golog_agent.specs.Turns.{IsOver}
-use Rattle.golog_agent.proofs.Turning.{same-mind, watches}
+use Rattle.golog_lead.specs.Seeing.{IsOver}
+use Rattle.golog_lead.proofs.Turning.{watches}
+use Rattle.golog_agent.proofs.Turning.{same-mind}
 use Rattle.golog_agent.proofs.runner.RunnerLead.gather.Goals as goal
 
 pub catch_up-requires : goal.catch_up-requires

@@ -4,7 +4,10 @@ use Rattle.golog_semantics.specs.Journal.{Journal, has_end, longest}
 use Rattle.golog_journal.specs.declared.lead.Led.{Led}
 use Rattle.golog_journal.specs.declared.lead.Led.TheVariants as led
 use Rattle.golog_journal.specs.Boards.{IsBoardList}
-use Rattle.golog_agent.proofs.Turning.{lead-so, lead-turn, same-mind, turn-leads, whole-behind}
+use Rattle.golog_lead.specs.Waiting.{waits}
+use Rattle.golog_agent.specs.Turns.{MayAnswer}
+use Rattle.golog_lead.proofs.Turning.{turn-leads, whole-behind}
+use Rattle.golog_agent.proofs.Turning.{lead-so, lead-turn, same-mind}
 use Rattle.golog_agent.proofs.runner.RunnerLead.turn.Goals as goal
 
 pub returns : goal.returns
@@ -19,8 +22,8 @@ returns g c =
     record {
       same = same-mind first later t.same;
       stands = λ stood. stood;
-      behind = whole-behind later new t.whole;
-      leads = turn-leads old new step t.turn;
+      behind = whole-behind later.list new.seen t.whole;
+      leads = turn-leads waits MayAnswer old new step t.turn;
       ended =
           subst (λ (l : Led). (l ≡ led.Ended) ↔ IsTrue (has_end new.seen)) (sym c.led_by.ensures)
           (lead-so first later old new c.requires.agent c.requires.held t.same t.whole t.online step t.turn);

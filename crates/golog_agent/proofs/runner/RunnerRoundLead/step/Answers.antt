@@ -1,5 +1,8 @@
 use Rattle.golog_agent.proofs.Leading.{alone-so}
-use Rattle.golog_agent.proofs.Turning.{lead-turn, same-mind, turn-leads}
+use Rattle.golog_lead.specs.Waiting.{waits}
+use Rattle.golog_agent.specs.Turns.{MayAnswer}
+use Rattle.golog_lead.proofs.Turning.{turn-leads}
+use Rattle.golog_agent.proofs.Turning.{lead-turn, same-mind}
 use Rattle.golog_agent.proofs.runner.RunnerRoundLead.step.Goals as goal
 
 pub returns : goal.returns
@@ -14,7 +17,7 @@ returns g c =
       same = same-mind first later t.same;
       stands = λ stood. stood;
       whole = t.whole;
-      leads = turn-leads old new step t.turn;
+      leads = turn-leads waits MayAnswer old new step t.turn;
       turn = lead-turn first later old new c.requires.agent c.requires.held t.same t.whole t.online step t.turn;
       alone = alone-so first later old new step c.requires.agent t.same t.whole t.online t.turn;
     }

@@ -2,7 +2,7 @@ use Rattle.std.proofs.Common.{◌≤◌, length, refl, ap, subst}
 use Rattle.golog_semantics.specs.Journal.{Journal, longest}
 use Rattle.golog_journal.specs.Boards.{IsBoardList}
 use Rattle.golog_lead.specs.Waiting.{waits}
-use Rattle.golog_agent.proofs.Turning.{watches}
+use Rattle.golog_lead.proofs.Turning.{watches}
 use Rattle.golog_agent.proofs.scribe.ScribeLead.gather.Goals as goal
 
 pub catch_up-requires : goal.catch_up-requires

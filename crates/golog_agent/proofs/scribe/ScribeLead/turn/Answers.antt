@@ -6,7 +6,9 @@ use Rattle.golog_journal.specs.declared.lead.Led.TheVariants as led
 use Rattle.golog_journal.specs.Boards.{IsBoardList}
 use Rattle.golog_lead.specs.Waiting.{waits}
 use Rattle.golog_lead.proofs.Minds.{outlet-still, takes-as}
-use Rattle.golog_agent.proofs.Turning.{lead-so, lead-turn, mind_of, turn-leads, whole-behind}
+use Rattle.golog_agent.specs.Turns.{MayAnswer}
+use Rattle.golog_lead.proofs.Turning.{turn-leads, whole-behind}
+use Rattle.golog_agent.proofs.Turning.{lead-so, lead-turn, mind_of}
 use Rattle.golog_agent.proofs.scribe.ScribeLead.turn.Goals as goal
 
 pub returns : goal.returns
@@ -26,8 +28,8 @@ returns g c =
         same_outlet = outlet-still _ _ t.same_reference t.same_base t.same_faults;
       };
       stands = t.stands;
-      behind = whole-behind later new t.whole;
-      leads = turn-leads old new step t.turn;
+      behind = whole-behind later.list new.seen t.whole;
+      leads = turn-leads waits MayAnswer old new step t.turn;
       ended =
           subst (λ (l : Led). (l ≡ led.Ended) ↔ IsTrue (has_end new.seen)) (sym c.led_by.ensures)
           (lead-so first later old new c.requires.agent c.requires.held t.same t.whole t.online step t.turn);

@@ -2,7 +2,9 @@ use Rattle.std.proofs.Common.{refl, ap}
 use Rattle.golog_lead.proofs.Minds.{outlet-still, takes-as}
 use Rattle.golog_lead.specs.Waiting.{waits}
 use Rattle.golog_agent.proofs.Leading.{alone-so}
-use Rattle.golog_agent.proofs.Turning.{lead-turn, mind_of, turn-leads}
+use Rattle.golog_agent.specs.Turns.{MayAnswer}
+use Rattle.golog_lead.proofs.Turning.{turn-leads}
+use Rattle.golog_agent.proofs.Turning.{lead-turn, mind_of}
 use Rattle.golog_agent.proofs.scribe.ScribeRoundLead.step.Goals as goal
 
 pub returns : goal.returns
@@ -22,7 +24,7 @@ returns g c =
       };
       stands = t.stands;
       whole = t.whole;
-      leads = turn-leads old new step t.turn;
+      leads = turn-leads waits MayAnswer old new step t.turn;
       turn = takes-as (mind_of first) _ old new refl (lead-turn first later old new c.requires.agent c.requires.held t.same t.whole t.online step t.turn);
       alone = alone-so first later old new step c.requires.agent t.same t.whole t.online t.turn;
     }

@@ -1,7 +1,8 @@
 use Rattle.std.proofs.Common.{◌∷◌, [], ◌++◌, ap, ◌∙◌}
 use Rattle.golog_journal.specs.Boards.{AgentJournal}
 use Rattle.golog_lead.specs.Courses.{Course}
-use Rattle.golog_agent.proofs.Growth.{entries-fit, kept-then, lawful-inside, seen_as, sound}
+use Rattle.golog_lead.proofs.Taking.{seen_as}
+use Rattle.golog_agent.proofs.Growth.{entries-fit, kept-then, lawful-inside, sound}
 use Rattle.golog_agent.proofs.under_way.Core.take.Goals as goal
 
 pub take-requires-clause-sound : goal.take-requires-clause-sound

@@ -10,8 +10,8 @@ use Rattle.golog_journal.specs.Boards.{IsBoardList}
 use Rattle.golog_journal.specs.Commits.{CommitIs, IsOfProgram, MayCommit}
 use Rattle.golog_journal.specs.Growing.{Called, Sight, program}
 use Rattle.golog_lead.specs.Courses.{Course}
-use Rattle.golog_agent.specs.Turns.{Follows, IsCommitted, IsCurrent, IsOver, IsOvertaken}
-use Rattle.golog_agent.proofs.Boarding.{called-follows, called-seen, over-whole, still-over}
+use Rattle.golog_lead.specs.Seeing.{Follows, IsCommitted, IsCurrent, IsOver, IsOvertaken}
+use Rattle.golog_lead.proofs.Boarding.{called-follows, called-seen, over-whole, still-over}
 
 none-left : (xs : Journal) → length xs ≤ 0 → xs ≡ []
 none-left [] h = refl

@@ -4,7 +4,6 @@ use Rattle.std.specs.Prelude.{nat_lt}
 use Rattle.std.specs.List.{list_any}
 use Rattle.std.proofs.lemmas.Bool.{or_parts, or_from, ltb-true, ltb-false}
 use Rattle.std.proofs.lemmas.List.{append-nil, take-append-drop, length-take-le}
-use Rattle.golog_tree.specs.declared.agent.Agent.{Agent}
 use Rattle.golog_semantics.specs.declared.journal.Entry.{Entry}
 use Rattle.golog_semantics.specs.Journal.{Journal, longest}
 use Rattle.golog_journal.specs.declared.board.Batch.{Batch}
@@ -14,8 +13,8 @@ use Rattle.golog_journal.specs.Growing.{Called, Sight}
 use Rattle.golog_journal.specs.Leading.{is_of_program}
 use Rattle.golog_device.proofs.Asked.{lawful-prefix}
 use Rattle.golog_lead.specs.Courses.{Course}
-use Rattle.golog_agent.specs.Turns.{Follows, IsCurrent, IsOver}
-use Rattle.golog_agent.proofs.Boarding.{called-follows, called-seen, compose, no-change, still-over}
+use Rattle.golog_lead.specs.Seeing.{Follows, IsCurrent, IsOver}
+use Rattle.golog_lead.proofs.Boarding.{called-follows, called-seen, compose, no-change, still-over}
 
 drop-front : {A : Type 0} (front rest : List A) → drop (length front) (front ++ rest) ≡ rest
 drop-front [] rest = refl

@@ -13,7 +13,7 @@ use Rattle.golog_semantics.specs.Journal.{Journal, has_end, is_end, poster_of}
 use Rattle.golog_journal.specs.Growing.{AreOthers, Called, Sight, party_of, program}
 use Rattle.golog_journal.specs.Leading.{is_of_program, may_come}
 use Rattle.golog_lead.specs.Courses.{Course}
-use Rattle.golog_agent.specs.Turns.{Follows, IsOver}
+use Rattle.golog_lead.specs.Seeing.{Follows, IsOver}
 
 -- ---- entries of devices
 
