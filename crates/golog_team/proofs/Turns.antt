@@ -218,11 +218,20 @@ module _ {L M W : Type 0} (mind : L → Mind) (their_mind : M → Mind) (view : 
   -- where they have met
   pub rounds-begun : (one : Side L W) (other : Side M W) → IsSide mind view first → IsSide their_mind view second → IsSameBut mind view first one
       → IsSameBut their_mind view second other → HasMet (view first.wire) (view one.wire) → HasMet (view second.wire) (view other.wire)
-      → (view other.wire).seen ≡ (view one.wire).seen → RoundsTo one other
-  rounds-begun one other is their_is but their_but met their_met same =
+      → (view other.wire).seen ≡ (view one.wire).seen
+      → ((view one.wire).seen ≡ (view first.wire).seen) ⊎ ((view one.wire).seen ≡ (view second.wire).seen)
+      → RoundsTo one other
+  rounds-begun one other is their_is but their_but met their_met same all =
       begun (station_of mind view one) (station_of their_mind view other)
       (hears-all mind view first one is but met (seen_at (station_of mind view one)) (sym (all-seen mind view one)))
       (hears-all their_mind view second other their_is their_but their_met (seen_at (station_of mind view one)) (same ∙ sym (all-seen mind view one)))
+      (had all)
+    where
+      had : ((view one.wire).seen ≡ (view first.wire).seen) ⊎ ((view one.wire).seen ≡ (view second.wire).seen)
+          → (seen_at (station_of mind view one) ≡ seen_at (station_of mind view first))
+          ⊎ (seen_at (station_of mind view one) ≡ seen_at (station_of their_mind view second))
+      had (inl is) = inl (all-seen mind view one ∙ is ∙ sym (all-seen mind view first))
+      had (inr is) = inr (all-seen mind view one ∙ is ∙ sym (all-seen their_mind view second))
 
   -- and where both have copied their journals
   pub rounds-to : (one new : Side L W) (other their_new : Side M W) → station_of mind view new ≡ station_of mind view one

@@ -1,5 +1,5 @@
 -- Two sides that have their steps in turn. (This project's own.)
-use Rattle.std.specs.Prelude.{◌≡◌, ◌≢◌, ℕ, Bool, false, ◌++◌}
+use Rattle.std.specs.Prelude.{◌≡◌, ◌≢◌, ◌⊎◌, ℕ, Bool, false, ◌++◌}
 use Rattle.std.specs.List.{list_any}
 use Rattle.golog_tree.specs.declared.agent.Agent.{Agent}
 use Rattle.golog_semantics.specs.Journal.{Journal}
@@ -36,7 +36,7 @@ module _ (agent other : Agent) (side : ℕ) (waits their_waits : Journal → Boo
     pub their_turn : HasTurn other agent (across side) their_waits mid_t new_t
     pub heard : Hears mid_s new_s (seen_at new_t)
 
-  -- rounds, from where both have seen the same
+  -- rounds, from where both have seen the same: what one of them had
   pub data Rounds (s t : Station) : Station → Station → Type 0 where
-    begun : (s' t' : Station) → Hears s s' (seen_at s') → Hears t t' (seen_at s') → Rounds s t s' t'
+    begun : (s' t' : Station) → Hears s s' (seen_at s') → Hears t t' (seen_at s') → (seen_at s' ≡ seen_at s) ⊎ (seen_at s' ≡ seen_at t) → Rounds s t s' t'
     further : (s' t' s'' t'' : Station) → Rounds s t s' t' → Round s' t' s'' t'' → Rounds s t s'' t''

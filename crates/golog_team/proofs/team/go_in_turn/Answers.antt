@@ -18,7 +18,7 @@ loop-init g c =
       (λ h. subst (λ x. g.L.Lead.stands x.lead) (sym e.one.0) h),
       (λ h. subst (λ x. g.M.Lead.stands x.lead) (sym e.other.0) h),
       rounds-begun m n v c.args.first.now c.args.second.now c.meet.new.self c.meet.new.other c.requires.one_is c.requires.other_is
-          e.one.0 e.other.0 e.one.1 e.other.1 e.same,
+          e.one.0 e.other.0 e.one.1 e.other.1 e.same e.all,
     )
 
 pub loop-preserved : goal.loop-preserved
