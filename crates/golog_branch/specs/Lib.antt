@@ -1,0 +1,12 @@
+pub mod Trees
+pub mod Going
+pub mod Plans
+pub mod Levels
+pub mod Places
+pub mod Searching
+pub mod TreeTexts
+pub mod TreesInWorlds
+pub mod Following
+pub mod PlanJournals
+pub mod PlansInWorlds
+pub mod PlanEnds
