@@ -1,0 +1,7 @@
+mod Awaiting
+mod Carrying
+mod Committing
+mod Decisions
+mod Following
+mod Turning
+mod Writing
