@@ -12,7 +12,8 @@
 //! readers, each limit as it is and above), `conditions` (their truths, also where they grow, and
 //! their refusals), `commands` (the commands that run no program, which refusal goes first, and
 //! words that are refused), `journals` (whole runs, and a journal for each rule that is broken),
-//! `teams` (two agents, each the other's device).
+//! `teams` (two agents, each the other's device), `plans` (plans that go on for each value of what
+//! is sensed).
 #![tactic(auto)]
 
 mod blocks;

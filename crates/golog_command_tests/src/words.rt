@@ -31,7 +31,7 @@ fn is_answered(alloc: Global, line: &str, wanted: &str) -> Result<bool, NoMemory
 }
 
 #[test]
-fn commands_are_read(rt: HostRuntime) -> Result<(), NoMemory> {
+fn words_are_answered(rt: HostRuntime) -> Result<(), NoMemory> {
     let table = [
         (
             "run a",
@@ -86,6 +86,46 @@ fn commands_are_read(rt: HostRuntime) -> Result<(), NoMemory> {
         ),
         ("demo 1", "Demo { size: 1 }"),
         ("demo 200", "Demo { size: 200 }"),
+        (
+            "plan 16 100000 --inline x",
+            "Plan { depth: 16, fuel: 100000, agent: \"x\", devices: None, inline: true }",
+        ),
+        (
+            "plan 4 100 x --inline y",
+            "Plan { depth: 4, fuel: 100, agent: \"x\", devices: Some(\"y\"), inline: true }",
+        ),
+        (
+            "plan 1 1 x",
+            "Plan { depth: 1, fuel: 1, agent: \"x\", devices: None, inline: false }",
+        ),
+        (
+            "plan 4 100 4 100",
+            "Plan { depth: 4, fuel: 100, agent: \"4\", devices: Some(\"100\"), inline: false }",
+        ),
+        (
+            "plan 10 99999 x y --inline",
+            "Plan { depth: 10, fuel: 99999, agent: \"x\", devices: Some(\"y\"), inline: true }",
+        ),
+        ("plan 0 1 x", "refused"),
+        ("plan 17 1 x", "refused"),
+        ("plan 4 0 x", "refused"),
+        ("plan 4 100001 x", "refused"),
+        ("plan 04 1 x", "refused"),
+        ("plan 4 0100 x", "refused"),
+        ("plan --inline 4 100 x", "refused"),
+        ("plan 4 --inline 100 x", "refused"),
+        ("plan 4 100", "refused"),
+        ("plan 4 x", "refused"),
+        ("plan 4 100 --inline", "refused"),
+        ("plan 4 100 x y z", "refused"),
+        ("plan 4 100 x --inline --inline", "refused"),
+        ("plan 4 100 x --from y", "refused"),
+        ("plan 4 100 x --workers 2", "refused"),
+        ("plan +4 100 x", "refused"),
+        ("plan 4 100 -x", "refused"),
+        ("plan", "refused"),
+        ("plan x 4 100", "refused"),
+        ("plan 999999999999999999999999 1 x", "refused"),
     ];
     for (line, expected) in table {
         same(&rt, line, is_answered(rt.alloc(), line, expected)?, true);

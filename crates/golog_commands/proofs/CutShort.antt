@@ -14,17 +14,19 @@ use Rattle.golog_semantics.specs.Restart.{journal_text, values_left}
 use Rattle.golog_semantics.specs.Text.{Text, head_text, report_text}
 use Rattle.golog_semantics.specs.Truth.{Values}
 use Rattle.golog_semantics.specs.Execution.{IsOnlineRun, BeginsOnline}
+use Rattle.golog_semantics.specs.BlockFree.{has_block}
 use Rattle.golog_script.specs.declared.scripts.Script.{Script}
 use Rattle.golog_file.specs.Spelled.{SpellsAgent, IsFirstRefusal}
+use Rattle.golog_plan.specs.PlanTexts.{plan_text}
 use Rattle.golog_lead.proofs.Writing.{and_then-none}
-use Rattle.golog_words.specs.Commands.{CommandLine, run, check, replay, ask, migrate, demo, team}
+use Rattle.golog_words.specs.Commands.{CommandLine, run, check, replay, ask, migrate, demo, team, plan}
 use Rattle.golog_commands.specs.declared.outcome.Input.TheVariants.{Agent as AgentFile, Devices as DevicesFile, Journal as JournalFile}
 use Rattle.golog_commands.specs.declared.outcome.Outcome.{Outcome}
 use Rattle.golog_commands.specs.declared.outcome.Outcome.TheVariants.{WordsRefused, ReadFault, Refused, Ran, Checked, Judged, Asked, Migrated, Demonstrated, Teamed}
 use Rattle.golog_commands.specs.declared.ready.Told.{Told}
 use Rattle.golog_commands.specs.Inputs.{LeavesValues, ReadsAgent, ReadsStart, SpellsJournal, SpellsScripts, RefusesJournal, RefusesScripts}
-use Rattle.golog_commands.specs.Outcome.{AddsHead, Outside, CallEnds, IsReported, OfFrom, OfScripts, RunOf, Reports, outcome_text, outcome_status}
-use Rattle.golog_commands.specs.CutShort.{AddsBeginning, AddsRun, CutShortBeginsOnline, GivesAgent, GivesScripts, GivesStart, LinesBegin}
+use Rattle.golog_commands.specs.Outcome.{AddsHead, Outside, CallEnds, IsReported, OfFrom, OfPlannable, OfScripts, PlannableBy, PlannedRunOf, RunOf, Reports, outcome_text, outcome_status}
+use Rattle.golog_commands.specs.CutShort.{AddsBeginning, AddsPlanned, AddsRun, CutShortBeginsOnline, GivesAgent, GivesScripts, GivesStart, LinesBegin}
 use Rattle.golog_commands.proofs.Causes.{IsCaused}
 use Rattle.golog_commands.proofs.ExactLemmas.{agents-exclude, agents-one, journals-exclude, journals-one, scripts-exclude, scripts-one, file-spells, read_so}
 
@@ -188,6 +190,80 @@ module _ (name : Text) (devices : Option Text) (inline : Bool) (from : Option Te
   run-begins status (inl reported) = run-adds agent start before.taken after.taken (reported-begins status reported)
   run-begins status (inr starved) = starved-begins starved.nothing
 
+-- ---- a run that follows plans
+
+module _ (depth fuel : ℕ) (inline : Bool) (before after : Outside) (agent : Agent) (listed : List Script) where
+  abbrev Plans : Agent → List Script → Outcome → Type 0
+  Plans a l = PlannedRunOf a depth fuel l inline before.devices after.devices
+
+  of-plan-scripts : (devices : Option Text) (outcome : Outcome) → GivesScripts devices before after agent listed
+      → OfScripts before.held before.file_faults after.file_faults agent devices (Plans agent) outcome → Plans agent listed outcome
+  of-plan-scripts None outcome gives comes = subst (λ l. Plans agent l outcome) (sym gives) comes
+  of-plan-scripts (Some name) outcome (bytes, read, spells) comes =
+      file-spells before after DevicesFile name (RefusesScripts agent) (SpellsScripts agent) (scripts-exclude agent) (scripts-one agent) outcome
+      (Plans agent) bytes listed read spells comes
+
+  unblocked : (b : Bool) (P : Outcome → Type 0) (outcome : Outcome) → b ≡ false → PlannableBy b P outcome → P outcome
+  unblocked b P outcome free comes = subst (λ v. PlannableBy v P outcome) free comes
+
+  -- what comes of the files is a run
+  is-plan : (name : Text) (devices : Option Text) (outcome : Outcome) → GivesAgent name before after agent → has_block agent agent.main ≡ false
+      → GivesScripts devices before after agent listed → IsCaused (Some (plan depth fuel name devices inline)) before after outcome → Plans agent listed outcome
+  is-plan name devices outcome gives free scripts cause =
+      of-plan-scripts devices outcome scripts
+      (unblocked (has_block agent agent.main) (OfScripts before.held before.file_faults after.file_faults agent devices (Plans agent)) outcome free
+      (file-spells before after AgentFile name IsFirstRefusal SpellsAgent agents-exclude agents-one outcome
+      (λ a. OfPlannable a (OfScripts before.held before.file_faults after.file_faults a devices (Plans a))) gives.bytes agent gives.read gives.spells cause))
+
+  plan-adds : (outcome : Outcome) → Plans agent listed outcome → AddsPrefix before.taken after.taken (outcome_text outcome)
+      → AddsPlanned agent depth fuel before.taken after.taken
+  plan-adds (Ran text answer) of (n, within, added) = record {
+    journal = of.journal;
+    bytes = take n text;
+    rest = drop n text;
+    begins = sym of.is ∙ sym (take-append-drop n text);
+    planned = of.run.planned.entries;
+    so = of.so;
+    added = added;
+  }
+  plan-adds WordsRefused of prefix = absurd of
+  plan-adds (ReadFault input) of prefix = absurd of
+  plan-adds (Refused input text) of prefix = absurd of
+  plan-adds (Checked text) of prefix = absurd of
+  plan-adds (Judged verdict text) of prefix = absurd of
+  plan-adds (Asked truth) of prefix = absurd of
+  plan-adds (Migrated text) of prefix = absurd of
+  plan-adds (Demonstrated text) of prefix = absurd of
+  plan-adds (Teamed text first second) of prefix = absurd of
+
+  of-plan-report : (status : ℕ) (outcome : Outcome) → Plans agent listed outcome
+      → Reports status (outcome_text outcome) (outcome_status outcome) before.taken after.taken before.sink_faults after.sink_faults
+      → AddsPlanned agent depth fuel before.taken after.taken
+  of-plan-report status outcome of (inl (is, written, still)) =
+      plan-adds outcome of (length (outcome_text outcome), omega arith, written ∙ ap (and_then_bytes before.taken) (sym (take-length (outcome_text outcome))))
+  of-plan-report status outcome of (inr (five, prefix, rose)) = plan-adds outcome of prefix
+
+-- nothing is a beginning too
+nothing-planned : (agent : Agent) (depth fuel : ℕ) (old new : Option Text) → new ≡ old → AddsPlanned agent depth fuel old new
+nothing-planned agent depth fuel old new same = record {
+  journal = [];
+  bytes = [];
+  rest = plan_text agent depth fuel [];
+  begins = refl;
+  planned = record { entries = λ before e later is. absurd (no-entry before later e is) };
+  so = λ before later e start is world agrees. absurd (no-entry before later e is);
+  added = same ∙ sym (and_then-none old);
+}
+
+plan-begins : (depth fuel : ℕ) (name : Text) (devices : Option Text) (inline : Bool) (before after : Outside) (agent : Agent) (listed : List Script) (status : ℕ)
+    → GivesAgent name before after agent → has_block agent agent.main ≡ false → GivesScripts devices before after agent listed
+    → CallEnds status (Some (plan depth fuel name devices inline)) before after → AddsPlanned agent depth fuel before.taken after.taken
+plan-begins depth fuel name devices inline before after agent listed status gives free scripts (inl reported) =
+    of-plan-report depth fuel inline before after agent listed status reported.outcome
+    (is-plan depth fuel inline before after agent listed name devices reported.outcome gives free scripts reported.cause) reported.report
+plan-begins depth fuel name devices inline before after agent listed status gives free scripts (inr starved) =
+    nothing-planned agent depth fuel before.taken after.taken starved.nothing
+
 -- what a run has written, whatever its status
 pub lines-begin : (status : ℕ) (before after : Outside) (spelled : Option CommandLine) → CallEnds status spelled before after → LinesBegin spelled before after
 lines-begin status before after None ends = tt
@@ -199,6 +275,8 @@ lines-begin status before after (Some (ask name journal condition)) ends = tt
 lines-begin status before after (Some (migrate name journal)) ends = tt
 lines-begin status before after (Some (demo size)) ends = tt
 lines-begin status before after (Some (team first second inline)) ends = tt
+lines-begin status before after (Some (plan depth fuel name devices inline)) ends =
+    λ agent listed gives free scripts. plan-begins depth fuel name devices inline before after agent listed status gives free scripts ends
 
 pub cut_short : CutShortBeginsOnline
 cut_short name devices inline from workers before after agent listed start gives scripts begun (inl reported) =

@@ -1,5 +1,5 @@
 -- The causes exclude one another, and each outcome has one status.
-use Rattle.std.proofs.Common.{◌≡◌, Bool, ℕ, zero, suc, ◌==◌, if◌then◌else◌, ◌≤◌, List, [], Option, Some, None, Ok, Err, ◌⊎◌, inl, inr, arith, sym, ap, ◌∙◌, refl, subst, IsSome}
+use Rattle.std.proofs.Common.{◌≡◌, Bool, true, false, true≢false, ℕ, zero, suc, ◌==◌, if◌then◌else◌, ◌≤◌, List, [], Option, Some, None, Ok, Err, ◌⊎◌, inl, inr, arith, sym, ap, ◌∙◌, refl, subst, IsSome}
 use Rattle.std.proofs.lemmas.Bool.{ne_eqb}
 use Rattle.golog_base.specs.Faults.{Rose}
 use Rattle.golog_base.specs.Files.{HasNone, FileHas, bytes_of}
@@ -8,6 +8,7 @@ use Rattle.golog_base.specs.declared.mem_files.HeldFile.{HeldFile}
 use Rattle.golog_tree.specs.declared.agent.Agent.{Agent}
 use Rattle.golog_tree.specs.declared.cond.Cond.{Cond}
 use Rattle.golog_tree.specs.declared.draft.DraftTheory.{DraftTheory}
+use Rattle.golog_semantics.specs.BlockFree.{has_block}
 use Rattle.golog_semantics.specs.Text.{Text}
 use Rattle.golog_semantics.specs.Restart.{journal_text, migrated, started, values_left}
 use Rattle.golog_semantics.specs.Truth.{Values}
@@ -26,7 +27,7 @@ use Rattle.golog_check_text.specs.Counts.{check_text}
 use Rattle.golog_semantics.specs.declared.journal.Verdict.TheVariants.{Online, Not}
 use Rattle.golog_team.specs.declared.shape.TeamRefusal.{TeamRefusal}
 use Rattle.golog_team.specs.Shapes.{team_refusal}
-use Rattle.golog_words.specs.Commands.{CommandLine, run, check, replay, ask, migrate, demo, team}
+use Rattle.golog_words.specs.Commands.{CommandLine, run, check, replay, ask, migrate, demo, team, plan}
 use Rattle.golog_commands.specs.declared.outcome.Input.{Input}
 use Rattle.golog_commands.specs.declared.outcome.Input.TheVariants.{Agent as AgentFile, Devices as DevicesFile, Journal as JournalFile, First, Second}
 use Rattle.golog_commands.specs.declared.outcome.Outcome.{Outcome}
@@ -36,9 +37,10 @@ use Rattle.golog_commands.specs.Inputs.{SpellsScripts, RefusesScripts, too_long,
 use Rattle.golog_commands.specs.Teams.{IsTeamOf, team_input, team_status}
 use Rattle.golog_commands.specs.Demos.{Demonstrates, demo_text}
 use Rattle.golog_commands.specs.Runs.{IsRunOf}
-use Rattle.golog_commands.specs.Outcome.{ComesOf, unread, refused, holds, LeavesText, MigratedOf, OfFile, OfScripts, OfJournal, OfFrom, OfCondition, TeamBy, TeamOf, RunOf, Judges, TruthOf, Outside, Reports, outcome_text, outcome_status, truth_after, verdict_line, verdict_status}
+use Rattle.golog_commands.specs.Plans.{IsPlannedRunOf}
+use Rattle.golog_commands.specs.Outcome.{ComesOf, unread, refused, holds, LeavesText, MigratedOf, OfFile, OfScripts, OfJournal, OfFrom, OfCondition, OfPlannable, PlannableBy, PlannedRunOf, TeamBy, TeamOf, RunOf, Judges, TruthOf, Outside, Reports, outcome_text, outcome_status, truth_after, verdict_line, verdict_status}
 use Rattle.golog_commands.proofs.OneVerdict.{one-verdict}
-use Rattle.golog_commands.specs.Exact.{Writes, Wrote, Shows, SaysItsCause, IsStopped, Answers, Says, IsRead, FileFollows, CondFollows, ScriptsFollow, JournalFollows, FromFollows, RunFollows, DemoFollows, JudgedFollows, TruthFollows, ShowsTeam, TeamFollows, FollowsItsCause, StatusesAreExact}
+use Rattle.golog_commands.specs.Exact.{Writes, Wrote, Shows, SaysItsCause, IsStopped, Answers, Says, IsRead, FileFollows, CondFollows, ScriptsFollow, JournalFollows, FromFollows, RunFollows, DemoFollows, JudgedFollows, TruthFollows, PlanFollows, PlannableFollows, ShowsTeam, TeamFollows, FollowsItsCause, StatusesAreExact}
 use Rattle.golog_commands.proofs.Causes.{IsCaused}
 
 -- ---- what is read
@@ -201,6 +203,24 @@ module _ (status : ℕ) (before after : Outside) where
   ran-follows agent start listed inline (Demonstrated text) is written ran = absurd ran
   ran-follows agent start listed inline (Teamed text first second) is written ran = absurd ran
 
+  plan-follows : (agent : Agent) (depth fuel : ℕ) (listed : List Script) (inline : Bool) (outcome : Outcome) → status ≡ outcome_status outcome → Writes before after (outcome_text outcome)
+      → PlannedRunOf agent depth fuel listed inline before.devices after.devices outcome → PlanFollows status before after agent depth fuel listed inline
+  plan-follows agent depth fuel listed inline (Ran text answer) is written ran =
+      inl (record {
+        text = text;
+        runs = subst (IsPlannedRunOf agent depth fuel (scripts_for agent listed) inline before.devices after.devices text) (sym is) ran;
+        written = written;
+      })
+  plan-follows agent depth fuel listed inline WordsRefused is written ran = absurd ran
+  plan-follows agent depth fuel listed inline (ReadFault input) is written ran = absurd ran
+  plan-follows agent depth fuel listed inline (Refused input text) is written ran = absurd ran
+  plan-follows agent depth fuel listed inline (Checked text) is written ran = absurd ran
+  plan-follows agent depth fuel listed inline (Judged verdict text) is written ran = absurd ran
+  plan-follows agent depth fuel listed inline (Asked truth) is written ran = absurd ran
+  plan-follows agent depth fuel listed inline (Migrated text) is written ran = absurd ran
+  plan-follows agent depth fuel listed inline (Demonstrated text) is written ran = absurd ran
+  plan-follows agent depth fuel listed inline (Teamed text first second) is written ran = absurd ran
+
   -- a team that was played, or refused
   abbrev Plays : Agent → Agent → Bool → Type 0
   Plays a b inline = (one : Answer) × (other : Answer) × (status ≡ team_status one other) × Wrote before after (λ text. IsTeamOf a b inline text one other)
@@ -313,6 +333,29 @@ module _ (status : ℕ) (before after : Outside) where
         (λ b. TeamBy (team_refusal a b) (TeamOf a b inline)) (λ b. TeamFollows status before after a b inline)
         (λ b. team-by a b inline (team_refusal a b) refl) comes
 
+    -- a run that follows plans
+    abbrev Plans : Agent → ℕ → ℕ → Bool → List Script → Outcome → Type 0
+    Plans agent depth fuel inline listed = PlannedRunOf agent depth fuel listed inline before.devices after.devices
+
+    abbrev Plan-follows : Agent → ℕ → ℕ → Option Text → Bool → Type 0
+    Plan-follows agent depth fuel named inline = ScriptsFollow status before after agent named (λ listed. PlanFollows status before after agent depth fuel listed inline)
+
+    plans-follow : (agent : Agent) (depth fuel : ℕ) (named : Option Text) (inline : Bool)
+        → OfScripts before.held before.file_faults after.file_faults agent named (Plans agent depth fuel inline) outcome → Plan-follows agent depth fuel named inline
+    plans-follow agent depth fuel None inline comes = plan-follows agent depth fuel [] inline outcome shown written comes
+    plans-follow agent depth fuel (Some name) inline comes =
+        file-follows before after DevicesFile name (RefusesScripts agent) (SpellsScripts agent) (scripts-exclude agent) (scripts-one agent) outcome status shown
+        (Plans agent depth fuel inline) (λ listed. PlanFollows status before after agent depth fuel listed inline)
+        (λ listed. plan-follows agent depth fuel listed inline outcome shown written) comes
+
+    plan-by : (agent : Agent) (P : Outcome → Type 0) (Next : Type 0) → (P outcome → Next) → (b : Bool) → has_block agent agent.main ≡ b → PlannableBy b P outcome
+        → PlannableFollows status before after agent Next
+    plan-by agent P Next so false free next = record { refused = λ blocked. absurd (true≢false (sym blocked ∙ free)); plannable = λ _. so next }
+    plan-by agent P Next so true blocked is = record {
+      refused = λ _. said (Refused AgentFile (refusal_text AgentFile 39 0)) is;
+      plannable = λ free. absurd (true≢false (sym blocked ∙ free));
+    }
+
     follows : (spelled : Option CommandLine) → IsCaused spelled before after outcome → FollowsItsCause status before after spelled
     follows None is = inl (shown ∙ ap outcome_status is)
     follows (Some (run name named inline from workers)) comes =
@@ -344,6 +387,12 @@ module _ (status : ℕ) (before after : Outside) where
         (λ a. OfFile before.held before.file_faults after.file_faults Second second IsFirstRefusal SpellsAgent (λ b. TeamBy (team_refusal a b) (TeamOf a b inline)))
         (λ a. FileFollows status before after IsFirstRefusal SpellsAgent second (λ b. TeamFollows status before after a b inline))
         (λ a. team-follows a second inline) comes
+    follows (Some (plan depth fuel name named inline)) comes =
+        file-follows before after AgentFile name IsFirstRefusal SpellsAgent agents-exclude agents-one outcome status shown
+        (λ a. OfPlannable a (OfScripts before.held before.file_faults after.file_faults a named (Plans a depth fuel inline)))
+        (λ a. PlannableFollows status before after a (Plan-follows a depth fuel named inline))
+        (λ a. plan-by a (OfScripts before.held before.file_faults after.file_faults a named (Plans a depth fuel inline)) (Plan-follows a depth fuel named inline)
+        (plans-follow a depth fuel named inline) (has_block a a.main) refl) comes
 
   module _ (stop : IsStopped status before after) where
     from-stopped : (agent : Agent) (from : Option Text) (inline : Bool) (listed : List Script)
@@ -385,6 +434,12 @@ module _ (status : ℕ) (before after : Outside) where
         file-stopped status before after second IsFirstRefusal SpellsAgent (λ b. TeamFollows status before after a b inline) stop
         (λ b. record { refused = λ r is. inr stop; played = λ none. inr stop })
 
+    plan-stopped : (agent : Agent) (depth fuel : ℕ) (named : Option Text) (inline : Bool)
+        → ScriptsFollow status before after agent named (λ listed. PlanFollows status before after agent depth fuel listed inline)
+    plan-stopped agent depth fuel None inline = inr stop
+    plan-stopped agent depth fuel (Some name) inline =
+        file-stopped status before after name (RefusesScripts agent) (SpellsScripts agent) (λ listed. PlanFollows status before after agent depth fuel listed inline) stop (λ listed. inr stop)
+
     stopped : (spelled : Option CommandLine) → FollowsItsCause status before after spelled
     stopped None = inr stop
     stopped (Some (run name named inline from workers)) =
@@ -409,6 +464,10 @@ module _ (status : ℕ) (before after : Outside) where
         file-stopped status before after first IsFirstRefusal SpellsAgent
         (λ a. FileFollows status before after IsFirstRefusal SpellsAgent second (λ b. TeamFollows status before after a b inline)) stop
         (λ a. team-stopped a second inline)
+    stopped (Some (plan depth fuel name named inline)) =
+        file-stopped status before after name IsFirstRefusal SpellsAgent
+        (λ a. PlannableFollows status before after a (ScriptsFollow status before after a named (λ listed. PlanFollows status before after a depth fuel listed inline))) stop
+        (λ a. record { refused = λ blocked. inr stop; plannable = λ free. plan-stopped a depth fuel named inline })
 
 -- ---- a status only where its cause is
 
@@ -555,6 +614,12 @@ module _ (before after : Outside) where
   not-team a b inline None of = of
   not-team a b inline (Some r) is = cc
 
+  not-planned : (agent : Agent) (depth fuel : ℕ) (named : Option Text) (inline : Bool) (b : Bool)
+      → PlannableBy b (OfScripts before.held before.file_faults after.file_faults agent named (λ listed. PlannedRunOf agent depth fuel listed inline before.devices after.devices)) WordsRefused → ⊥
+  not-planned agent depth fuel None inline false comes = comes
+  not-planned agent depth fuel (Some file) inline false comes = not-words comes (λ listed none. none)
+  not-planned agent depth fuel named inline true is = cc
+
   refused-words : (spelled : Option CommandLine) → IsCaused spelled before after WordsRefused → spelled ≡ None
   refused-words None cause = refl
   refused-words (Some (run name named inline from workers)) cause = absurd (not-words cause (λ agent comes. not-scripts agent named from inline comes))
@@ -567,6 +632,8 @@ module _ (before after : Outside) where
   refused-words (Some (demo size)) cause = let is = cause.is in absurd (cc)
   refused-words (Some (team first second inline)) cause =
       absurd (not-words cause (λ a comes. not-words comes (λ b t. not-team a b inline (team_refusal a b) t)))
+  refused-words (Some (plan depth fuel name named inline)) cause =
+      absurd (not-words cause (λ agent comes. not-planned agent depth fuel named inline (has_block agent agent.main) comes))
 
   some-command : (spelled : Option CommandLine) (outcome : Outcome) → (outcome ≡ WordsRefused → ⊥) → IsCaused spelled before after outcome → IsSome spelled
   some-command None outcome never cause = absurd (never cause)

@@ -1,20 +1,21 @@
 -- A run that was printed is so in each world.
-use Rattle.std.proofs.Common.{◌≡◌, ℕ, ◌<◌, Bool, List, [], Option, Some, None, inl, inr, arith, ap, refl, sym, subst, ◌∙◌}
+use Rattle.std.proofs.Common.{◌≡◌, ℕ, ◌<◌, Bool, true, false, List, [], Option, Some, None, inl, inr, arith, ap, refl, sym, subst, ◌∙◌}
 use Rattle.golog_tree.specs.declared.agent.Agent.{Agent}
+use Rattle.golog_semantics.specs.BlockFree.{has_block}
 use Rattle.golog_semantics.specs.Certain.{JournalIsSo}
 use Rattle.golog_semantics.specs.Restart.{started, values_left}
 use Rattle.golog_semantics.specs.Text.{Text}
 use Rattle.golog_semantics.specs.Truth.{Values}
 use Rattle.golog_script.specs.declared.scripts.Script.{Script}
-use Rattle.golog_words.specs.Commands.{CommandLine, run, check, replay, ask, migrate, demo, team}
+use Rattle.golog_words.specs.Commands.{CommandLine, run, check, replay, ask, migrate, demo, team, plan}
 use Rattle.golog_commands.specs.declared.outcome.Input.{Input}
 use Rattle.golog_commands.specs.declared.outcome.Input.TheVariants.{Agent as AgentFile, Devices as DevicesFile, Journal as JournalFile}
 use Rattle.golog_commands.specs.declared.outcome.Outcome.{Outcome}
 use Rattle.golog_commands.specs.declared.outcome.Outcome.TheVariants.{WordsRefused, ReadFault, Refused, Ran, Checked, Judged, Asked, Migrated, Demonstrated, Teamed}
-use Rattle.golog_commands.specs.Exact.{IfRun, IsRunStatus, Writes}
-use Rattle.golog_commands.specs.InWorlds.{PrintsWhatIsSo, RunsAreSo}
+use Rattle.golog_commands.specs.Exact.{IsRunStatus, Writes}
+use Rattle.golog_commands.specs.InWorlds.{PrintsPlans, PrintsSo, PrintsWhatIsSo, RunsAreSo}
 use Rattle.golog_commands.specs.Inputs.{ReadsAgent, ReadsStart}
-use Rattle.golog_commands.specs.Outcome.{unread, refused, holds, CallEnds, Outside, OfFrom, OfScripts, Reports, RunOf, outcome_status, outcome_text}
+use Rattle.golog_commands.specs.Outcome.{unread, refused, holds, CallEnds, Outside, OfFrom, OfScripts, PlannableBy, PlannedRunOf, Reports, RunOf, outcome_status, outcome_text}
 use Rattle.golog_commands.proofs.Causes.{IsCaused}
 
 -- no refusal and no fault has the status of a run
@@ -52,6 +53,26 @@ module _ (status : ℕ) (before after : Outside) (ran : IsRunStatus status) wher
   printed name agent from start inline listed (Demonstrated text) reads begins written of = absurd of
   printed name agent from start inline listed (Teamed text first second) reads begins written of = absurd of
 
+  plans-printed : (name : Text) (agent : Agent) (depth fuel : ℕ) (inline : Bool) (listed : List Script) (outcome : Outcome) → ReadsAgent before.held name agent
+      → Writes before after (outcome_text outcome) → PlannedRunOf agent depth fuel listed inline before.devices after.devices outcome → PrintsPlans before after name depth fuel
+  plans-printed name agent depth fuel inline listed (Ran text answer) reads written of = record {
+    agent = agent;
+    reads = reads;
+    journal = of.journal;
+    planned = of.run.planned;
+    written = subst (Writes before after) of.is written;
+    so = of.so;
+  }
+  plans-printed name agent depth fuel inline listed WordsRefused reads written of = absurd of
+  plans-printed name agent depth fuel inline listed (ReadFault input) reads written of = absurd of
+  plans-printed name agent depth fuel inline listed (Refused input text) reads written of = absurd of
+  plans-printed name agent depth fuel inline listed (Checked text) reads written of = absurd of
+  plans-printed name agent depth fuel inline listed (Judged verdict text) reads written of = absurd of
+  plans-printed name agent depth fuel inline listed (Asked truth) reads written of = absurd of
+  plans-printed name agent depth fuel inline listed (Migrated text) reads written of = absurd of
+  plans-printed name agent depth fuel inline listed (Demonstrated text) reads written of = absurd of
+  plans-printed name agent depth fuel inline listed (Teamed text first second) reads written of = absurd of
+
   module _ (outcome : Outcome) (shown : status ≡ outcome_status outcome) (written : Writes before after (outcome_text outcome)) where
     -- neither a fault nor a refusal has the status of a run
     no-fault : {P : Type 0} (input : Input) → outcome ≡ ReadFault input → P
@@ -83,8 +104,24 @@ module _ (status : ℕ) (before after : Outside) (ran : IsRunStatus status) wher
     of-run name named inline from workers (refused text is r) = no-refusal AgentFile text is
     of-run name named inline from workers (holds agent reads comes) = of-scripts name agent named from inline reads comes
 
-    of-command : (spelled : Option CommandLine) → IsCaused spelled before after outcome
-        → IfRun spelled (λ agent devices inline from. PrintsWhatIsSo before after agent from)
+    abbrev Plans : Agent → ℕ → ℕ → Bool → List Script → Outcome → Type 0
+    Plans agent depth fuel inline listed = PlannedRunOf agent depth fuel listed inline before.devices after.devices
+
+    of-plannable : (name : Text) (agent : Agent) (depth fuel : ℕ) (named : Option Text) (inline : Bool) (b : Bool) → ReadsAgent before.held name agent
+        → PlannableBy b (OfScripts before.held before.file_faults after.file_faults agent named (Plans agent depth fuel inline)) outcome → PrintsPlans before after name depth fuel
+    of-plannable name agent depth fuel named inline true reads is = absurd (low status 3 (shown ∙ ap outcome_status is) (omega arith) (omega arith) ran)
+    of-plannable name agent depth fuel None inline false reads of = plans-printed name agent depth fuel inline [] outcome reads written of
+    of-plannable name agent depth fuel (Some file) inline false reads (unread is u) = no-fault DevicesFile is
+    of-plannable name agent depth fuel (Some file) inline false reads (refused text is r) = no-refusal DevicesFile text is
+    of-plannable name agent depth fuel (Some file) inline false reads (holds listed held of) = plans-printed name agent depth fuel inline listed outcome reads written of
+
+    of-plan : (depth fuel : ℕ) (name : Text) (named : Option Text) (inline : Bool) → IsCaused (Some (plan depth fuel name named inline)) before after outcome
+        → PrintsPlans before after name depth fuel
+    of-plan depth fuel name named inline (unread is u) = no-fault AgentFile is
+    of-plan depth fuel name named inline (refused text is r) = no-refusal AgentFile text is
+    of-plan depth fuel name named inline (holds agent reads comes) = of-plannable name agent depth fuel named inline (has_block agent agent.main) reads comes
+
+    of-command : (spelled : Option CommandLine) → IsCaused spelled before after outcome → PrintsSo spelled before after
     of-command None is = low status 2 (shown ∙ ap outcome_status is) (omega arith) (omega arith) ran
     of-command (Some (run name named inline from workers)) comes = of-run name named inline from workers comes
     of-command (Some (check name)) comes = tt
@@ -93,10 +130,11 @@ module _ (status : ℕ) (before after : Outside) (ran : IsRunStatus status) wher
     of-command (Some (migrate name journal)) comes = tt
     of-command (Some (demo size)) comes = tt
     of-command (Some (team first second inline)) comes = tt
+    of-command (Some (plan depth fuel name named inline)) comes = of-plan depth fuel name named inline comes
 
   of-report : (spelled : Option CommandLine) (outcome : Outcome) → IsCaused spelled before after outcome
       → Reports status (outcome_text outcome) (outcome_status outcome) before.taken after.taken before.sink_faults after.sink_faults
-      → IfRun spelled (λ agent devices inline from. PrintsWhatIsSo before after agent from)
+      → PrintsSo spelled before after
   of-report spelled outcome cause (inl (is, written, still)) = of-command outcome is written spelled cause
   of-report spelled outcome cause (inr (five, prefix, rose)) = absurd (low status 5 five (omega arith) (omega arith) ran)
 

@@ -12,3 +12,4 @@ pub mod Reported
 pub mod Reporting
 pub mod DemoLemmas
 pub mod TeamLemmas
+pub mod PlanLemmas

@@ -185,14 +185,14 @@ comes-so input Unread Refuses Holds P Q outcome so (refused text is r) = refused
 comes-so input Unread Refuses Holds P Q outcome so (holds x h next) = holds x h (so x next)
 
 module _ (held : Option (List HeldFile)) (first now : ℕ) where
-  scripts-so : (agent : Agent) (named : Option Text) (P Q : List Script → Outcome → Type 0) (outcome : Outcome) → ((listed : List Script) → P listed outcome → Q listed outcome)
+  pub scripts-so : (agent : Agent) (named : Option Text) (P Q : List Script → Outcome → Type 0) (outcome : Outcome) → ((listed : List Script) → P listed outcome → Q listed outcome)
       → OfScripts held first now agent named P outcome → OfScripts held first now agent named Q outcome
   scripts-so agent None P Q outcome so comes = so [] comes
   scripts-so agent (Some name) P Q outcome so comes =
       comes-so DevicesFile (IsUnread held name first now) (λ text. Reads held name (λ bytes. Tells DevicesFile (RefusesScripts agent bytes) text))
       (λ listed. Reads held name (λ bytes. SpellsScripts agent bytes listed)) P Q outcome so comes
 
-  scripts-hold : (agent : Agent) (named : Option Text) (listed : List Script) (P : List Script → Outcome → Type 0) (outcome : Outcome)
+  pub scripts-hold : (agent : Agent) (named : Option Text) (listed : List Script) (P : List Script → Outcome → Type 0) (outcome : Outcome)
       → ReadsScripts held agent named listed → P listed outcome → OfScripts held first now agent named P outcome
   scripts-hold agent None listed P outcome reads next = subst (λ l. P l outcome) reads next
   scripts-hold agent (Some name) listed P outcome reads next = holds listed reads next

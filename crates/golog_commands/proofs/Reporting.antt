@@ -7,8 +7,10 @@ use Rattle.golog_semantics.specs.InSorts.{AreInSorts}
 use Rattle.golog_semantics.specs.Restart.{started}
 use Rattle.golog_semantics.specs.Text.{Text, head_text, report_text}
 use Rattle.golog_semantics.specs.Truth.{Values}
+use Rattle.golog_branch.specs.PlansInWorlds.{PlanJournalsAreSo}
+use Rattle.golog_plan.specs.PlanTexts.{plan_text}
 use Rattle.golog_device.specs.Slots.{Standing}
-use Rattle.golog_words.specs.Commands.{CommandLine, run, check, replay, ask, migrate, demo, team}
+use Rattle.golog_words.specs.Commands.{CommandLine, run, check, replay, ask, migrate, demo, team, plan}
 use Rattle.golog_commands.specs.declared.outcome.Outcome.{Outcome}
 use Rattle.golog_commands.specs.declared.outcome.Outcome.TheVariants.{WordsRefused, Ran}
 use Rattle.golog_commands.specs.declared.ready.Ready.{Ready}
@@ -16,12 +18,14 @@ use Rattle.golog_commands.specs.declared.ready.Unready.{Unready}
 use Rattle.golog_commands.specs.declared.ready.Unready.TheVariants.{Ended, Memory}
 use Rattle.golog_commands.specs.Demos.{Demonstrates}
 use Rattle.golog_commands.specs.Inputs.{ReadsAgent, ReadsStart, scripts_for}
-use Rattle.golog_commands.specs.Outcome.{CallEnds, AddsHead, HoldsRun, IfEnded, IsUntouched, LeavesText, Never, OfAgent, OfFrom, OfScripts, Outside, IsReported, LeavesDevices, Reports, outcome_status, outcome_text, uses_devices}
+use Rattle.golog_commands.specs.Outcome.{CallEnds, AddsHead, HoldsRun, HoldsPlanned, IfEnded, IsUntouched, LeavesText, Never, OfAgent, OfFrom, OfPlannable, OfScripts, Outside, IsReported, LeavesDevices, Reports, outcome_status, outcome_text, uses_devices}
 use Rattle.golog_commands.proofs.Begun.{none-served}
 use Rattle.golog_commands.proofs.Causes.{IsCaused}
 use Rattle.golog_commands.specs.Runs.{IsReportOf, head_of}
-use Rattle.golog_commands.specs.Writing.{IfReported, ReportsUnready, WritesHead, WritesNothing, WritesReport}
+use Rattle.golog_commands.specs.Plans.{IsPlannedOf}
+use Rattle.golog_commands.specs.Writing.{IfReported, ReportsUnready, WritesHead, WritesJournal, WritesNothing, WritesReport}
 use Rattle.golog_commands.proofs.OutcomeLemmas.{never-comes, run-comes}
+use Rattle.golog_commands.proofs.PlanLemmas.{no-plan-comes, plan-comes, planned-run}
 use Rattle.golog_commands.proofs.Reported.{ready-run}
 use Rattle.golog_lead.proofs.Writing.{and_then-none}
 
@@ -150,6 +154,47 @@ module _ (before after : Outside) where
           threads (inl same) = inl same
           threads (inr head) = inr (over_threads, head)
 
+  -- ---- a run that follows plans
+
+  module _ (depth fuel : ℕ) (name : Text) (named : Option Text) (inline : Bool) where
+    -- why its files hold none
+    pub unready-planned : {F : Type 0} (fault : Unready) (s : Result ℕ F)
+        → IfEnded fault (OfAgent before.held before.file_faults after.file_faults name (λ a. OfPlannable a (OfScripts before.held before.file_faults after.file_faults a named Never)))
+        → after.devices ≡ before.devices → ReportsUnready fault s before.taken after.taken before.sink_faults after.sink_faults
+        → IfOk s (λ status. IsReported status (Some (plan depth fuel name named inline)) before after)
+    unready-planned (Ended outcome) (Ok status) ended same reports = record {
+      outcome = outcome;
+      cause = no-plan-comes before.held before.file_faults after.file_faults before.devices after.devices depth fuel name named inline outcome ended;
+      untouched = λ none. same;
+      report = reports;
+    }
+    unready-planned (Ended outcome) (Err f) ended same reports = absurd reports
+    unready-planned Memory (Ok status) ended same reports = absurd reports
+    unready-planned Memory (Err f) ended same reports = tt
+
+    module _ (ready : Ready) (has : HoldsPlanned before.held name named ready) where
+      abbrev Reports-plans : ℕ → Type 0
+      Reports-plans =
+          WritesJournal (IsPlannedOf ready.agent depth fuel (scripts_for ready.agent ready.scripts) inline before.devices after.devices) (plan_text ready.agent depth fuel)
+          before.taken after.taken before.sink_faults after.sink_faults
+
+      plan-reported : PlanJournalsAreSo → (status : ℕ) → Reports-plans status → IsReported status (Some (plan depth fuel name named inline)) before after
+      plan-reported law status writes =
+          let text = plan_text ready.agent depth fuel writes.journal in
+          record {
+            outcome = Ran text writes.answer;
+            cause =
+                plan-comes before.held before.file_faults after.file_faults before.devices after.devices depth fuel name named inline ready has (Ran text writes.answer)
+                (planned-run law ready.agent depth fuel ready.scripts inline before.devices after.devices writes.journal writes.answer has.formed has.plannable writes.so writes.ended);
+            untouched = λ none. let no : true ≡ false = none in absurd (cc);
+            report = writes.written;
+          }
+
+      -- the run of what they hold
+      pub plans-reported : {E : Type 0} → PlanJournalsAreSo → (r : Result ℕ E) → IfOk r Reports-plans → IfOk r (λ status. IsReported status (Some (plan depth fuel name named inline)) before after)
+      plans-reported law (Ok status) writes = plan-reported law status writes
+      plans-reported law (Err e) writes = tt
+
 -- ---- a call
 
 -- what is so is so where there is nothing
@@ -167,6 +212,7 @@ left-alone (Some (ask name journal condition)) standings = refl
 left-alone (Some (migrate name journal)) standings = refl
 left-alone (Some (demo size)) standings = tt
 left-alone (Some (team first second inline)) standings = refl
+left-alone (Some (plan depth fuel name named inline)) standings = none-served standings
 
 -- nothing that was written
 pub none-written : (spelled : Option CommandLine) (before after : Outside) → after.taken ≡ before.taken → LeavesText spelled before after
@@ -178,6 +224,7 @@ none-written (Some (ask name journal condition)) before after same = same
 none-written (Some (migrate name journal)) before after same = same
 none-written (Some (demo size)) before after same = same
 none-written (Some (team first second inline)) before after same = same
+none-written (Some (plan depth fuel name named inline)) before after same = same
 
 pub nothing-left : {E : Type 0} (spelled : Option CommandLine) (before after : Outside) (r : Result ℕ E)
     → OnErr r (WritesNothing before.taken after.taken before.sink_faults after.sink_faults) → OnErr r (LeavesText spelled before after)

@@ -1,15 +1,20 @@
 -- What a run has written, whole or not.
-use Rattle.std.specs.Prelude.{◌≡◌, ◌⊎◌, ⊤, ℕ, Bool, Option, None, Some, List, []}
+use Rattle.std.specs.Prelude.{◌≡◌, ◌⊎◌, ◌++◌, ⊤, ℕ, Bool, false, Option, None, Some, List, []}
 use Rattle.golog_base.specs.Known.{and_then_bytes}
 use Rattle.golog_tree.specs.declared.agent.Agent.{Agent}
 use Rattle.golog_semantics.specs.Text.{Text}
+use Rattle.golog_semantics.specs.BlockFree.{has_block}
 use Rattle.golog_semantics.specs.Certain.{JournalIsSo}
 use Rattle.golog_semantics.specs.Execution.{BeginsOnline}
+use Rattle.golog_semantics.specs.Journal.{Journal}
 use Rattle.golog_semantics.specs.Restart.{started}
 use Rattle.golog_semantics.specs.Truth.{Values}
 use Rattle.golog_script.specs.declared.scripts.Script.{Script}
 use Rattle.golog_file.specs.Spelled.{SpellsAgent}
-use Rattle.golog_words.specs.Commands.{CommandLine, run, check, replay, ask, migrate, demo, team}
+use Rattle.golog_branch.specs.PlanJournals.{IsPlannedSoFar}
+use Rattle.golog_branch.specs.PlansInWorlds.{PlansAreSo}
+use Rattle.golog_plan.specs.PlanTexts.{plan_text}
+use Rattle.golog_words.specs.Commands.{CommandLine, run, check, replay, ask, migrate, demo, team, plan}
 use Rattle.golog_commands.specs.Inputs.{LeavesValues, SpellsScripts}
 use Rattle.golog_commands.specs.Outcome.{Outside, CallEnds}
 use Rattle.golog_commands.specs.Exact.{IsRead}
@@ -26,6 +31,17 @@ pub record AddsBeginning (agent : Agent) (start : Option Values) (old new : Opti
 abbrev pub AddsRun : Agent → Option Values → Option Text → Option Text → Type 0
 AddsRun agent None old new = AddsBeginning agent None old new
 AddsRun agent (Some values) old new = (new ≡ old) ⊎ AddsBeginning agent (Some values) old new
+
+-- what was written is the beginning of the text of a journal of a program that follows plans, each entry of which is so
+-- in each world that agrees with those before it
+pub record AddsPlanned (agent : Agent) (depth fuel : ℕ) (old new : Option Text) : Type 0 where
+  pub journal : Journal
+  pub bytes : Text
+  pub rest : Text
+  pub begins : plan_text agent depth fuel journal ≡ bytes ++ rest
+  pub planned : IsPlannedSoFar agent depth fuel journal
+  pub so : PlansAreSo agent depth fuel journal
+  pub added : new ≡ and_then_bytes old bytes
 
 -- the file is read and spells the agent
 pub record GivesAgent (name : Text) (before after : Outside) (agent : Agent) : Type 0 where
@@ -46,8 +62,8 @@ GivesStart (Some name) before after agent start =
     (bytes : Text) × (values : Values) × IsRead name bytes before after × LeavesValues agent bytes values
     × (start ≡ Some values)
 
--- Where the words are those of a run and its files spell an agent, scripts and a start, the beginning of such a text
--- was written, whatever the status: all of it, a part where a write failed, or nothing.
+-- Where the words are those of a run, planned or not, and its files spell an agent, scripts and a start, the beginning
+-- of such a text was written, whatever the status: all of it, a part where a write failed, or nothing.
 abbrev pub LinesBegin : Option CommandLine → Outside → Outside → Type 0
 LinesBegin None before after = ⊤
 LinesBegin (Some (run name devices inline from workers)) before after =
@@ -60,6 +76,9 @@ LinesBegin (Some (ask name journal condition)) before after = ⊤
 LinesBegin (Some (migrate name journal)) before after = ⊤
 LinesBegin (Some (demo size)) before after = ⊤
 LinesBegin (Some (team first second inline)) before after = ⊤
+LinesBegin (Some (plan depth fuel name devices inline)) before after =
+    (agent : Agent) (listed : List Script) → GivesAgent name before after agent → has_block agent agent.main ≡ false
+    → GivesScripts devices before after agent listed → AddsPlanned agent depth fuel before.taken after.taken
 
 -- where the files of a run spell an agent, scripts and a start, this is so of each call that ends as a write failed
 abbrev pub CutShortBeginsOnline : Type 0

@@ -1,5 +1,5 @@
 -- Each status comes exactly where its cause is.
-use Rattle.std.specs.Prelude.{◌≡◌, ◌⊎◌, ⊤, ℕ, ◌≤◌, Bool, List, [], Option, None, Some, IsSome}
+use Rattle.std.specs.Prelude.{◌≡◌, ◌⊎◌, ℕ, ◌≤◌, Bool, true, false, List, [], Option, None, Some, IsSome}
 use Rattle.golog_base.specs.Faults.{Rose}
 use Rattle.golog_base.specs.Files.{HasNone, bytes_of}
 use Rattle.golog_base.specs.Known.{and_then_bytes}
@@ -11,6 +11,7 @@ use Rattle.golog_semantics.specs.declared.journal.Answer.{Answer}
 use Rattle.golog_semantics.specs.declared.journal.Answer.TheVariants.{Memory}
 use Rattle.golog_semantics.specs.declared.journal.Why.{Why}
 use Rattle.golog_semantics.specs.Text.{Text}
+use Rattle.golog_semantics.specs.BlockFree.{has_block}
 use Rattle.golog_semantics.specs.Restart.{journal_text, migrated, started, values_left}
 use Rattle.golog_semantics.specs.Truth.{Values}
 use Rattle.golog_script.specs.declared.scripts.Script.{Script}
@@ -23,14 +24,16 @@ use Rattle.golog_semantics.specs.declared.journal.Verdict.{Verdict}
 use Rattle.golog_semantics.specs.declared.journal.Verdict.TheVariants.{Not}
 use Rattle.golog_team.specs.declared.shape.TeamRefusal.{TeamRefusal}
 use Rattle.golog_team.specs.Shapes.{team_refusal}
-use Rattle.golog_words.specs.Commands.{CommandLine, run, check, replay, ask, migrate, demo, team}
+use Rattle.golog_words.specs.Commands.{CommandLine, run, check, replay, ask, migrate, demo, team, plan}
 use Rattle.golog_commands.specs.declared.outcome.Input.{Input}
+use Rattle.golog_commands.specs.declared.outcome.Input.TheVariants.{Agent as AgentFile}
 use Rattle.golog_commands.specs.declared.outcome.Outcome.{Outcome}
 use Rattle.golog_commands.specs.declared.outcome.Outcome.TheVariants.{ReadFault, Refused, Ran, Judged, Demonstrated, Teamed}
 use Rattle.golog_commands.specs.declared.ready.Told.{Told}
 use Rattle.golog_commands.specs.Inputs.{SpellsScripts, RefusesScripts, SpellsJournal, RefusesJournal, SpellsBoth, scripts_for, refusal_text}
 use Rattle.golog_commands.specs.Teams.{IsTeamOf, team_input, team_status}
 use Rattle.golog_commands.specs.Demos.{Demonstrates}
+use Rattle.golog_commands.specs.Plans.{IsPlannedRunOf}
 use Rattle.golog_commands.specs.Runs.{IsRunOf}
 use Rattle.golog_commands.specs.Outcome.{Outside, Comes, CallEnds, LeavesText, outcome_status, outcome_text, truth_after, truth_line, verdict_line, verdict_status}
 
@@ -51,17 +54,6 @@ pub record Shows (status : ℕ) (spelled : Option CommandLine) (before after : O
   pub cause : Comes before.held before.file_faults after.file_faults before.devices after.devices spelled outcome
   pub shown : status ≡ outcome_status outcome
   pub written : Writes before after (outcome_text outcome)
-
--- the words are those of a run, and this is so of it
-abbrev pub IfRun : Option CommandLine → (Text → Option Text → Bool → Option Text → Type 0) → Type 0
-IfRun None P = ⊥
-IfRun (Some (run agent devices inline from workers)) P = P agent devices inline from
-IfRun (Some (check agent)) P = ⊤
-IfRun (Some (replay agent journal)) P = ⊤
-IfRun (Some (ask agent journal condition)) P = ⊤
-IfRun (Some (migrate agent journal)) P = ⊤
-IfRun (Some (demo size)) P = ⊤
-IfRun (Some (team first second inline)) P = ⊤
 
 -- the status of a run that was not stopped for want of memory
 abbrev pub IsRunStatus : ℕ → Type 0
@@ -172,6 +164,19 @@ module _ (status : ℕ) (before after : Outside) where
         × Wrote before after (λ text. IsTeamOf first second inline text one other))
         ⊎ IsStopped status before after
 
+  -- an agent whose program holds or reaches a search block is refused, and of another this follows
+  pub record PlannableFollows (agent : Agent) (Next : Type 0) : Type 0 where
+    pub refused : has_block agent agent.main ≡ true → Says status 3 (refusal_text AgentFile 39 0) before after
+    pub plannable : has_block agent agent.main ≡ false → Next
+
+  -- the text is of a run of the agent with these scripts that follows plans, and the status that of its end; or the
+  -- call was stopped
+  abbrev pub PlanFollows : Agent → ℕ → ℕ → List Script → Bool → Type 0
+  PlanFollows agent depth fuel listed inline =
+      Wrote before after
+      (λ text. IsPlannedRunOf agent depth fuel (scripts_for agent listed) inline before.devices after.devices text status)
+      ⊎ IsStopped status before after
+
   -- what a replay of the journal finds is told, by its status and its line; or the call was stopped
   abbrev pub JudgedFollows : Agent → Told → Type 0
   JudgedFollows agent told =
@@ -199,6 +204,9 @@ module _ (status : ℕ) (before after : Outside) where
   FollowsItsCause (Some (demo size)) = DemoFollows size
   FollowsItsCause (Some (team first second inline)) =
       AgentFollows first (λ a. AgentFollows second (λ b. TeamFollows a b inline))
+  FollowsItsCause (Some (plan depth fuel agent devices inline)) =
+      AgentFollows agent (λ a. PlannableFollows a (ScriptsFollow a devices (λ listed.
+      PlanFollows a depth fuel listed inline)))
 
 abbrev pub StatusesAreExact : Type 0
 StatusesAreExact =

@@ -7,3 +7,4 @@ pub mod Exact
 pub mod InWorlds
 pub mod CutShort
 pub mod Teams
+pub mod Plans

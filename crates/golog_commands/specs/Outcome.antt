@@ -8,6 +8,7 @@ use Rattle.golog_tree.specs.declared.cond.Cond.{Cond}
 use Rattle.golog_tree.specs.declared.cond.Truth.{Truth}
 use Rattle.golog_tree.specs.declared.cond.Truth.TheVariants.{Yes, No, Unknown}
 use Rattle.golog_tree.specs.declared.draft.DraftTheory.{DraftTheory}
+use Rattle.golog_semantics.specs.BlockFree.{has_block}
 use Rattle.golog_semantics.specs.InSorts.{AreInSorts}
 use Rattle.golog_semantics.specs.Restart.{journal_text, migrated, started, values_left}
 use Rattle.golog_semantics.specs.Text.{Text, answer_text, head_text}
@@ -28,7 +29,7 @@ use Rattle.golog_semantics.specs.declared.journal.Verdict.{Verdict}
 use Rattle.golog_semantics.specs.declared.journal.Verdict.TheVariants.{Online, Not}
 use Rattle.golog_team.specs.declared.shape.TeamRefusal.{TeamRefusal}
 use Rattle.golog_team.specs.Shapes.{team_refusal}
-use Rattle.golog_words.specs.Commands.{CommandLine, run, check, replay, ask, migrate, demo, team}
+use Rattle.golog_words.specs.Commands.{CommandLine, run, check, replay, ask, migrate, demo, team, plan}
 use Rattle.golog_commands.specs.declared.outcome.Input.{Input}
 use Rattle.golog_commands.specs.declared.outcome.Input.TheVariants.{Agent as AgentFile, Devices as DevicesFile, Journal as JournalFile, Condition, First, Second}
 use Rattle.golog_commands.specs.declared.outcome.Outcome.{Outcome}
@@ -40,6 +41,7 @@ use Rattle.golog_commands.specs.declared.ready.Unready.{Unready}
 use Rattle.golog_commands.specs.declared.ready.Unready.TheVariants.{Ended, Memory}
 use Rattle.golog_commands.specs.Inputs.{line, fault_text, refusal_text, input_limit, scripts_for, SpellsScripts, RefusesScripts, SpellsJournal, RefusesJournal, SpellsBoth, ReadsAgent, ReadsScripts, ReadsStart, Reads, Tells, IsUnread}
 use Rattle.golog_commands.specs.Demos.{Demonstrates}
+use Rattle.golog_commands.specs.Plans.{IsPlannedRunOf}
 use Rattle.golog_commands.specs.Runs.{AreUnserved, IsRunOf}
 use Rattle.golog_commands.specs.Teams.{IsTeamOf, team_input, team_status}
 
@@ -131,6 +133,20 @@ abbrev pub TeamBy : Option TeamRefusal → (Outcome → Type 0) → Outcome → 
 TeamBy None Next outcome = Next outcome
 TeamBy (Some r) Next outcome = outcome ≡ Refused (team_input r.side) (refusal_text (team_input r.side) r.code r.at)
 
+-- what a run of the agent comes to that follows plans: its text is that of the journal of one
+abbrev pub PlannedRunOf : Agent → ℕ → ℕ → List Script → Bool → List Standing → List Standing → Outcome → Type 0
+PlannedRunOf agent depth fuel listed inline olds news (Ran text answer) =
+    IsPlannedRunOf agent depth fuel (scripts_for agent listed) inline olds news text (answer_status answer)
+PlannedRunOf agent depth fuel listed inline olds news outcome = ⊥
+
+-- an agent whose program holds or reaches a search block is refused, for no plan has one
+abbrev pub PlannableBy : Bool → (Outcome → Type 0) → Outcome → Type 0
+PlannableBy false Next outcome = Next outcome
+PlannableBy true Next outcome = outcome ≡ Refused AgentFile (refusal_text AgentFile 39 0)
+
+abbrev pub OfPlannable : Agent → (Outcome → Type 0) → Outcome → Type 0
+OfPlannable agent = PlannableBy (has_block agent agent.main)
+
 -- What is held under names, and how often a call of the files had failed before and after the call.
 module _ (held : Option (List HeldFile)) (faults_before faults_after : ℕ) where
   -- what comes of a file: no such file is held or a call failed, its bytes are refused, or they spell a value
@@ -200,6 +216,10 @@ module _ (held : Option (List HeldFile)) (faults_before faults_after : ℕ) (old
   Comes (Some (demo size)) = Demonstrates size olds news
   Comes (Some (team first second inline)) =
       OfTeam held faults_before faults_after first second (λ a b. TeamOf a b inline)
+  Comes (Some (plan depth fuel agent devices inline)) =
+      OfAgent held faults_before faults_after agent (λ a.
+      OfPlannable a (OfScripts held faults_before faults_after a devices (λ listed.
+      PlannedRunOf a depth fuel listed inline olds news)))
 
 -- ---- the call
 
@@ -254,8 +274,8 @@ pub record IsReported (status : ℕ) (spelled : Option CommandLine) (before afte
   pub report : Reports status (outcome_text outcome) (outcome_status outcome)
       before.taken after.taken before.sink_faults after.sink_faults
 
--- What memory that runs out while a command is done leaves of the devices. In a run each is as it was, or has begun
--- and was given and told nothing; a demo may have served them; the other commands leave them as they were.
+-- What memory that runs out while a command is done leaves of the devices. In a run, planned or not, each is as it was,
+-- or has begun and was given and told nothing; a demo may have served them; the other commands leave them as they were.
 abbrev pub LeavesDevices : Option CommandLine → List Standing → List Standing → Type 0
 LeavesDevices None olds news = ⊤
 LeavesDevices (Some (run agent devices inline from workers)) olds news = AreUnserved olds news
@@ -265,6 +285,7 @@ LeavesDevices (Some (ask agent journal condition)) olds news = news ≡ olds
 LeavesDevices (Some (migrate agent journal)) olds news = news ≡ olds
 LeavesDevices (Some (demo size)) olds news = ⊤
 LeavesDevices (Some (team first second inline)) olds news = news ≡ olds
+LeavesDevices (Some (plan depth fuel agent devices inline)) olds news = AreUnserved olds news
 
 -- the head of a run that begins from a journal was written, and no more
 pub record AddsHead (name : Text) (from : Option Text) (before after : Outside) : Type 0 where
@@ -286,6 +307,7 @@ LeavesText (Some (ask agent journal condition)) before after = after.taken ≡ b
 LeavesText (Some (migrate agent journal)) before after = after.taken ≡ before.taken
 LeavesText (Some (demo size)) before after = after.taken ≡ before.taken
 LeavesText (Some (team first second inline)) before after = after.taken ≡ before.taken
+LeavesText (Some (plan depth fuel agent devices inline)) before after = after.taken ≡ before.taken
 
 -- memory ran out while a command was done, nothing was written, or of a run over threads the head alone, no write
 -- failed, and no device was served by a run
@@ -302,7 +324,7 @@ CallEnds status spelled before after = IsReported status spelled before after �
 
 -- ---- what the parts of a call come to
 
--- whether the command is a run over threads, or of a team, whose sides take turns at a lock
+-- whether the command is a run over threads, planned or not, or of a team, whose sides take turns at a lock
 abbrev pub is_threaded : CommandLine → Bool
 is_threaded (run agent devices inline from workers) = not inline
 is_threaded (check agent) = false
@@ -311,6 +333,7 @@ is_threaded (ask agent journal condition) = false
 is_threaded (migrate agent journal) = false
 is_threaded (demo size) = false
 is_threaded (team first second inline) = true
+is_threaded (plan depth fuel agent devices inline) = not inline
 
 -- where a file is refused or can't be read, and memory didn't run out, this is so of what is said
 abbrev pub IfEnded : Unready → (Outcome → Type 0) → Type 0
@@ -359,6 +382,15 @@ pub record HoldsRun (held : Option (List HeldFile)) (agent : Text) (devices from
   pub scripts_so : ReadsScripts held own devices ready.scripts
   pub texts : All HasTexts ready.scripts
   pub begins : BeginsFrom held own from ready
+
+-- the files spell an agent whose program reaches no search block, and scripts of its devices
+pub record HoldsPlanned (held : Option (List HeldFile)) (agent : Text) (devices : Option Text) (ready : Ready)
+    : Type 0 where
+  pub formed : WellFormed ready.agent
+  pub agent_so : ReadsAgent held agent ready.agent
+  pub plannable : has_block ready.agent ready.agent.main ≡ false
+  pub scripts_so : ReadsScripts held ready.agent devices ready.scripts
+  pub texts : All HasTexts ready.scripts
 
 -- the files spell two agents that are a team
 pub record HoldsTeam (held : Option (List HeldFile)) (first second : Text) (pair : Pair) : Type 0 where

@@ -6,6 +6,7 @@ use Rattle.golog_semantics.specs.declared.journal.Answer.{Answer}
 use Rattle.golog_semantics.specs.declared.journal.Entry.TheVariants.{End}
 use Rattle.golog_semantics.specs.declared.journal.Report.{Report}
 use Rattle.golog_semantics.specs.Execution.{status_of as answer_status}
+use Rattle.golog_semantics.specs.Journal.{Journal}
 use Rattle.golog_semantics.specs.Text.{Text, report_text}
 use Rattle.golog_commands.specs.declared.outcome.Outcome.{Outcome}
 use Rattle.golog_commands.specs.declared.ready.Unready.{Unready}
@@ -47,3 +48,12 @@ pub record WritesReport (P : Report → Type 0) (agent : Agent) (head : Text) (o
   pub ended : Contains report.entries (End answer)
   pub written : Reports status (head ++ report_text agent report) (answer_status answer)
       old new faults_before faults_after
+
+-- The same of a journal by what is its text.
+pub record WritesJournal (P : Journal → Type 0) (text : Journal → Text) (old new : Option Text)
+    (faults_before faults_after status : ℕ) : Type 0 where
+  pub journal : Journal
+  pub so : P journal
+  pub answer : Answer
+  pub ended : Contains journal (End answer)
+  pub written : Reports status (text journal) (answer_status answer) old new faults_before faults_after

@@ -11,10 +11,10 @@
 //! since a run is written while it goes on.
 //!
 //! The definitions are `specs/Inputs`, `specs/Runs`, `specs/Demos`, `specs/Outcome` (`ComesOf` once
-//! for each input, `Comes` for each command), `specs/Teams`, `specs/Writing`, `specs/InWorlds`,
-//! `specs/CutShort` and `specs/Exact`.
+//! for each input, `Comes` for each command), `specs/Teams`, `specs/Plans`, `specs/Writing`,
+//! `specs/InWorlds`, `specs/CutShort` and `specs/Exact`.
 //!
-//! golog_main uses `ready_in`, `agent_in`, `told_in`, `ended`, `checked`, `asked`, `migrated`,
+//! golog_main uses `ready_in`, `plannable_in`, `agent_in`, `told_in`, `ended`, `checked`, `asked`, `migrated`,
 //! `restart_at`, `head_of`, `verdict_line`, `demo_of`, `demo_outcome`, `pair_in`, `team_outcome`,
 //! `begun_with`, `report`, `report_if`, `report_unready`, `run_status`, `call_status`, `NO_MEMORY`,
 //! `WRITE_FAULT` and the types.
@@ -24,6 +24,7 @@ mod beginning;
 mod commands;
 mod demos;
 mod outcome;
+mod plans;
 mod ready;
 mod starts;
 mod teams;
@@ -34,6 +35,7 @@ pub use beginning::begun_with;
 pub use commands::{asked, checked, migrated};
 pub use demos::{demo_of, demo_outcome};
 pub use outcome::{Input, Outcome};
+pub use plans::plannable_in;
 pub use ready::{Ready, Told, Unready, agent_in, ended, let_go, ready_in, told_in};
 pub use starts::{head_of, restart_at};
 pub use teams::{Pair, pair_in, team_outcome};

@@ -114,8 +114,8 @@ pub fn ready_in<F: Files>(
     }
 }
 
-// The same of an agent that was read.
-fn ready_of<F: Files>(
+/// The same of an agent that was read.
+pub(crate) fn ready_of<F: Files>(
     alloc: Global,
     files: &mut F,
     agent: Agent,

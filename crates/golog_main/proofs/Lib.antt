@@ -7,5 +7,5 @@ pub mod Reporting
 pub mod Fresh
 pub mod Searchless
 pub mod Orders
-pub mod Crossing
 pub mod TeamLemmas
+pub mod PlanLemmas

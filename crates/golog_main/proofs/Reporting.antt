@@ -39,7 +39,7 @@ written-of agent list faulted was was' is is' before before' after after' a b c 
     (subst (λ x. HasWritten agent list was is before x faulted) d has)))
 
 module _ (old new : Option Text) (before after : ℕ) where
-  reports : (faulted : Bool) (text : Text) (answer : Answer) (status : ℕ) → IsWritten text old new before after faulted
+  pub reports : (faulted : Bool) (text : Text) (answer : Answer) (status : ℕ) → IsWritten text old new before after faulted
       → (faulted ≡ true → status ≡ 5) → (faulted ≡ false → status ≡ answer_status answer) → Reports status text (answer_status answer) old new before after
   reports true text answer status written five shown = inr (five refl, written.cut refl, written.rose refl)
   reports false text answer status written five shown = inl (shown refl, written.whole refl, written.no_fault refl)

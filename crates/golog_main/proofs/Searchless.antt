@@ -147,12 +147,12 @@ module _ (agent : Agent) where
 -- ---- an end that stands in an execution was allowed at its place
 
 -- where an entry stands, there are those before it and those behind
-record StandsAt (entries : Journal) (e : Entry) : Type 0 where
-  before : Journal
-  later : Journal
-  is : entries ≡ before ++ e ∷ later
+pub record StandsAt (entries : Journal) (e : Entry) : Type 0 where
+  pub before : Journal
+  pub later : Journal
+  pub is : entries ≡ before ++ e ∷ later
 
-stands-at : (entries : Journal) (e : Entry) → Contains entries e → StandsAt entries e
+pub stands-at : (entries : Journal) (e : Entry) → Contains entries e → StandsAt entries e
 stands-at [] e (k, l, is) = absurd (omega (arith, l))
 stands-at (x ∷ entries) e (zero, l, is) = record { before = []; later = entries; is = ap (λ y. y ∷ entries) is }
 stands-at (x ∷ entries) e (suc k, l, is) =

@@ -5,6 +5,7 @@ use Rattle.std.specs.List.{list_any, range_with_len}
 use Rattle.std.proofs.lemmas.Bool.{eq-eqb, lt-ltb, or_from, not_from_false, and_from}
 use Rattle.std.proofs.lemmas.Bool.Decides.{leb_tells}
 use Rattle.golog_tree.specs.declared.agent.Agent.{Agent}
+use Rattle.golog_semantics.specs.declared.journal.Answer.{Answer}
 use Rattle.golog_semantics.specs.declared.journal.Entry.TheVariants.{Close}
 use Rattle.golog_semantics.specs.declared.journal.Reason.TheVariants.{Refused}
 use Rattle.golog_semantics.specs.declared.journal.Report.{Report}
@@ -43,8 +44,9 @@ module _ (agent : Agent) (old new : Journal) where
     slot-serves device true (Some a) (Some b) both = record { served = both; refused = refused-before device }
     slot-serves device false (Some a) (Some b) both = both
 
-  rounds-run : (olds news : List Standing) → RunsToEnd (λ j. IsOnlineSoFar agent (report_of agent j)) (lead agent) IsShort agent old new olds news → HaveRun agent old new olds news
-  rounds-run olds news ran = record {
+  pub rounds-run : (keeps : Journal → Type 0) (made : Journal → Journal) (early : Answer → Type 0) (olds news : List Standing)
+      → RunsToEnd keeps made early agent old new olds news → HaveRun agent old new olds news
+  rounds-run keeps made early olds news ran = record {
     at = λ slot.
         slot-serves ran.since ran.grows ran.unrefused slot (nat_lt slot (length agent.devices)) (slice_get olds slot) (slice_get news slot) (ran.run.at slot);
   }
@@ -57,7 +59,7 @@ module _ (agent : Agent) (old new : Journal) where
     lawful = lawful;
     short = short;
     online = (whole_is_online agent (report_of agent new)).whole ran.kept ran.whole;
-    run = rounds-run olds news ran;
+    run = rounds-run (λ j. IsOnlineSoFar agent (report_of agent j)) (lead agent) IsShort olds news ran;
     scripted = λ rounds. ran.scripted;
   }
 

@@ -2,3 +2,4 @@ pub mod Runs
 pub mod Searchless
 pub mod Replayed
 pub mod Chains
+pub mod Plans

@@ -26,11 +26,12 @@ abbrev pub HaveRun : Agent → Journal → Journal → List Standing → List St
 HaveRun agent old new =
     EachSlot (λ device. ChangesIf (nat_lt device (length agent.devices)) (Serves agent old new device))
 
--- where the devices tell what is left of their scripts, the journal goes on as the rounds of these
-abbrev pub FollowsLeft : Agent → Journal → Journal → List Standing → Type 0
-FollowsLeft agent old new olds =
+-- Where the devices tell what is left of their scripts, the journal goes on as the rounds of these, in each of which the
+-- program's turn makes of the journal what `made` says; an early end has an answer of `early`.
+abbrev pub FollowsLeft : (Journal → Journal) → (Answer → Type 0) → Agent → Journal → Journal → List Standing → Type 0
+FollowsLeft made early agent old new olds =
     (scripts : List Script) → length scripts ≡ length agent.devices → TellLeft olds scripts
-    → FollowsRounds (lead agent) IsShort agent scripts old new
+    → FollowsRounds made early agent scripts old new
 
 -- the report is of a journal to which a run over threads of the agent's devices has gone on from these entries
 pub record ServedOn {D : Type 0} (agent : Agent) (meaning : D → Meaning) (before : Journal) (olds news : List D)
@@ -49,7 +50,7 @@ pub record RunsOn (agent : Agent) (inline : Bool) (before : Journal) (olds news 
   pub short : length journal ≤ longest
   pub online : IsOnline agent (report_of agent journal)
   pub run : HaveRun agent before journal olds news
-  pub scripted : inline ≡ true → FollowsLeft agent before journal olds
+  pub scripted : inline ≡ true → FollowsLeft (lead agent) IsShort agent before journal olds
 
 -- a run of whose report this is so has gone on to its end
 pub record HasEnded (P : Report → Type 0) : Type 0 where

@@ -3,13 +3,14 @@ ghost use Rattle.std.specs.Prelude.{◌≡◌, ◌≤◌, ℕ, Option, true, fal
 ghost use Rattle.golog_semantics.specs.Journal.{device_limit};
 ghost use Rattle.golog_device.specs.Slots.{standings, FreshBelow};
 ghost use Rattle.golog_words.specs.Answers.{command_of};
-ghost use Rattle.golog_words.specs.Commands.{run, team};
+ghost use Rattle.golog_words.specs.Commands.{PlanFits, run, team};
 ghost use Rattle.golog_commands.specs.Outcome.{IsReported, LeavesDevices, LeavesText, is_threaded, outside};
 ghost use Rattle.golog_commands.specs.Runs.{AreUnserved};
 ghost use Rattle.golog_commands.specs.Writing.{WritesNothing};
 
 use crate::demos::demonstrated;
 use crate::judged::replayed;
+use crate::plans::plan_in_rounds;
 use crate::run::{run_in_rounds, run_on_threads};
 use crate::teams::teamed;
 use golog_base::{Files, NoMemory, Sink};
@@ -21,11 +22,14 @@ use std::alloc::Global;
 use std::sync::Wait;
 use std::thread::Threads;
 
-/// Whether an order is that of a run over threads, or of a team, which needs a runtime.
+/// Whether an order is that of a run over threads, planned or not, or of a team, which needs a runtime.
 pub fn is_threaded(order: Order<'_>) -> bool
     ensures { result ≡ is_threaded (command_of order.entry) }
 {
-    matches!(order, Order::Run { inline: false, .. } | Order::Team { .. })
+    matches!(
+        order,
+        Order::Run { inline: false, .. } | Order::Plan { inline: false, .. } | Order::Team { .. }
+    )
 }
 
 /// Does what an order says that needs no threads: what comes of it is written, and the exit status answered. Where memory
@@ -39,6 +43,7 @@ pub fn served<F: Files, K: Sink, D: Device, X: Expand>(
     expand: X,
 ) -> Result<u8, NoMemory>
     requires way { is_threaded (command_of order) ≡ false }
+    requires plan { PlanFits (command_of order) }
     requires boxes { device_limit ≤ length devices.old }
     requires fresh { FreshBelow device_limit (standings D.fresh D.meaning devices.old) }
     ensures reported { IfOk result (λ status. IsReported status
@@ -66,6 +71,13 @@ pub fn served<F: Files, K: Sink, D: Device, X: Expand>(
         } => report_if(out, asked(alloc, files, agent, journal, condition)),
         Order::Migrate { agent, journal } => report_if(out, migrated(alloc, files, agent, journal)),
         Order::Demo { size } => report_if(out, demonstrated(alloc, size, devices)),
+        Order::Plan {
+            depth,
+            fuel,
+            agent,
+            devices: named,
+            ..
+        } => plan_in_rounds(alloc, files, out, depth, fuel, agent, named, devices),
         Order::Team { .. } => unreachable!(),
     }
 }

@@ -1,8 +1,9 @@
 // Laws of calls: each status comes where its cause is, what a failed write cuts short begins
-// online, replays and chains of runs are online, and what runs without search blocks don't end for.
+// online, replays and chains of runs are online, and what runs without search blocks and plans don't end for.
 ghost use Rattle.golog_commands.specs.Exact.{StatusesAreExact};
 ghost use Rattle.golog_commands.specs.CutShort.{CutShortBeginsOnline};
 ghost use Rattle.golog_main.specs.Chains.{ChainsReplay};
+ghost use Rattle.golog_main.specs.Plans.{PlansEndPlainly};
 ghost use Rattle.golog_main.specs.Replayed.{OnlineReplaysRun};
 ghost use Rattle.golog_main.specs.Searchless.{FuelIsHeavy, SearchlessEnds};
 
@@ -42,6 +43,13 @@ pub fn cut_short_begins_online()
 pub fn searchless_runs_end_plainly()
     ensures { SearchlessEnds }
 {}
+
+/// No run that follows plans ends as stuck, or for what is unknown.
+pub fn plans_end_plainly()
+    ensures { PlansEndPlainly }
+{
+    golog_branch::plans_end_plainly();
+}
 
 /// A run that ends for want of fuel has a program that is heavy there.
 pub fn fuel_is_heavy()

@@ -2,8 +2,8 @@
 //!
 //! `golog(rt, alloc, words, files, out, devices)` does what the words say over any `Files`, any
 //! `Sink` and any 16 devices or more, of which the first 16 are fresh, and answers the exit status.
-//! The devices of a `run` have threads of this runtime, or with `--inline` their turns in rounds;
-//! `serve_inline` serves every order but a run over threads and a team, without a runtime, so it is
+//! The devices of a `run` or a `plan` have threads of this runtime, or with `--inline` their turns in rounds;
+//! `serve_inline` serves every order but a run or a plan over threads and a team, without a runtime, so it is
 //! proved to return where what it is handed for the searches of a run does. That is `Plain`, or the
 //! `Workers` that the words ask for; no clause names it.
 //!
@@ -19,6 +19,7 @@ mod devices;
 mod judged;
 mod laws;
 mod nowhere;
+mod plans;
 mod run;
 mod teams;
 mod top;
@@ -32,7 +33,7 @@ pub use golog_par::Workers;
 pub use golog_ways::{Expand, Plain};
 pub use laws::{
     chains_replay, cut_short_begins_online, each_status_where_its_cause_is, fuel_is_heavy,
-    online_replays_run, searchless_runs_end_plainly,
+    online_replays_run, plans_end_plainly, searchless_runs_end_plainly,
 };
 pub use teams::team_reports;
 pub use top::{golog, serve_inline};

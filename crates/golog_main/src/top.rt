@@ -3,12 +3,13 @@ ghost use Rattle.std.specs.Prelude.{◌≡◌, ◌<◌, ◌≤◌, map, string_b
 ghost use Rattle.golog_semantics.specs.Journal.{device_limit};
 ghost use Rattle.golog_device.specs.Slots.{standings, FreshBelow};
 ghost use Rattle.golog_words.specs.Answers.{command_of};
-ghost use Rattle.golog_words.specs.Commands.{WorkersFit, command_in};
+ghost use Rattle.golog_words.specs.Commands.{PlanFits, WorkersFit, command_in};
 ghost use Rattle.golog_commands.specs.CutShort.{LinesBegin};
 ghost use Rattle.golog_commands.specs.InWorlds.{RunsAreSo};
 ghost use Rattle.golog_commands.specs.Outcome.{CallEnds, IsReported, LeavesDevices, LeavesText, is_threaded, outside};
 
 use crate::commands::{over_team, over_threads, served};
+use crate::plans::plan_on_threads;
 use golog_base::{Files, NoMemory, Sink};
 use golog_commands::{Outcome, call_status, report};
 use golog_device::Device;
@@ -43,6 +44,9 @@ use std::thread::Threads;
 ///   answer.
 /// - `team FIRST SECOND [--inline]` runs two agents, each the other's one device, beside each other or, with `--inline`
 ///   anywhere among the files, a step of each in turn: both journals.
+/// - `plan DEPTH FUEL AGENT [DEVICES] [--inline]`, with `--inline` anywhere among the files, looks for a plan of the
+///   whole program that goes on for each value that it may sense, of 1 to 16 steps in a row at most, with a fuel of 1 to
+///   100,000, and follows it: the journal, with each new plan behind the step that begins it.
 ///
 /// What a command needs is read in this order: the agent file, then the devices file, then the journal file, then the
 /// condition, each where the command has it. A replay and a condition start from the journal's own start, where it has
@@ -59,6 +63,8 @@ use std::thread::Threads;
 /// - 3, `refused first` or `refused second`, where two agents are no team: 45 at 0 where an agent hasn't exactly one
 ///   device, or an action of that senses; 46 at N where the text of the ground action N of its device is that of none
 ///   that the other agent's device may post.
+/// - 3, `refused agent 39 at 0`, where a program that is to be planned for holds a search block or reaches one by calls.
+///   It comes before the devices file is read.
 /// - the status of the first agent's end, or where that is done of the second's, the journals of a team: each is of an
 ///   online execution of its own agent's program, and the two fit. What one has sent is what the other was told, in
 ///   order, up to where that one was closed; each waits only where it has told so, and rests where both have.
@@ -69,12 +75,22 @@ use std::thread::Threads;
 ///   is the journal of the rounds of these scripts; one that ends `fuel` has the first lines of that. In each world
 ///   that agrees with the entries before it, each step of the journal is a step of the program left, which may end
 ///   there where the journal says done, and may neither step nor end where it says stuck.
+/// - of `plan`, 0, or 12 to 16, the journal of the program that follows plans, which ends `done`, `depth`, `fuel`,
+///   `unanswered`, `full` or `deep`. Each step is the next of the plan that is kept, or the first of the first plan of
+///   least height. `depth` stands exactly where there is none and each device is closed or at rest, `fuel` where the
+///   search takes more than that, and `deep` where the plan has more than 10,000 steps. In each world that agrees with
+///   the entries before it, each step is a step of the program left, which may end there where the journal says done,
+///   and a plan that is printed leads to where it may end, in at most so many steps, by the branches that the world
+///   takes. The devices were dealt with as of a run; with `--inline`, where all tell what is left of their scripts, it
+///   is the journal of the rounds of these, and ends early for want of memory alone.
 ///
 /// Each line ends with a line feed. Where the sink's count of faults rises the answer is 5, before any other: a prefix
-/// of the text is written, of a run the beginning of the text of an online execution, and the run goes on to its end.
+/// of the text is written, of a run the beginning of the text of an online execution, of a plan that of such a journal,
+/// and the run goes on to its end.
+///
 /// Where memory runs out the answer is 6: nothing is written, or of a run over threads its head alone, and each device
-/// of a run is as it was or has begun and was given and told nothing; or the journal of a run that ends `memory` is
-/// written, or the journals of a team whose first end that is not `done` is `memory`.
+/// of a run or a plan is as it was or has begun and was given and told nothing; or the journal of one that ends `memory`
+/// is written, or the journals of a team whose first end that is not `done` is `memory`.
 ///
 /// With `--inline` the devices have their turns in rounds with the program. Without it the call makes threads for them;
 /// such a run may wait for ever, as where a device's call does, or where no thread can be made. That they run beside
@@ -103,8 +119,9 @@ pub fn golog<R: Threads + Wait + Sync, F: Files, K: Sink, D: Device + Send>(
     call_status(answered(rt, alloc, words, files, out, devices))
 }
 
-/// The same without a runtime, for an order that is neither a run over threads nor a team. The searches of a run ask
-/// `expand` for the steps of many programs, however many workers the order asks for.
+/// The same without a runtime, for an order that is neither a run over threads, planned or not, nor a team. The searches
+/// of a run ask `expand` for the steps of many programs, however many workers the order asks for. The depth and the fuel
+/// of a plan are those that words may give.
 pub fn serve_inline<F: Files, K: Sink, D: Device, X: Expand>(
     alloc: Global,
     order: Order<'_>,
@@ -114,6 +131,7 @@ pub fn serve_inline<F: Files, K: Sink, D: Device, X: Expand>(
     expand: X,
 ) -> u8
     requires way { is_threaded (command_of order) ≡ false }
+    requires plan { PlanFits (command_of order) }
     requires boxes { device_limit ≤ length devices.old }
     requires fresh { FreshBelow device_limit (standings D.fresh D.meaning devices.old) }
     ensures ends { CallEnds result (Some (command_of order.entry))
@@ -169,6 +187,7 @@ fn done<R: Threads + Wait + Sync, F: Files, K: Sink, D: Device + Send>(
     devices: &mut [D],
 ) -> Result<u8, NoMemory>
     requires workers { WorkersFit (command_of order) }
+    requires plan { PlanFits (command_of order) }
     requires boxes { device_limit ≤ length devices.old }
     requires fresh { FreshBelow device_limit (standings D.fresh D.meaning devices.old) }
     ensures reported { IfOk result (λ status. IsReported status
@@ -201,6 +220,7 @@ fn done_by<R: Threads + Wait + Sync, F: Files, K: Sink, D: Device + Send, X: Exp
     devices: &mut [D],
     expand: X,
 ) -> Result<u8, NoMemory>
+    requires plan { PlanFits (command_of order) }
     requires boxes { device_limit ≤ length devices.old }
     requires fresh { FreshBelow device_limit (standings D.fresh D.meaning devices.old) }
     ensures reported { IfOk result (λ status. IsReported status
@@ -227,6 +247,13 @@ fn done_by<R: Threads + Wait + Sync, F: Files, K: Sink, D: Device + Send, X: Exp
             second,
             inline,
         } => over_team(rt, alloc, files, out, first, second, inline, devices),
+        Order::Plan {
+            depth,
+            fuel,
+            agent,
+            devices: named,
+            inline: false,
+        } => plan_on_threads(rt, alloc, files, out, depth, fuel, agent, named, devices),
         _ => served(alloc, order, files, out, devices, expand),
     }
 }

@@ -25,6 +25,9 @@ const RUN_BOTH: &[&str] = &["run", "x.agent", "x.devices", "--inline"];
 /// The words of a run of `x.agent` from `x.journal`.
 pub const RUN_FROM: &[&str] = &["run", "x.agent", "--inline", "--from", "x.journal"];
 
+/// The words of a run with scripts that follows plans.
+pub const PLAN: &[&str] = &["plan", "4", "100", "x.agent", "x.devices", "--inline"];
+
 /// The words of a run with scripts over threads.
 pub const RUN_ON_THREADS: &[&str] = &["run", "x.agent", "x.devices"];
 

@@ -1,6 +1,6 @@
 // Tests of runs in which each read and each write fails in turn.
 use crate::asserting::same;
-use crate::calls::{Call, ONE, RUN_FROM, Setting, called, says};
+use crate::calls::{Call, ONE, PLAN, RUN_FROM, Setting, called, says};
 use golog_base::NoMemory;
 use std::alloc::Global;
 
@@ -28,6 +28,19 @@ const FLOORS: &[u8] = b"(agent (sort level 1 4) (fluent floor () level 1) (actio
 
 /// The journal of its run.
 const FLOORS_JOURNAL: &str = "0 do up run up; -\n1 test\n2 end done\n";
+
+/// A door that has to be looked at before it is gone through or knocked at.
+const DOOR: (&[u8], &[u8]) = (
+    b"(agent (device door) (fluent opened () bool)
+        (action look () door) (action go ()) (action knock ()) (senses (look) (opened))
+        (main (seq (act look) (if (opened) (act go) (act knock)))))",
+    br#"[{"name":"door","answers":["true"],"idle":["rest"]}]"#,
+);
+
+/// The journal of its run that follows a plan.
+const DOOR_JOURNAL: &str =
+    "0 rest door 0\n1 do look @door tree look{false: knock; . | true: go; .}\n\
+    2 sense door 1 true\n3 do go\n4 close door ended 1\n5 end done\n";
 
 /// A journal from which `ONE` runs, and that of this run.
 const DONE_ONCE: &[u8] = b"0 do a\n";
@@ -144,11 +157,16 @@ fn may_end(alloc: Global, run: Run<'_>, room: u32) -> Result<bool, NoMemory> {
 #[test]
 fn each_write_may_fail(rt: HostRuntime) -> Result<(), NoMemory> {
     let (button, scripts) = BUTTON;
+    let (door, answers) = DOOR;
     let from = Setting::of(RUN_FROM, ("x.agent", ONE), ("x.journal", DONE_ONCE));
     let runs = [
         (Setting::run(FLOORS), FLOORS_JOURNAL),
         (Setting::run_with(button, scripts), BUTTON_JOURNAL),
         (from, DONE_AGAIN),
+        (
+            Setting::of(PLAN, ("x.agent", door), ("x.devices", answers)),
+            DOOR_JOURNAL,
+        ),
     ];
     for run in runs {
         for number in 0..10u32 {

@@ -1,5 +1,5 @@
 -- A word that spells a number begins with a digit.
-use Rattle.std.proofs.Common.{◌≡◌, ◌∙◌, ap, refl, sym, true, false, true≢false, ℕ, Bool, not, [], ◌∷◌, arith, nat_le}
+use Rattle.std.proofs.Common.{◌≡◌, ◌∙◌, ap, refl, sym, true, false, true≢false, ℕ, ◌≤◌, Bool, not, [], ◌∷◌, arith, nat_le}
 use Rattle.std.specs.Prelude.{◌==◌, ◌&&◌, ◌||◌, nat_eq}
 use Rattle.std.specs.List.{list_all}
 use Rattle.std.proofs.lemmas.Bool.{false_from_ne_true}
@@ -27,6 +27,20 @@ begins x (y ∷ ys) natural = first_digit x (y ∷ ys) false (λ h. absurd (true
 
 pub natural_of : (most : ℕ) (word : Text) → is_up_to most word ≡ true → is_natural word ≡ true
 natural_of most word fits = second (nat_le (amount word) most && nat_le 1 (amount word)) (is_natural word) fits
+
+at_most : (n most : ℕ) → nat_le n most ≡ true → n ≤ most
+at_most n most h = grind (arith, nat_tests)
+
+at_least : (n : ℕ) → nat_le 1 n ≡ true → 1 ≤ n
+at_least n h = grind (arith, nat_tests)
+
+-- such a number is from 1 to the greatest one
+pub within : (most : ℕ) (word : Text) → is_up_to most word ≡ true → (1 ≤ amount word) × (amount word ≤ most)
+within most word fits =
+    let sizes = first (nat_le (amount word) most && nat_le 1 (amount word)) (is_natural word) fits in (
+      at_least (amount word) (second (nat_le (amount word) most) (nat_le 1 (amount word)) sizes),
+      at_most (amount word) most (first (nat_le (amount word) most) (nat_le 1 (amount word)) sizes),
+    )
 
 pub no_dash_before : (most x : ℕ) (xs : Text) → is_up_to most (x ∷ xs) ≡ true → (x == 45) ≡ false
 no_dash_before most x xs fits = no_dash x (begins x xs (natural_of most (x ∷ xs) fits))

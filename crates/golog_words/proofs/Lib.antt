@@ -8,6 +8,7 @@ mod Meeting
 mod MigrateWords
 mod Orders
 mod Parts
+mod PlanWords
 mod ReplayWords
 mod Rows
 mod RunWalk

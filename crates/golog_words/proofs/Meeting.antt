@@ -9,7 +9,7 @@ use Rattle.clap.specs.declared.error.Error.{Error}
 use Rattle.clap.specs.declared.error.ErrorKind.TheVariants.{OutOfMemory}
 use Rattle.clap.specs.declared.builder.command.Command.{Command as Parser}
 use Rattle.clap.specs.declared.parser.matches.ArgMatches.{ArgMatches}
-use Rattle.golog_words.specs.Commands.{CommandLine, Text, run, check, replay, ask, migrate, demo, team, count_in, size_in}
+use Rattle.golog_words.specs.Commands.{CommandLine, Text, run, check, replay, ask, migrate, demo, team, plan, count_in, size_in}
 use Rattle.golog_words.specs.Found.{Finds}
 
 -- what the rows of a run hold
@@ -40,6 +40,8 @@ Holds rows (migrate agent journal) = replay_rows rows ≡ (Some agent, Some jour
 Holds rows (demo size) = (word : Text) × (first_of (codes "size") rows ≡ Some word) × (size_in word ≡ Some size)
 Holds rows (team first second is_inline) =
     run_rows rows ≡ (Some first, Some second, Some (if is_inline then codes "true" else codes "false"), None, None)
+Holds rows (plan depth fuel agent devices is_inline) =
+    run_rows rows ≡ (Some agent, devices, Some (if is_inline then codes "true" else codes "false"), None, None)
 
 -- `clap` takes the words, and its rows hold what the command asks for
 abbrev pub Meets : App → List Text → Option CommandLine → Type 0
@@ -71,6 +73,11 @@ found_by m (migrate agent journal) h = (
 )
 found_by m (demo size) h = (h.0, first_value-rows (found_of m) (codes "size") ∙ h.1, h.2)
 found_by m (team first second is_inline) h = (
+  first_value-rows (found_of m) (codes "agent") ∙ ap (λ p. p.0) h,
+  first_value-rows (found_of m) (codes "devices") ∙ ap (λ p. p.1) h,
+  one_text-rows (found_of m) (codes "inline") ∙ ap (λ p. p.2) h,
+)
+found_by m (plan depth fuel agent devices is_inline) h = (
   first_value-rows (found_of m) (codes "agent") ∙ ap (λ p. p.0) h,
   first_value-rows (found_of m) (codes "devices") ∙ ap (λ p. p.1) h,
   one_text-rows (found_of m) (codes "inline") ∙ ap (λ p. p.2) h,

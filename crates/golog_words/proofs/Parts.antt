@@ -4,7 +4,7 @@ use Rattle.std.specs.Prelude.{⊤, ◌&&◌, if◌then◌else◌, IsSome, is_som
 use Rattle.clap.specs.Words.{found_of, one_text}
 use Rattle.clap.specs.declared.parser.matches.ArgMatches.{ArgMatches}
 use Rattle.golog_base.specs.Numbers.{amount}
-use Rattle.golog_words.specs.Commands.{CommandLine, Text, Said, run, check, replay, ask, migrate, demo, team, is_file_word, is_size, nothing_said, run_in, run_of, said_by, check_in, replay_in, ask_in, migrate_in, demo_of, demo_in, count_in, size_in, team_of, team_in}
+use Rattle.golog_words.specs.Commands.{CommandLine, Text, Said, run, check, replay, ask, migrate, demo, team, plan, is_file_word, is_size, nothing_said, run_in, run_of, said_by, check_in, replay_in, ask_in, migrate_in, demo_of, demo_in, count_in, size_in, team_of, team_in, plan_of}
 use Rattle.golog_words.specs.Found.{Finds, text_found}
 use Rattle.golog_words.proofs.Conditions.{holds_under}
 
@@ -65,7 +65,7 @@ runs_after : (said : Option Said) → Spells IsRun (option_and_then run_of said)
 runs_after None = tt
 runs_after (Some said) = runs_of said (is_some said.awaits) said.agent
 
-runs_in : (words : List Text) → Spells IsRun (run_in words)
+pub runs_in : (words : List Text) → Spells IsRun (run_in words)
 runs_in words = runs_after (said_by words nothing_said)
 
 pub checks_in : (words : List Text) → Spells IsCheck (check_in words)
@@ -161,6 +161,15 @@ pub record TeamParts (found : ArgMatches) (spelled : Option CommandLine) : Type 
   pub second_is : text_found found (codes "devices") ≡ Some second
   pub inline_is : one_text (found_of found) (codes "inline") ≡ Some (if is_inline then codes "true" else codes "false")
 
+pub record PlanParts (depth fuel : ℕ) (found : ArgMatches) (spelled : Option CommandLine) : Type 0 where
+  pub agent : Text
+  pub devices : Option Text
+  pub is_inline : Bool
+  pub is : spelled ≡ Some (plan depth fuel agent devices is_inline)
+  pub agent_is : text_found found (codes "agent") ≡ Some agent
+  pub devices_is : text_found found (codes "devices") ≡ devices
+  pub inline_is : one_text (found_of found) (codes "inline") ≡ Some (if is_inline then codes "true" else codes "false")
+
 -- what is spelled was found
 abbrev FindsIt : ArgMatches → Option CommandLine → Type 0
 FindsIt found spelled = (command : CommandLine) → spelled ≡ Some command → Finds found command
@@ -243,3 +252,12 @@ module _ (found : ArgMatches) where
 
   pub team_parts : (words : List Text) → IsSome (team_in words) → FindsIt found (run_in words) → TeamParts found (team_in words)
   team_parts words some finds = team_parts_of (run_in words) some finds
+
+  -- a plan's words behind its numbers are those of a run
+  pub plan_parts : (depth fuel : ℕ) (spelled : Option CommandLine)
+      → IsSome (option_and_then (plan_of depth fuel) spelled) → FindsIt found spelled
+      → PlanParts depth fuel found (option_and_then (plan_of depth fuel) spelled)
+  plan_parts depth fuel (Some (run a d i None None)) some finds =
+      let h = finds (run a d i None None) refl in
+      record { agent = a; devices = d; is_inline = i; is = refl; agent_is = h.0; devices_is = h.1; inline_is = h.2 }
+  plan_parts depth fuel other some finds = absurd (true≢false (sym some))

@@ -1,8 +1,8 @@
 -- What the words of a command are answered.
 use Rattle.std.specs.Prelude.{◌≡◌, Option, None, Some, option_map, IsSome, Result, Ok, Err}
-use Rattle.golog_words.specs.Commands.{CommandLine, run, check, replay, ask, migrate, demo, team}
+use Rattle.golog_words.specs.Commands.{CommandLine, run, check, replay, ask, migrate, demo, team, plan}
 use Rattle.golog_words.specs.declared.order.Order.{Order}
-use Rattle.golog_words.specs.declared.order.Order.TheVariants.{Run, Check, Replay, Ask, Migrate, Demo, Team}
+use Rattle.golog_words.specs.declared.order.Order.TheVariants.{Run, Check, Replay, Ask, Migrate, Demo, Team, Plan}
 use Rattle.golog_words.specs.declared.order.WordsFault.{WordsFault}
 use Rattle.golog_words.specs.declared.order.WordsFault.TheVariants.{Refused, Memory}
 
@@ -16,6 +16,8 @@ command_of (Ask agent journal condition) = ask agent.now journal.now condition.n
 command_of (Migrate agent journal) = migrate agent.now journal.now
 command_of (Demo size) = demo size
 command_of (Team first second inline) = team first.now second.now inline
+command_of (Plan depth fuel agent devices inline) =
+    plan depth fuel agent.now (option_map (λ name. name.now) devices) inline
 
 -- An order is that of the command that the words spell, they are refused where they spell none, and memory runs out
 -- only where they spell one.

@@ -17,11 +17,17 @@ pub data CommandLine : Type 0 where
   migrate : (agent journal : Text) → CommandLine
   demo : (size : ℕ) → CommandLine
   team : (first second : Text) (is_inline : Bool) → CommandLine
+  plan : (depth fuel : ℕ) (agent : Text) (devices : Option Text) (is_inline : Bool) → CommandLine
 
 -- Where a command says how many workers its searches have, these are from 1 to 16.
 abbrev pub WorkersFit : CommandLine → Type 0
 WorkersFit (run agent devices is_inline from workers) = IfSome workers (λ count. (1 ≤ count) × (count ≤ 16))
 WorkersFit other = ⊤
+
+-- The depth of a plan is from 1 to 16, and its fuel from 1 to 100,000.
+abbrev pub PlanFits : CommandLine → Type 0
+PlanFits (plan depth fuel agent devices is_inline) = (1 ≤ depth) × (depth ≤ 16) × (1 ≤ fuel) × (fuel ≤ 100000)
+PlanFits other = ⊤
 
 -- A file word is not empty and does not begin with `-`.
 abbrev pub is_file_word : Text → Bool
@@ -177,6 +183,34 @@ team_of command = None
 abbrev pub team_in : List Text → Option CommandLine
 team_in words = option_and_then team_of (run_in words)
 
+-- A plan has from 1 to 16 steps in a row.
+abbrev pub is_depth : Text → Bool
+is_depth word = is_up_to 16 word
+
+abbrev pub depth_in : Text → Option ℕ
+depth_in word = up_to 16 word
+
+-- The search for a plan has a fuel from 1 to 100,000.
+abbrev pub is_fuel : Text → Bool
+is_fuel word = is_up_to 100000 word
+
+abbrev pub fuel_in : Text → Option ℕ
+fuel_in word = up_to 100000 word
+
+-- a run that begins from no journal, and says no number of workers, as the plan of this depth and fuel
+abbrev pub plan_of : ℕ → ℕ → CommandLine → Option CommandLine
+plan_of depth fuel (run agent devices is_inline None None) = Some (plan depth fuel agent devices is_inline)
+plan_of depth fuel command = None
+
+-- Behind `plan` stand a depth and a fuel, and then one or two file words, and `--inline` at most once, in any place
+-- among them.
+abbrev pub plan_in : List Text → Option CommandLine
+plan_in (depth ∷ fuel ∷ words) =
+    if is_depth depth && is_fuel fuel
+    then option_and_then (plan_of (amount depth) (amount fuel)) (run_in words)
+    else None
+plan_in words = None
+
 -- The command that the words spell, if they spell one: the first word says what it does.
 abbrev pub command_in : List Text → Option CommandLine
 command_in [] = None
@@ -188,4 +222,5 @@ command_in (first ∷ words) =
     else if bytes_eq first (codes "migrate") then migrate_in words
     else if bytes_eq first (codes "demo") then demo_in words
     else if bytes_eq first (codes "team") then team_in words
+    else if bytes_eq first (codes "plan") then plan_in words
     else None

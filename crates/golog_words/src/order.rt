@@ -59,6 +59,19 @@ pub enum Order<'w> {
         /// Whether they have their steps in turn.
         inline: bool,
     },
+    /// Looks for a plan that goes on for each sensed value, and follows it.
+    Plan {
+        /// How many steps it has in a row at most: 1 to 16.
+        depth: u32,
+        /// The fuel of its search: 1 to 100,000.
+        fuel: u32,
+        /// The agent file's name.
+        agent: &'w str,
+        /// The name of the file with the scripts of its devices, if there is one.
+        devices: Option<&'w str>,
+        /// Whether all runs on one thread.
+        inline: bool,
+    },
 }
 
 /// Why words were not read as an order.

@@ -2,14 +2,14 @@
 // order.
 ghost use Rattle.std.specs.Prelude.{◌≡◌, Some, IsSome, IfOk, drop, map, string_bytes};
 ghost use Rattle.golog_words.specs.Answers.{Answers, command_of};
-ghost use Rattle.golog_words.specs.Commands.{WorkersFit, run_in, check_in, replay_in, ask_in, migrate_in, demo_in, team_in, command_in};
+ghost use Rattle.golog_words.specs.Commands.{PlanFits, WorkersFit, run_in, check_in, replay_in, ask_in, migrate_in, demo_in, team_in, plan_in, command_in};
 
 use crate::command::is_command;
 use crate::matches::{
     ask_matches, check_matches, demo_matches, migrate_matches, replay_matches, run_matches,
 };
 use crate::order::{Order, WordsFault};
-use crate::size::{count_of, size_in};
+use crate::size::{count_of, depth_in, fuel_in, size_in};
 use golog_base::NoMemory;
 use std::alloc::Global;
 
@@ -18,6 +18,7 @@ use std::alloc::Global;
 pub fn order_of<'w>(alloc: Global, words: &'w [String]) -> Result<Order<'w>, WordsFault>
     ensures answers { Answers result (command_in (map string_bytes words.entry.now)) }
     ensures workers { IfOk result (λ order. WorkersFit (command_of order)) }
+    ensures plan { IfOk result (λ order. PlanFits (command_of order)) }
 {
     if !is_command(words) {
         return Err(WordsFault::Refused);
@@ -42,6 +43,7 @@ fn read<'w>(alloc: Global, words: &'w [String]) -> Result<Order<'w>, NoMemory>
         "migrate" => read_migrate(alloc, words),
         "demo" => read_demo(alloc, words),
         "team" => read_team(alloc, words),
+        "plan" => read_plan(alloc, words),
         _ => unreachable!(),
     }
 }
@@ -139,5 +141,26 @@ fn read_team<'w>(alloc: Global, words: &'w [String]) -> Result<Order<'w>, NoMemo
         first: named.get_str("agent").unwrap(),
         second: named.get_str("devices").unwrap(),
         inline: named.get_flag("inline"),
+    })
+}
+
+// What may stand behind the numbers of a plan may stand behind `run`: the fuel is the word before it.
+fn read_plan<'w>(alloc: Global, words: &'w [String]) -> Result<Order<'w>, NoMemory>
+    requires { IsSome (plan_in (drop 1 (map string_bytes words.now))) }
+    ensures { IfOk result (λ order. plan_in (drop 1 (map string_bytes words.entry.now)) ≡ Some (command_of order)) }
+{
+    let [_, depth, others @ ..] = words else {
+        unreachable!()
+    };
+    let [fuel, ..] = others else { unreachable!() };
+    let Ok(told) = run_matches(alloc, others) else {
+        return Err(NoMemory);
+    };
+    Ok(Order::Plan {
+        depth: depth_in(depth.as_str()).unwrap(),
+        fuel: fuel_in(fuel.as_str()).unwrap(),
+        agent: told.get_str("agent").unwrap(),
+        devices: told.get_str("devices"),
+        inline: told.get_flag("inline"),
     })
 }

@@ -1,6 +1,6 @@
-// The size of a demo and the number of workers, which a word spells.
+// The size of a demo, the number of workers, and the depth and fuel of a plan, which a word spells.
 ghost use Rattle.std.specs.Prelude.{◌≡◌, ◌≤◌, IfSome, option_and_then, option_map};
-ghost use Rattle.golog_words.specs.Commands.{count_in, size_in, up_to};
+ghost use Rattle.golog_words.specs.Commands.{count_in, depth_in, fuel_in, size_in, up_to};
 
 use golog_base::{amount_within, is_natural};
 
@@ -9,6 +9,12 @@ const MOST_LEVELS: u32 = 200;
 
 // The most workers that a search has.
 const MOST_WORKERS: u32 = 16;
+
+// The greatest depth of a plan.
+const MOST_DEPTH: u32 = 16;
+
+// The most fuel of the search for one.
+const MOST_FUEL: u32 = 100_000;
 
 // The number from 1 to this one that a word spells, if it spells one.
 fn up_to(most: u32, word: &str) -> Option<u32>
@@ -29,6 +35,20 @@ pub(crate) fn size_in(word: &str) -> Option<u32>
     ensures { result ≡ size_in word.now }
 {
     up_to(MOST_LEVELS, word)
+}
+
+// The depth that a word spells, if it spells one.
+pub(crate) fn depth_in(word: &str) -> Option<u32>
+    ensures { result ≡ depth_in word.now }
+{
+    up_to(MOST_DEPTH, word)
+}
+
+// The fuel that a word spells, if it spells one.
+pub(crate) fn fuel_in(word: &str) -> Option<u32>
+    ensures { result ≡ fuel_in word.now }
+{
+    up_to(MOST_FUEL, word)
 }
 
 // The number of workers that a word spells, if it spells one.

@@ -2,7 +2,7 @@ use Rattle.std.proofs.Common.{Some, IfOk, refl}
 use Rattle.golog_words.specs.Commands.{check, replay, ask, migrate}
 use Rattle.golog_commands.specs.Outcome.{IsReported, outside}
 use Rattle.golog_commands.proofs.Reporting.{demo-reported, on-err, outcome-nothing, plain-reported}
-use Rattle.golog_main.proofs.Orders.{of-rounds}
+use Rattle.golog_main.proofs.Orders.{of-plan-rounds, of-rounds}
 use Rattle.golog_main.proofs.commands.served.Goals as goal
 
 pub returns-in-Check-clause-reported : goal.returns-in-Check-clause-reported
@@ -85,3 +85,14 @@ returns-in-Migrate-clause-left g c = rw c.in-Migrate.is (on-err c.report_if-in-M
 
 pub returns-in-Demo-clause-left : goal.returns-in-Demo-clause-left
 returns-in-Demo-clause-left g c = rw c.in-Demo.is (on-err c.report_if-in-Demo.result _ tt)
+
+pub returns-in-Plan-clause-reported : goal.returns-in-Plan-clause-reported
+returns-in-Plan-clause-reported g c =
+    let means = outside g.F.Files.held g.F.Files.faults g.K.Sink.taken g.K.Sink.faults g.D.Device.fresh g.D.Device.meaning in
+    let before = means c.args.files.now c.args.out.now c.args.devices.now in
+    let after = means c.plan_in_rounds.new.files c.plan_in_rounds.new.out c.plan_in_rounds.new.devices in
+    of-plan-rounds c.args.order _ _ _ _ _ c.in-Plan.is (λ spelled. IfOk c.plan_in_rounds.result (λ status. IsReported status spelled before after)) c.requires.way
+    c.plan_in_rounds.ensures.reported
+
+pub returns-in-Plan-clause-left : goal.returns-in-Plan-clause-left
+returns-in-Plan-clause-left g c = rw c.in-Plan.is c.plan_in_rounds.ensures.unserved

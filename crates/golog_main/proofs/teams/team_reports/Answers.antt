@@ -3,7 +3,8 @@ use Rattle.std.specs.Prelude.{IfOk}
 use denote.Param.Send.{sendable}
 use Rattle.golog_lead.specs.Courses.{Course}
 use Rattle.golog_lead.specs.Waiting.{waits}
-use Rattle.golog_main.proofs.Crossing.{runner_send}
+use Rattle.golog_agent.proofs.Crossing.{runner_send}
+use Rattle.golog_team.proofs.Crossing.{agent_sync}
 use Rattle.golog_main.proofs.TeamLemmas.{team-reports}
 use Rattle.golog_main.proofs.teams.team_reports.Goals as goal
 
@@ -20,7 +21,7 @@ run_agents-requires-clause-leads g c κs within =
     }
 
 pub run_agents-requires-send-M : goal.run_agents-requires-send-M
-run_agents-requires-send-M g c κs within = search (runner_send, sendable) depth 20 fits 100000
+run_agents-requires-send-M g c κs within = search (runner_send agent_sync, sendable) depth 20 fits 100000
 
 pub returns : goal.returns
 returns g c =
