@@ -1,11 +1,13 @@
 // What the program does with its words, over any files and any sink.
-ghost use Rattle.std.specs.Prelude.{◌≡◌, IfOk};
+ghost use Rattle.std.specs.Prelude.{◌≡◌, IfErr, IfOk, map, string_bytes};
 ghost use Rattle.golog_semantics.specs.Reports.{IsReport};
 ghost use Rattle.golog_semantics.specs.Restart.{started};
 ghost use Rattle.golog_semantics.specs.WellFormed.{WellFormed};
-ghost use Rattle.golog_commands.specs.Outcome.{Reports};
+ghost use Rattle.golog_commands.specs.Inputs.{RefusesJournal};
+ghost use Rattle.golog_commands.specs.Outcome.{FileFails, IfEnded, Reports};
+ghost use Rattle.golog_commands.specs.declared.outcome.Input.TheVariants.{Journal as JournalFile};
 ghost use Rattle.golog_trace.specs.Traced.{IsTrace};
-ghost use Rattle.golog_tracer.specs.Traced.{IsTraceOf, IsTraceWith};
+ghost use Rattle.golog_tracer.specs.Traced.{CallEnds, IsTraceOf, IsTraceWith, IsUntraced, around, named_in};
 
 use golog_base::{Bytes, Files, NoMemory, Sink, write_all};
 use golog_commands::{
@@ -17,13 +19,18 @@ use golog_tree::Agent;
 use std::alloc::Global;
 
 /// Writes the trace of a journal, for the words AGENT JOURNAL, and answers the exit status: 0; 2 where the words are
-/// others; 3 where a file is refused; 4 where it can't be read; 5 where a write failed; 6 where memory ran out.
+/// others; 3 where a file is refused; 4 where it can't be read; 5 where a write failed; 6 where memory ran out, and
+/// nothing is written then. The agent file is read first.
 pub fn answered<F: Files, K: Sink>(
     alloc: Global,
     words: &[String],
     files: &mut F,
     out: &mut K,
-) -> u8 {
+) -> u8
+    ensures { CallEnds result (named_in (map string_bytes words.now))
+        (around F.held F.faults K.taken K.faults files.old out.old)
+        (around F.held F.faults K.taken K.faults files.new out.new) }
+{
     let [agent, journal] = words else {
         return report(out, Outcome::WordsRefused);
     };
@@ -53,7 +60,9 @@ fn traced<F: Files>(
     name: &str,
     journal: &str,
 ) -> Result<Bytes, Unready>
-    ensures { IfOk result (IsTraceOf (F.held files.old) name.now journal.now) }
+    ensures traced { IfOk result (IsTraceOf (F.held files.old) name.now journal.now) }
+    ensures untraced { IfErr result (λ fault. IfEnded fault
+        (IsUntraced (F.held files.old) (F.faults files.old) (F.faults files.new) name.now journal.now)) }
 {
     match agent_in(alloc, files, name) {
         Ok(mut agent) => {
@@ -73,7 +82,9 @@ fn traced_of<F: Files>(
     journal: &str,
 ) -> Result<Bytes, Unready>
     requires { WellFormed agent.old }
-    ensures { IfOk result (IsTraceWith (F.held files.old) agent.old journal.now) }
+    ensures traced { IfOk result (IsTraceWith (F.held files.old) agent.old journal.now) }
+    ensures untraced { IfErr result (λ fault. IfEnded fault (FileFails JournalFile (RefusesJournal agent.old)
+        (F.held files.old) journal.now (F.faults files.old) (F.faults files.new))) }
 {
     match told_in(alloc, files, journal, agent) {
         Ok(told) => {
@@ -87,7 +98,8 @@ fn traced_of<F: Files>(
 
 // The text, if there was memory for it.
 fn ready(text: Result<Bytes, NoMemory>) -> Result<Bytes, Unready>
-    ensures { IfOk result (λ ready. text ≡ Ok ready) }
+    ensures text { IfOk result (λ ready. text ≡ Ok ready) }
+    ensures memory { IfErr result (λ fault. fault ≡ Unready.Memory) }
 {
     match text {
         Ok(text) => Ok(text),

@@ -1,4 +1,3 @@
-use Rattle.std.specs.Prelude.{IfOk}
 use Rattle.golog_semantics.proofs.Restarted.{started_report}
 use Rattle.golog_tracer.proofs.tracing.trace_of.Goals as goal
 
