@@ -31,7 +31,7 @@ fn is_answered(alloc: Global, line: &str, wanted: &str) -> Result<bool, NoMemory
 }
 
 #[test]
-fn words_are_answered(rt: HostRuntime) -> Result<(), NoMemory> {
+fn words_of_runs_are_read(rt: HostRuntime) -> Result<(), NoMemory> {
     let table = [
         (
             "run a",
@@ -77,6 +77,16 @@ fn words_are_answered(rt: HostRuntime) -> Result<(), NoMemory> {
             "run --workers 10 --from 4 4 4",
             "Run { agent: \"4\", devices: Some(\"4\"), inline: false, from: Some(\"4\"), workers: Some(10) }",
         ),
+    ];
+    for (line, expected) in table {
+        same(&rt, line, is_answered(rt.alloc(), line, expected)?, true);
+    }
+    Ok(())
+}
+
+#[test]
+fn words_of_other_commands_are_read(rt: HostRuntime) -> Result<(), NoMemory> {
+    let table = [
         ("check check", "Check { agent: \"check\" }"),
         ("replay a j", "Replay { agent: \"a\", journal: \"j\" }"),
         ("migrate a j", "Migrate { agent: \"a\", journal: \"j\" }"),
@@ -106,6 +116,16 @@ fn words_are_answered(rt: HostRuntime) -> Result<(), NoMemory> {
             "plan 10 99999 x y --inline",
             "Plan { depth: 10, fuel: 99999, agent: \"x\", devices: Some(\"y\"), inline: true }",
         ),
+    ];
+    for (line, expected) in table {
+        same(&rt, line, is_answered(rt.alloc(), line, expected)?, true);
+    }
+    Ok(())
+}
+
+#[test]
+fn words_of_no_plan_are_refused(rt: HostRuntime) -> Result<(), NoMemory> {
+    let table = [
         ("plan 0 1 x", "refused"),
         ("plan 17 1 x", "refused"),
         ("plan 4 0 x", "refused"),
